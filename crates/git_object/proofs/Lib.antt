@@ -1,0 +1,9 @@
+pub mod CommitLemmas
+pub mod IdLemmas
+pub mod KeyLemmas
+pub mod LineLemmas
+pub mod NameLemmas
+pub mod PairLemmas
+pub mod Runs
+pub mod TagLemmas
+pub mod TreeLemmas

@@ -1,0 +1,12 @@
+pub mod Commits
+pub mod EntryParts
+pub mod Faults
+pub mod Grammars
+pub mod HeaderLines
+pub mod Ids
+pub mod Modes
+pub mod Names
+pub mod Objects
+pub mod Repository
+pub mod Tags
+pub mod Trees

@@ -1,0 +1,47 @@
+//! Git's own things: object ids, kinds, objects, trees, commits, tags and reference names, and a repository as
+//! two finite maps.
+//!
+//! This crate stands on `octets`, `text_reader` and the libraries `sha2`, `hex` and `itoa`. A crate above
+//! may rely on contracts that see an id and a name as the list of its bytes and an object as its kind and
+//! body, on `id_of` being Git's object id in the object format SHA-256, and on the grammars of reference
+//! names, trees, commits and tags: what is read is written as the same bytes, and a refusal names the first
+//! place that breaks the grammar (`object_laws`). The definitions are in `specs/`, each with its source.
+
+#![tactic(auto)]
+
+mod commits;
+mod header_lines;
+mod id_digits;
+mod key_ids;
+mod kinds;
+mod modes;
+mod names;
+mod object_faults;
+mod object_ids;
+pub mod object_laws;
+#[cfg(test)]
+mod object_tests;
+mod stored_objects;
+mod tags;
+#[cfg(test)]
+mod tests;
+mod tree_entries;
+mod trees;
+
+pub use commits::Commit;
+pub use key_ids::KeyId;
+pub use kinds::Kind;
+pub use modes::Mode;
+pub use names::{RefFault, RefName};
+pub use object_faults::ObjectFault;
+pub use object_ids::{ObjectId, id_of};
+pub use octets::{Items, Memory, Octets};
+pub use stored_objects::{LARGEST_BODY, Object};
+pub use tags::Tag;
+pub use trees::{Tree, TreeEntries, TreeEntry};
+
+/// A list of ids.
+pub type Ids = Items<ObjectId>;
+
+/// A list of objects.
+pub type Objects = Items<Object>;

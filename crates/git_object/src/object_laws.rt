@@ -1,0 +1,22 @@
+//! Laws over the formats of objects.
+
+ghost use Rattle.git_object.specs.Grammars.{IsGrammar};
+ghost use Rattle.git_object.specs.Commits.{IsCommitFault, IsCommitText};
+ghost use Rattle.git_object.specs.Tags.{IsTagFault, IsTagText};
+ghost use Rattle.git_object.specs.Trees.{IsTreeFault, IsTreeText};
+
+/// A commit has one text and a text at most one commit; a text that is refused is no commit's, and is refused
+/// at one place.
+pub fn commits()
+    ensures { IsGrammar IsCommitText IsCommitFault }
+{}
+
+/// A tag has one text and a text at most one tag; a text that is refused is no tag's, and is refused at one place.
+pub fn tags()
+    ensures { IsGrammar IsTagText IsTagFault }
+{}
+
+/// A tree has one text and a text at most one tree; a text that is refused is no tree's, and is refused at one place.
+pub fn trees()
+    ensures { IsGrammar IsTreeText IsTreeFault }
+{}

@@ -1,0 +1,78 @@
+//! An object with the id that its kind and body have.
+
+ghost use Rattle.std.specs.Prelude.{◌≡◌, IfOk};
+ghost use Rattle.git_object.specs.Objects.{object_id};
+
+use crate::{Kind, ObjectId, id_of};
+use octets::{Copied, Memory, Octets};
+use std::alloc::Global;
+use std::marker::Model;
+use std::sync::Arc;
+
+/// The most bytes that the body of an object may have: 16 MiB.
+pub const LARGEST_BODY: u64 = 16777216;
+
+/// A kind and a body. The id is computed once, when the object is made; the body is shared among copies.
+#[derive(Drop)]
+pub struct Object {
+    id: ObjectId,
+    kind: Kind,
+    body: Arc<Octets>,
+}
+
+impl Model for Object {
+    ghost use Rattle.git_object.specs.Objects.{Pair};
+
+    ghost Value = { Pair };
+
+    ghost use Rattle.std.specs.Prelude.{◌≡◌};
+    ghost use Rattle.std.specs.Arc.{arc_value};
+    ghost use Rattle.git_object.specs.Objects.{object_id};
+
+    ghost view = { λ o. record { kind = o.kind; body = arc_value o.body } };
+
+    ghost invariant = { λ o. o.id ≡ object_id o.kind (arc_value o.body) };
+}
+
+impl Object {
+    /// An object of this kind and body, whose id is computed.
+    pub fn new(alloc: Global, kind: Kind, body: Octets) -> Result<Object, Memory>
+        ensures { IfOk result (λ o. o ≡ record { kind = kind; body = body }) }
+    {
+        let id = id_of(kind, body.as_slice());
+        let body = Arc::new(alloc, body)?;
+        Ok(Object { id, kind, body })
+    }
+
+    /// The object's own id, which is not computed again.
+    pub fn id(&self) -> ObjectId
+        ensures { result ≡ object_id self.now.kind self.now.body }
+    {
+        self.id
+    }
+
+    /// The kind.
+    pub fn kind(&self) -> Kind
+        ensures { result ≡ self.now.kind }
+    {
+        self.kind
+    }
+
+    /// The body, lent.
+    pub fn body(&self) -> &[u8]
+        ensures { result.now ≡ self.now.body }
+    {
+        self.body.as_slice()
+    }
+}
+
+impl Copied for Object {
+    fn copied(&self) -> Result<Object, Memory> {
+        let body = Arc::try_clone(&self.body)?;
+        Ok(Object {
+            id: self.id,
+            kind: self.kind,
+            body,
+        })
+    }
+}

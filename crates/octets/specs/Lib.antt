@@ -1,0 +1,4 @@
+pub mod BytesMap
+pub mod Calls
+pub mod Causes
+pub mod Content

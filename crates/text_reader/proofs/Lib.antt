@@ -1,0 +1,3 @@
+pub mod LowerHexadecimal
+pub mod Matched
+pub mod Unique
