@@ -1,0 +1,5 @@
+pub mod Changes
+pub mod Faults
+pub mod Reading
+pub mod Streams
+pub mod Taking

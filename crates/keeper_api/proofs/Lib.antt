@@ -1,0 +1,9 @@
+pub mod Committing
+pub mod Emptiness
+pub mod Following
+pub mod Inserting
+pub mod Planning
+pub mod Removing
+pub mod Trees
+pub mod Undos
+pub mod Walking

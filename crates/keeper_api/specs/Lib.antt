@@ -1,0 +1,7 @@
+pub mod Changes
+pub mod Keepers
+pub mod RefPlans
+pub mod Stores
+pub mod Trees
+pub mod Undisturbed
+pub mod Undoing

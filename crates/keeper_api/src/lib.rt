@@ -1,0 +1,27 @@
+//! Stores of Git objects and references, and the one that keeps them in memory.
+//!
+//! This crate stands on `octets` and `git_object`. A crate above may rely on the trait `Keeper`: a keeper
+//! holds a repository, two finite maps, which it tells or not; a commit makes a change of it whole or not at
+//! all, and every other call leaves it; a fault is answered only where the keeper's count of faults rose. It
+//! may rely on `MemKeeper`, which tells its repository at every moment, fails exactly at the calls that it
+//! was given, and takes for a commit time in proportion to the change. The definitions are in `specs/`.
+
+#![tactic(auto)]
+
+mod changes;
+mod keeper_faults;
+mod keepers;
+mod memory_calls;
+mod memory_keeper;
+mod memory_trees;
+mod questions;
+mod ref_plans;
+#[cfg(test)]
+mod tests;
+mod tree_edits;
+
+pub use changes::{Change, RefChange, RefChanges, RefValue};
+pub use keeper_faults::KeeperFault;
+pub use keepers::Keeper;
+pub use memory_keeper::MemKeeper;
+pub use questions::{is_empty, load_object};

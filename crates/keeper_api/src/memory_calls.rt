@@ -1,0 +1,100 @@
+//! The calls of the keeper in memory.
+
+ghost use Rattle.std.specs.Prelude.{◌≡◌, ◌↔◌, Some, IfOk, IsErrOf, IsOk, IsTrue, false};
+ghost use Rattle.std.specs.Option.{option_map, option_copied};
+ghost use Rattle.std.specs.FinMap.{get};
+ghost use Rattle.octets.specs.BytesMap.{entry_after};
+ghost use Rattle.octets.specs.Calls.{after_call, fails_next};
+ghost use Rattle.octets.specs.Causes.{IsCaused, one_more};
+ghost use Rattle.octets.specs.Content.{Told};
+ghost use Rattle.keeper_api.specs.Changes.{ref_value};
+ghost use Rattle.keeper_api.specs.Keepers.{Commits};
+ghost use Rattle.keeper_api.specs.Stores.{held_after};
+
+use crate::{Change, Keeper, KeeperFault, MemKeeper, RefValue};
+use git_object::{Object, ObjectId, RefName};
+use std::alloc::Global;
+
+/// A call fails exactly where its number is listed. Every call is counted, `faults` aside.
+impl Keeper for MemKeeper {
+    ghost content = { λ k. Some k.held };
+
+    ghost left = { λ k r. ⊥ };
+
+    ghost faults = { λ k. k.calls.faults };
+
+    ghost reads = { λ k. k.reads };
+
+    fn read_object(&mut self, _alloc: Global, id: &ObjectId) -> Result<Option<Object>, KeeperFault>
+        ensures found { IfOk result (λ found. found ≡ get self.old.held.objects id.now) }
+        ensures listed { IsErrOf result KeeperFault.Failed ↔ IsTrue (fails_next self.old.calls) }
+        ensures after { self.new ≡ record self.old { calls = after_call self.old.calls; reads = one_more self.old.reads } }
+        ensures cause { IsCaused KeeperFault.Failed self.old.calls.faults self.new.calls.faults result }
+    {
+        self.count_read();
+        if self.fails() {
+            return Err(KeeperFault::Failed);
+        }
+        Ok(self.object_at(id)?)
+    }
+
+    fn read_ref(&mut self, _alloc: Global, name: &RefName) -> Result<Option<ObjectId>, KeeperFault>
+        ensures found { IfOk result (λ found. found ≡ get self.old.held.refs name.now) }
+        ensures listed { IsErrOf result KeeperFault.Failed ↔ IsTrue (fails_next self.old.calls) }
+        ensures after { self.new ≡ record self.old { calls = after_call self.old.calls } }
+        ensures cause { IsCaused KeeperFault.Failed self.old.calls.faults self.new.calls.faults result }
+    {
+        if self.fails() {
+            return Err(KeeperFault::Failed);
+        }
+        Ok(self.ref_at(name))
+    }
+
+    fn next_object_after(
+        &mut self,
+        _alloc: Global,
+        after: Option<&ObjectId>,
+    ) -> Result<Option<ObjectId>, KeeperFault>
+        ensures found { IfOk result (λ found. found ≡ option_map (λ e. e.0) (entry_after self.old.held.objects (option_copied after.entry))) }
+        ensures listed { IsErrOf result KeeperFault.Failed ↔ IsTrue (fails_next self.old.calls) }
+        ensures after { self.new ≡ record self.old { calls = after_call self.old.calls } }
+        ensures cause { IsCaused KeeperFault.Failed self.old.calls.faults self.new.calls.faults result }
+    {
+        if self.fails() {
+            return Err(KeeperFault::Failed);
+        }
+        Ok(self.object_after(after))
+    }
+
+    fn next_ref_after(
+        &mut self,
+        _alloc: Global,
+        after: Option<&RefName>,
+    ) -> Result<Option<RefValue>, KeeperFault>
+        ensures found { IfOk result (λ found. found ≡ option_map ref_value (entry_after self.old.held.refs (option_copied after.entry))) }
+        ensures listed { IsErrOf result KeeperFault.Failed ↔ IsTrue (fails_next self.old.calls) }
+        ensures after { self.new ≡ record self.old { calls = after_call self.old.calls } }
+        ensures cause { IsCaused KeeperFault.Failed self.old.calls.faults self.new.calls.faults result }
+    {
+        if self.fails() {
+            return Err(KeeperFault::Failed);
+        }
+        Ok(self.ref_after(after)?)
+    }
+
+    fn commit(&mut self, alloc: Global, change: &Change) -> Result<(), KeeperFault>
+        ensures content { Told (Commits change.now result) (Some self.old.held) (Some self.new.held) }
+        ensures answered { IsOk result → fails_next self.old.calls ≡ false }
+        ensures listed { IsErrOf result KeeperFault.Failed → IsTrue (fails_next self.old.calls) }
+        ensures after { self.new ≡ record self.old { held = held_after self.old change.now result; calls = after_call self.old.calls } }
+        ensures cause { IsCaused KeeperFault.Failed self.old.calls.faults self.new.calls.faults result }
+    {
+        self.try_commit(alloc, change)
+    }
+
+    fn faults(&self) -> u64
+        ensures { result ≡ self.now.calls.faults }
+    {
+        self.fault_count()
+    }
+}
