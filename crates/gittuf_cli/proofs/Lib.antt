@@ -1,0 +1,4 @@
+pub mod LogName
+pub mod SameOutcome
+pub mod Steps
+pub mod ToldContent

@@ -1,0 +1,5 @@
+use Rattle.gittuf_cli.proofs.SameOutcome.{same_outcome}
+use Rattle.gittuf_cli.proofs.laws.one_outcome.Goals as goal
+
+pub returns : goal.returns
+returns c = same_outcome c.one_spelling.ensures

@@ -1,0 +1,50 @@
+//! Streams, each worked out by hand from the format.
+
+pub fn empty() -> &'static [u8] {
+    b"gittuf-stream 1\nend\n"
+}
+
+/// The branch `main` stands at the empty blob.
+pub fn main_at_the_blob() -> &'static [u8] {
+    b"gittuf-stream 1\nref refs/heads/main 473a0f4c3be8a93681a267e3b1e9a7dcda1185436fe141f7749120a303721813\nend\n"
+}
+
+/// The branch `main` stands at the id that counts as no value.
+pub fn main_at_zeros() -> &'static [u8] {
+    b"gittuf-stream 1\nref refs/heads/main 0000000000000000000000000000000000000000000000000000000000000000\nend\n"
+}
+
+/// The empty blob, and no reference.
+pub fn one_blob() -> &'static [u8] {
+    b"gittuf-stream 1\nobject 473a0f4c3be8a93681a267e3b1e9a7dcda1185436fe141f7749120a303721813 blob 0\n\nend\n"
+}
+
+pub fn log_at_the_blob() -> &'static [u8] {
+    b"gittuf-stream 1\nref refs/gittuf/reference-state-log 473a0f4c3be8a93681a267e3b1e9a7dcda1185436fe141f7749120a303721813\nend\n"
+}
+
+/// The log's reference is there, and stands at no value.
+pub fn log_at_zeros() -> &'static [u8] {
+    b"gittuf-stream 1\nref refs/gittuf/reference-state-log 0000000000000000000000000000000000000000000000000000000000000000\nend\n"
+}
+
+pub fn cut_after_the_header() -> &'static [u8] {
+    b"gittuf-stream 1\n"
+}
+
+pub fn cut_in_the_end() -> &'static [u8] {
+    b"gittuf-stream 1\nobject 473a0f4c3be8a93681a267e3b1e9a7dcda1185436fe141f7749120a303721813 blob 0\n\nen"
+}
+
+pub fn one_line_feed_too_many() -> &'static [u8] {
+    b"gittuf-stream 1\nobject 473a0f4c3be8a93681a267e3b1e9a7dcda1185436fe141f7749120a303721813 blob 0\n\nend\n\n"
+}
+
+pub fn blob_under_a_wrong_id() -> &'static [u8] {
+    b"gittuf-stream 1\nobject 0000000000000000000000000000000000000000000000000000000000000000 blob 0\n\nend\n"
+}
+
+/// The empty tree stands in front of the empty blob, whose id is less.
+pub fn objects_out_of_order() -> &'static [u8] {
+    b"gittuf-stream 1\nobject 6ef19b41225c5369f1c104d45d8d85efa9b057b53b14b4b9b939dd74decc5321 tree 0\n\nobject 473a0f4c3be8a93681a267e3b1e9a7dcda1185436fe141f7749120a303721813 blob 0\n\nend\n"
+}

@@ -1,0 +1,155 @@
+//! `verify-ref` from words and bytes to the printed line, over objects in memory.
+
+use crate::scenes::{accepted, ask, expect, expect_of, over, refused, run_words, tip_differs};
+use crate::streams;
+use edge_io::{MemSink, MemSource};
+use keeper_api::MemKeeper;
+use octets::Octets;
+use std::test::Fail;
+
+#[test]
+fn words_outside_the_grammar_touch_nothing(rt: HostRuntime) -> Result<(), Fail> {
+    let alloc = rt.alloc();
+    for words in [
+        [].as_slice(),
+        &["verify-ref"],
+        &["verify-ref", "refs/heads/main"],
+        &["verify-ref", "refs/heads/a..b", "--stdin"],
+        &["verify-ref", "refs/gittuf/reference-state-log", "--stdin"],
+        &["verify", "refs/heads/main", "--stdin"],
+        &["verify-ref", "refs/heads/main", "--stdin", "--stdin"],
+    ] {
+        let mut outside = over(alloc, streams::main_at_the_blob())?;
+        let status = run_words(alloc, words, &mut outside)?;
+        expect(
+            &rt,
+            alloc,
+            status,
+            &mut outside,
+            refused(2, b"words refused\n"),
+            false,
+        )?;
+    }
+    Ok(())
+}
+
+#[test]
+fn a_stream_is_taken_and_judged(rt: HostRuntime) -> Result<(), Fail> {
+    let alloc = rt.alloc();
+    expect_of(&rt, alloc, streams::empty(), accepted(), false)?;
+    expect_of(&rt, alloc, streams::one_blob(), accepted(), true)?;
+    expect_of(&rt, alloc, streams::main_at_zeros(), accepted(), true)?;
+    expect_of(&rt, alloc, streams::main_at_the_blob(), tip_differs(), true)?;
+    let not_built = refused(3, b"not built log\n");
+    expect_of(&rt, alloc, streams::log_at_the_blob(), not_built, true)?;
+    expect_of(&rt, alloc, streams::log_at_zeros(), not_built, true)
+}
+
+#[test]
+fn a_refused_stream_leaves_the_keeper(rt: HostRuntime) -> Result<(), Fail> {
+    let alloc = rt.alloc();
+    for stream in [
+        b"".as_slice(),
+        streams::cut_after_the_header(),
+        streams::cut_in_the_end(),
+        streams::one_line_feed_too_many(),
+        streams::blob_under_a_wrong_id(),
+        streams::objects_out_of_order(),
+    ] {
+        expect_of(&rt, alloc, stream, refused(3, b"stream\n"), false)?;
+    }
+    Ok(())
+}
+
+#[test]
+fn a_keeper_that_holds_something_takes_no_stream(rt: HostRuntime) -> Result<(), Fail> {
+    let alloc = rt.alloc();
+    let mut outside = over(alloc, streams::one_blob())?;
+    let status = ask(alloc, &mut outside)?;
+    expect(&rt, alloc, status, &mut outside, accepted(), true)?;
+    outside.source = MemSource::new(Octets::from_slice(alloc, streams::empty())?);
+    outside.sink = MemSink::new(alloc, 100)?;
+    let status = ask(alloc, &mut outside)?;
+    expect(
+        &rt,
+        alloc,
+        status,
+        &mut outside,
+        refused(3, b"stream\n"),
+        true,
+    )
+}
+
+#[test]
+fn a_source_that_fails_is_a_fault(rt: HostRuntime) -> Result<(), Fail> {
+    let alloc = rt.alloc();
+    let mut outside = over(alloc, b"")?;
+    outside.source = MemSource::failing(
+        Octets::from_slice(alloc, streams::empty())?,
+        vec![in alloc; 1]?,
+    );
+    let status = ask(alloc, &mut outside)?;
+    expect(
+        &rt,
+        alloc,
+        status,
+        &mut outside,
+        refused(4, b"fault\n"),
+        false,
+    )
+}
+
+#[test]
+fn a_sink_without_room_is_a_fault_after_the_commit(rt: HostRuntime) -> Result<(), Fail> {
+    let alloc = rt.alloc();
+    let mut outside = over(alloc, streams::main_at_the_blob())?;
+    outside.sink = MemSink::new(alloc, 10)?;
+    let status = ask(alloc, &mut outside)?;
+    expect(
+        &rt,
+        alloc,
+        status,
+        &mut outside,
+        refused(4, b"fault\n"),
+        true,
+    )
+}
+
+// The third call of the keeper is the commit, the fourth asks for the log's reference.
+#[test]
+fn a_keeper_that_fails_is_a_fault(rt: HostRuntime) -> Result<(), Fail> {
+    let alloc = rt.alloc();
+    for (call, kept, holds) in [
+        (1, 0, false),
+        (3, 0, false),
+        (3, 3, true),
+        (4, 0, true),
+        (5, 0, true),
+    ] {
+        let mut outside = over(alloc, streams::main_at_the_blob())?;
+        outside.keeper = MemKeeper::failing(
+            MemKeeper::new(alloc),
+            vec![in alloc; call]?,
+            vec![in alloc; kept]?,
+        );
+        let status = ask(alloc, &mut outside)?;
+        expect(
+            &rt,
+            alloc,
+            status,
+            &mut outside,
+            refused(4, b"fault\n"),
+            holds,
+        )?;
+    }
+    Ok(())
+}
+
+#[test]
+fn a_fault_of_the_sink_for_refusals_changes_no_status(rt: HostRuntime) -> Result<(), Fail> {
+    let alloc = rt.alloc();
+    let mut outside = over(alloc, b"")?;
+    outside.faults_out = MemSink::new(alloc, 3)?;
+    let status = ask(alloc, &mut outside)?;
+    expect(&rt, alloc, status, &mut outside, refused(3, b""), false)
+}
