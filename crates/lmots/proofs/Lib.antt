@@ -1,0 +1,10 @@
+pub mod Steps
+pub mod Rows
+pub mod DigitLists
+pub mod Sums
+pub mod Compared
+pub mod Checks
+pub mod DigitBytes
+pub mod LesserDigit
+pub mod Blocks
+pub mod Signed

@@ -1,0 +1,4 @@
+pub mod OtsType
+pub mod Digits
+pub mod Chain
+pub mod OneTime

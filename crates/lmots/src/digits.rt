@@ -1,0 +1,44 @@
+//! The digits of a digest with its checksum, one for each chain.
+
+ghost use Rattle.std.specs.Prelude.{◌≡◌, ◌+◌, ◌*◌, ◌/◌, ◌<◌, ◌≤◌, ◌++◌, length};
+ghost use Rattle.std.specs.Int.{w16, to_be_bytes};
+ghost use Rattle.lmots.specs.OtsType.{width};
+ghost use Rattle.lmots.specs.Digits.{coef, checksum, with_checksum};
+
+use crate::ots_type::OtsType;
+use crate::pieces::put;
+
+// The digit at `index` of a string, from the high end (RFC 8554, section 3.1.3).
+pub(crate) fn digit(kind: OtsType, string: &[u8], index: usize) -> u8
+    requires { index * width kind / 8 < length string.now }
+    ensures { result ≡ coef string.now index (width kind) }
+{
+    match kind {
+        OtsType::W1 => (string[index / 8] >> (7 - index % 8)) % 2,
+        OtsType::W2 => (string[index / 4] >> (6 - 2 * (index % 4))) % 4,
+        OtsType::W4 => (string[index / 2] >> (4 - 4 * (index % 2))) % 16,
+        OtsType::W8 => string[index],
+    }
+}
+
+// The checksum of a digest (RFC 8554, section 4.4).
+fn checksum(kind: OtsType, digest: &[u8; 32]) -> u16
+    ensures { result ≡ checksum kind digest.now }
+{
+    let top = kind.top() as u16;
+    let mut sum = 0u16;
+    'digits: for index in 0..kind.digit_count() {
+        sum += top - digit(kind, digest, index) as u16;
+    }
+    sum << kind.shift()
+}
+
+// A digest and its checksum, whose digits say how far each chain is walked.
+pub(crate) fn with_checksum(kind: OtsType, digest: &[u8; 32]) -> [u8; 34]
+    ensures { result ≡ with_checksum kind digest.now }
+{
+    let mut string = [0u8; 34];
+    put(&mut string, 0, digest);
+    put(&mut string, 32, &checksum(kind, digest).to_be_bytes());
+    string
+}

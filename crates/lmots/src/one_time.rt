@@ -1,0 +1,110 @@
+//! One-time keys and signatures: made from a seed, and judged by the key that a signature leads to.
+
+ghost use Rattle.std.specs.Prelude.{◌≡◌, ◌↔◌, length, IsOk, IfOk};
+ghost use Rattle.lmots.specs.OtsType.{signature_len};
+ghost use Rattle.lmots.specs.OneTime.{public_key, signature, candidate, IsOfType, HasBadLength, HasBadType};
+
+use crate::chain::walk;
+use crate::digits::{digit, with_checksum};
+use crate::hashes::{key_hasher, message_digest, private_element};
+use crate::ots_type::OtsType;
+use crate::pieces::{block_at, number_at, put};
+use sha2::Digest;
+
+// The number in place of a chain's under which the randomizer is drawn from the seed.
+const RANDOMIZER: u16 = 0xfffd;
+
+/// Why bytes are no signature of a type.
+#[derive(Debug, Clone, Copy, PartialEq, Eq)]
+pub enum OtsFault {
+    /// Fewer than 4 bytes, or the type's code and not the type's length.
+    BadLength,
+    /// The first 4 bytes are not the type's code.
+    BadType,
+}
+
+/// The public key of leaf `q` (RFC 8554, section 4.3), whose private key is drawn from `seed` as in
+/// appendix A.
+pub fn public_of(kind: OtsType, i: &[u8; 16], q: u32, seed: &[u8; 32]) -> [u8; 32]
+    ensures { result ≡ public_key kind i.now q seed.now }
+{
+    let mut hasher = key_hasher(i, q);
+    'chains: for chain in 0..kind.chain_count() {
+        let start = private_element(i, q, chain, seed);
+        let end = walk(i, q, chain, 0, kind.top(), start);
+        hasher.update(end);
+    }
+    hasher.finalize()
+}
+
+/// Signs `message` with the key of leaf `q` (RFC 8554, section 4.5). The randomizer is drawn from
+/// the seed too.
+pub fn sign_ots(
+    kind: OtsType,
+    i: &[u8; 16],
+    q: u32,
+    seed: &[u8; 32],
+    message: &[u8],
+    out: &mut [u8],
+)
+    requires { length out.old ≡ signature_len kind }
+    ensures { out.new ≡ signature kind i.now q seed.now message.now }
+{
+    let randomizer = private_element(i, q, RANDOMIZER, seed);
+    let digest = message_digest(i, q, &randomizer, message);
+    let string = with_checksum(kind, &digest);
+    put(out, 0, &kind.code().to_be_bytes());
+    put(out, 4, &randomizer);
+    'chains: for chain in 0..kind.chain_count() {
+        let start = private_element(i, q, chain, seed);
+        let last = digit(kind, &string, chain as usize);
+        let value = walk(i, q, chain, 0, last, start);
+        put(out, 36 + 32 * chain as usize, &value);
+    }
+}
+
+// The key that the chains of a signature lead to.
+fn candidate_of(kind: OtsType, i: &[u8; 16], q: u32, message: &[u8], signature: &[u8]) -> [u8; 32]
+    requires { length signature.now ≡ signature_len kind }
+    ensures { result ≡ candidate kind i.now q message.now signature.now }
+{
+    let digest = message_digest(i, q, &block_at(signature, 4), message);
+    let string = with_checksum(kind, &digest);
+    let mut hasher = key_hasher(i, q);
+    'chains: for chain in 0..kind.chain_count() {
+        let start = block_at(signature, 36 + 32 * chain as usize);
+        let first = digit(kind, &string, chain as usize);
+        let end = walk(i, q, chain, first, kind.top(), start);
+        hasher.update(end);
+    }
+    hasher.finalize()
+}
+
+/// The candidate for the public key of leaf `q`, from a signature of `message` (RFC 8554, section
+/// 4.6): the signature is good exactly where it is the public key.
+///
+/// `BadLength` comes where there are fewer than 4 bytes, then `BadType` where these are not the
+/// type's code, then `BadLength` where the length is not the type's.
+pub fn candidate_key(
+    kind: OtsType,
+    i: &[u8; 16],
+    q: u32,
+    message: &[u8],
+    signature: &[u8],
+) -> Result<[u8; 32], OtsFault>
+    ensures ok { IsOk result ↔ IsOfType kind signature.now }
+    ensures key { IfOk result (λ key. key ≡ candidate kind i.now q message.now signature.now) }
+    ensures length { (result ≡ Err OtsFault.BadLength) ↔ HasBadLength kind signature.now }
+    ensures code { (result ≡ Err OtsFault.BadType) ↔ HasBadType kind signature.now }
+{
+    if signature.len() < 4 {
+        return Err(OtsFault::BadLength);
+    }
+    if number_at(signature, 0) != kind.code() {
+        return Err(OtsFault::BadType);
+    }
+    if signature.len() != kind.signature_len() {
+        return Err(OtsFault::BadLength);
+    }
+    Ok(candidate_of(kind, i, q, message, signature))
+}

@@ -1,0 +1,194 @@
+//! Makes, signs and verifies with LM-OTS and LMS a number of times, for `tools/bench-lms` to
+//! time.
+//!
+//! The words are a piece of work, a height (5 or 10), a width (1, 2, 4 or 8) and a number of
+//! times; a fifth word `time` adds how long the work took. It prints the first four bytes of the
+//! last value made, by which a run can be held against another implementation's.
+#![tactic(auto)]
+
+ghost use Rattle.std.specs.Prelude.{◌≡◌, length};
+ghost use Rattle.lms_keys.specs.LmsType.{signature_len};
+
+use lmots::{OtsType, public_of};
+use lms_keys::{LmsType, PublicKey, SecretKey, verify};
+use sha2::{Digest, Sha256};
+use std::alloc::Global;
+use std::rt::Clock;
+use std::time::{Duration, Instant};
+use std::{env, io};
+
+const I: [u8; 16] = *b"0123456789abcdef";
+
+const SEED: [u8; 32] = *b"thirty-two bytes make this seed.";
+
+const MESSAGE: &[u8; 22] = b"a message of one line\n";
+
+// What is done, and so what is made: the SHA-256 of 55 bytes, a one-time public key, an LMS key, a
+// signature with each leaf in turn, or a verdict on one.
+#[derive(Debug, Clone, Copy)]
+enum Work {
+    Hash,
+    Key,
+    Make,
+    Sign,
+    Verify,
+}
+
+#[derive(Clone, Copy)]
+struct Case {
+    work: Work,
+    lms: LmsType,
+    ots: OtsType,
+    times: u32,
+}
+
+fn work_of(word: &str) -> Option<Work> {
+    match word {
+        "hash" => Some(Work::Hash),
+        "key" => Some(Work::Key),
+        "make" => Some(Work::Make),
+        "sign" => Some(Work::Sign),
+        "verify" => Some(Work::Verify),
+        _ => None,
+    }
+}
+
+fn height_of(word: &str) -> Option<LmsType> {
+    match word {
+        "5" => Some(LmsType::H5),
+        "10" => Some(LmsType::H10),
+        _ => None,
+    }
+}
+
+fn width_of(word: &str) -> Option<OtsType> {
+    match word {
+        "1" => Some(OtsType::W1),
+        "2" => Some(OtsType::W2),
+        "4" => Some(OtsType::W4),
+        "8" => Some(OtsType::W8),
+        _ => None,
+    }
+}
+
+fn case_of(words: &[String]) -> Option<Case> {
+    if words.len() < 5 {
+        return None;
+    }
+    Some(Case {
+        work: work_of(words[1].as_str())?,
+        lms: height_of(words[2].as_str())?,
+        ots: width_of(words[3].as_str())?,
+        times: words[4].as_str().parse::<u32>().ok()?,
+    })
+}
+
+// The first four bytes, as a number.
+fn front(bytes: &[u8; 32]) -> u32 {
+    u32::from_be_bytes([bytes[0], bytes[1], bytes[2], bytes[3]])
+}
+
+// Each hash begins with the one before it, as a chain's step holds the step before.
+fn hash(times: u32) -> u32 {
+    let mut message = [0x55u8; 55];
+    let mut digest = [0u8; 32];
+    for _ in 0..times {
+        message[23..].copy_from_slice(&digest);
+        digest = Sha256::digest(&message);
+    }
+    front(&digest)
+}
+
+fn key(ots: OtsType, times: u32) -> u32 {
+    let mut last = [0u8; 32];
+    for q in 0..times {
+        last = public_of(ots, &I, q, &SEED);
+    }
+    front(&last)
+}
+
+fn make(alloc: Global, case: Case) -> Option<u32> {
+    let mut last = 0;
+    for _ in 0..case.times {
+        let secret = SecretKey::of(alloc, case.lms, case.ots, I, SEED).ok()?;
+        last = front(&secret.public().root);
+    }
+    Some(last)
+}
+
+fn sign(secret: &SecretKey, times: u32, out: &mut [u8]) -> u32
+    requires { length out.old ≡ signature_len secret.now.lms secret.now.ots }
+{
+    let mut q = 0;
+    'signatures: for _ in 0..times {
+        if q >= secret.leaves() {
+            q = 0;
+        }
+        secret.sign_at(q, MESSAGE, out);
+        q += 1;
+    }
+    front(&Sha256::digest(&*out))
+}
+
+// How many of the verdicts are true.
+fn verdicts(public: &PublicKey, signature: &[u8], times: u32) -> u32 {
+    let mut good = 0;
+    'verdicts: for _ in 0..times {
+        if verify(public, MESSAGE, signature) {
+            good += 1;
+        }
+    }
+    good
+}
+
+fn timed_sign(rt: &impl Clock, alloc: Global, case: Case) -> io::Result<Option<(u32, Duration)>> {
+    let Ok(secret) = SecretKey::of(alloc, case.lms, case.ots, I, SEED) else {
+        return Ok(None);
+    };
+    let mut out = vec![in alloc; 0u8; secret.signature_len()]?;
+    let start = Instant::now(rt)?;
+    let value = sign(&secret, case.times, &mut out);
+    Ok(Some((value, start.elapsed(rt)?)))
+}
+
+fn timed_verify(rt: &impl Clock, alloc: Global, case: Case) -> io::Result<Option<(u32, Duration)>> {
+    let Ok(secret) = SecretKey::of(alloc, case.lms, case.ots, I, SEED) else {
+        return Ok(None);
+    };
+    let mut out = vec![in alloc; 0u8; secret.signature_len()]?;
+    sign(&secret, 1, &mut out);
+    let public = secret.public();
+    let start = Instant::now(rt)?;
+    let value = verdicts(&public, &out, case.times);
+    Ok(Some((value, start.elapsed(rt)?)))
+}
+
+fn timed(rt: &impl Clock, alloc: Global, case: Case) -> io::Result<Option<(u32, Duration)>> {
+    let start = Instant::now(rt)?;
+    let value = match case.work {
+        Work::Hash => hash(case.times),
+        Work::Key => key(case.ots, case.times),
+        Work::Make => match make(alloc, case) {
+            Some(value) => value,
+            None => return Ok(None),
+        },
+        Work::Sign => return timed_sign(rt, alloc, case),
+        Work::Verify => return timed_verify(rt, alloc, case),
+    };
+    Ok(Some((value, start.elapsed(rt)?)))
+}
+
+fn main(rt: HostRuntime) -> io::Result<()> {
+    let words: Vec<String> = env::args(&rt)?.collect(rt.alloc())?;
+    let Some(case) = case_of(words.as_slice()) else {
+        return println!(rt; "lms_bench hash|key|make|sign|verify 5|10 1|2|4|8 TIMES [time]");
+    };
+    let Some((value, time)) = timed(&rt, rt.alloc(), case)? else {
+        return println!(rt; "out of memory");
+    };
+    if words.len() > 5 {
+        println!(rt; "{value:08x} {}", time.as_nanos())
+    } else {
+        println!(rt; "{value:08x}")
+    }
+}

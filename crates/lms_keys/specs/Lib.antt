@@ -1,0 +1,5 @@
+pub mod LmsType
+pub mod Tree
+pub mod PublicKey
+pub mod Signature
+pub mod Secret

@@ -1,0 +1,26 @@
+//! What holds of all keys.
+
+ghost use Rattle.std.specs.Prelude.{◌≡◌, ◌+◌, ◌*◌, ◌^◌, ◌<◌, ◌≤◌};
+ghost use Rattle.lms_keys.specs.LmsType.{height};
+ghost use Rattle.lms_keys.specs.PublicKey.{OneKey};
+ghost use Rattle.lms_keys.specs.Tree.{inner_value, leaf_of, tree_node};
+
+use crate::lms_type::LmsType;
+use lmots::OtsType;
+
+/// The values of a tree's nodes meet the equations of RFC 8554, section 5.3: a leaf's is made of
+/// its one-time public key, and an inner node's of the two below it.
+pub fn tree(lms: LmsType, ots: OtsType, i: &[u8], seed: &[u8], node: u32)
+    requires { 1 ≤ node }
+    ensures leaf { 2 ^ height lms ≤ node
+        → tree_node ots (height lms) i.now seed.now node ≡ leaf_of ots (height lms) i.now seed.now node }
+    ensures inner { node < 2 ^ height lms
+        → tree_node ots (height lms) i.now seed.now node
+        ≡ inner_value i.now node (tree_node ots (height lms) i.now seed.now (2 * node))
+        (tree_node ots (height lms) i.now seed.now (2 * node + 1)) }
+{}
+
+/// Two public keys that are written as the same bytes are one.
+pub fn one_key()
+    ensures { OneKey }
+{}

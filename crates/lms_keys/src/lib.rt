@@ -1,0 +1,24 @@
+//! The signatures LMS of RFC 8554, over SHA-256 with 32 bytes: one key for as many messages as
+//! its tree has leaves.
+//!
+//! Each leaf of the tree is a one-time key, and the key's public part is the tree's root. Which
+//! leaf signs is the caller's choice, and so is its duty never to sign twice with one. The crate
+//! stands on `lmots` for the one-time keys and on `sha2`. The crate above may rely on this:
+//! `verify` is the RFC's equation and nothing less, what `SecretKey::sign_at` writes is a good
+//! signature for the key's public part with the leaf that was asked, a public key is read exactly
+//! from the bytes that it is written as, and no call but `SecretKey::of` takes memory.
+#![tactic(auto)]
+
+pub mod laws;
+mod lms_type;
+mod nodes;
+mod public_key;
+mod secret_key;
+#[cfg(test)]
+mod tests;
+mod verifying;
+
+pub use lms_type::LmsType;
+pub use public_key::{KeyFault, PublicKey};
+pub use secret_key::{MakeFault, SecretKey};
+pub use verifying::verify;
