@@ -1,4 +1,5 @@
 use crate::{Commit, KeyId, Kind, Mode, ObjectFault, Tag, Tree, id_of};
+use octets::Copied;
 use std::test::Fail;
 
 // A tree with an entry of each mode, a merge of it and a tag of the merge, made by Git in a repository of the
@@ -162,10 +163,9 @@ fn a_commit_and_a_tag_are_refused_at_their_first_bad_line(rt: HostRuntime) -> Re
 }
 
 #[test]
-fn a_key_id_is_written_as_read(rt: HostRuntime) {
-    assert_eq!(rt;
-        KeyId::from_hex(TAG_ID).map(|id| id.to_hex()),
-        Some(*TAG_ID)
-    );
+fn a_key_id_is_written_as_read(rt: HostRuntime) -> Result<(), Fail> {
+    let id = KeyId::from_hex(TAG_ID).ok_or("a key id")?;
+    assert_eq!(rt; id.copied()?.to_hex(), *TAG_ID);
     assert_eq!(rt; KeyId::from_hex(b"00"), None);
+    Ok(())
 }

@@ -25,10 +25,11 @@ fn first_change(alloc: Global) -> Result<Change, Fail> {
         (b"refs/heads/main", None),
         (b"refs/heads/main", Some(id)),
     ] {
-        refs.push(RefChange {
+        let change = RefChange {
             name: name_of(alloc, text)?,
             to,
-        })?;
+        };
+        refs.push(change.copied()?)?;
     }
     Ok(Change { objects, refs })
 }
