@@ -1,4 +1,6 @@
 pub mod Steps
+pub mod Lanes
+pub mod Hashing
 pub mod Rows
 pub mod DigitLists
 pub mod Sums

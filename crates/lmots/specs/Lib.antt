@@ -2,3 +2,4 @@ pub mod OtsType
 pub mod Digits
 pub mod Chain
 pub mod OneTime
+pub mod SideBySide

@@ -1,12 +1,12 @@
-//! The walk of a hash chain, the one place where steps are made, so that a faster kernel can take its place.
+//! The walk of one hash chain, as signing and verifying take it.
 
 ghost use Rattle.std.specs.Prelude.{◌≡◌, ◌≤◌, ◌-◌};
 ghost use Rattle.lmots.specs.Chain.{steps};
 
 use crate::hashes::{head, step_hash};
 
-// The value of chain number `chain` after its steps `from` to `to` - 1. Every walk along a chain
-// passes here, so that a kernel for several chains at once has one place to stand in.
+// The value of chain number `chain` after its steps `from` to `to` - 1. The chains of a signature
+// have different lengths; whole chains are walked eight at once (`side_by_side`).
 #[tactic(auto, using(crate::proofs::Steps::steps_next, crate::proofs::Steps::steps_none))]
 pub(crate) fn walk(i: &[u8; 16], q: u32, chain: u16, from: u8, to: u8, start: [u8; 32]) -> [u8; 32]
     requires { from ≤ to }

@@ -15,6 +15,9 @@ const MESSAGE_TAG: u16 = 0x8181;
 
 const KEY_TAG: u16 = 0x8080;
 
+// What stands in place of a step's number where a chain's start is drawn from the seed.
+pub(crate) const START: u8 = 0xff;
+
 // A chain's identifier, leaf and number, with which each message of its steps begins.
 pub(crate) fn head(i: &[u8; 16], q: u32, chain: u16) -> [u8; 22]
     ensures { result ≡ head i.now q chain }
@@ -48,7 +51,7 @@ pub(crate) fn step_hash(head: &[u8; 22], step: u8, value: &[u8; 32]) -> [u8; 32]
 pub(crate) fn private_element(i: &[u8; 16], q: u32, chain: u16, seed: &[u8; 32]) -> [u8; 32]
     ensures { result ≡ private_element i.now q chain seed.now }
 {
-    step_hash(&head(i, q, chain), 0xff, seed)
+    step_hash(&head(i, q, chain), START, seed)
 }
 
 // The digest of a message that is signed.

@@ -102,3 +102,14 @@ fn agrees_with_another_implementation(rt: HostRuntime) {
         );
     }
 }
+
+// The leaf in the test above, among its neighbours.
+#[test]
+fn eight_keys_at_once_are_those_of_one(rt: HostRuntime) {
+    for (kind, q, key, _) in MADE_ELSEWHERE {
+        let first = if q < 7 { 0 } else { q - 7 };
+        let keys = public_of_eight(kind, I, first, SEED);
+        assert_eq!(rt; keys[(q - first) as usize], key, "{kind:?}");
+        assert_eq!(rt; keys[1], public_of(kind, I, first + 1, SEED), "{kind:?}");
+    }
+}

@@ -6,11 +6,14 @@
 //! last value made, by which a run can be held against another implementation's.
 #![tactic(auto)]
 
+mod one_by_one;
+
 ghost use Rattle.std.specs.Prelude.{◌≡◌, length};
 ghost use Rattle.lms_keys.specs.LmsType.{signature_len};
 
-use lmots::{OtsType, public_of};
+use lmots::{OtsType, public_of, public_of_eight};
 use lms_keys::{LmsType, PublicKey, SecretKey, verify};
+use one_by_one::root;
 use sha2::{Digest, Sha256};
 use std::alloc::Global;
 use std::rt::Clock;
@@ -23,13 +26,16 @@ const SEED: [u8; 32] = *b"thirty-two bytes make this seed.";
 
 const MESSAGE: &[u8; 22] = b"a message of one line\n";
 
-// What is done, and so what is made: the SHA-256 of 55 bytes, a one-time public key, an LMS key, a
-// signature with each leaf in turn, or a verdict on one.
+// What is done, and so what is made: the SHA-256 of 55 bytes, a one-time public key, the one-time
+// public keys of eight leaves, an LMS key, its root by one hash after another, a signature with each
+// leaf in turn, or a verdict on one.
 #[derive(Debug, Clone, Copy)]
 enum Work {
     Hash,
     Key,
+    Eight,
     Make,
+    OneByOne,
     Sign,
     Verify,
 }
@@ -46,7 +52,9 @@ fn work_of(word: &str) -> Option<Work> {
     match word {
         "hash" => Some(Work::Hash),
         "key" => Some(Work::Key),
+        "eight" => Some(Work::Eight),
         "make" => Some(Work::Make),
+        "one-by-one" => Some(Work::OneByOne),
         "sign" => Some(Work::Sign),
         "verify" => Some(Work::Verify),
         _ => None,
@@ -105,6 +113,23 @@ fn key(ots: OtsType, times: u32) -> u32 {
         last = public_of(ots, &I, q, &SEED);
     }
     front(&last)
+}
+
+fn eight(ots: OtsType, times: u32) -> u32 {
+    let mut last = [0u8; 32];
+    for group in 0..times {
+        let keys = public_of_eight(ots, &I, group % 1024 * 8, &SEED);
+        last = keys[7];
+    }
+    front(&last)
+}
+
+fn make_one_by_one(alloc: Global, case: Case) -> Option<u32> {
+    let mut last = 0;
+    for _ in 0..case.times {
+        last = front(&root(alloc, case.lms, case.ots, &I, &SEED).ok()?);
+    }
+    Some(last)
 }
 
 fn make(alloc: Global, case: Case) -> Option<u32> {
@@ -168,7 +193,12 @@ fn timed(rt: &impl Clock, alloc: Global, case: Case) -> io::Result<Option<(u32, 
     let value = match case.work {
         Work::Hash => hash(case.times),
         Work::Key => key(case.ots, case.times),
+        Work::Eight => eight(case.ots, case.times),
         Work::Make => match make(alloc, case) {
+            Some(value) => value,
+            None => return Ok(None),
+        },
+        Work::OneByOne => match make_one_by_one(alloc, case) {
             Some(value) => value,
             None => return Ok(None),
         },
@@ -181,7 +211,9 @@ fn timed(rt: &impl Clock, alloc: Global, case: Case) -> io::Result<Option<(u32, 
 fn main(rt: HostRuntime) -> io::Result<()> {
     let words: Vec<String> = env::args(&rt)?.collect(rt.alloc())?;
     let Some(case) = case_of(words.as_slice()) else {
-        return println!(rt; "lms_bench hash|key|make|sign|verify 5|10 1|2|4|8 TIMES [time]");
+        return println!(rt;
+            "lms_bench hash|key|eight|make|one-by-one|sign|verify 5|10 1|2|4|8 TIMES [time]"
+        );
     };
     let Some((value, time)) = timed(&rt, rt.alloc(), case)? else {
         return println!(rt; "out of memory");

@@ -4,3 +4,4 @@ pub mod KeyBytes
 pub mod SameKey
 pub mod Signing
 pub mod Written
+pub mod Filling

@@ -10,7 +10,7 @@ use crate::lms_type::LmsType;
 use crate::nodes::{beside, inner_value, leaf_value};
 use crate::public_key::PublicKey;
 use lmots::pieces::put;
-use lmots::{OtsType, public_of, sign_ots};
+use lmots::{OtsType, public_of_eight, sign_ots};
 use std::alloc::{AllocError, Global};
 use std::marker::Model;
 
@@ -45,7 +45,23 @@ impl Model for SecretKey {
     ghost invariant = { λ s. AreNodesFrom s.lms s.ots s.i s.seed s.nodes.items 1 };
 }
 
-// The value of one node, where those that are greater are there.
+// The values of the leaf nodes, eight leaves at a time.
+fn grow_leaves(lms: LmsType, ots: OtsType, i: &[u8; 16], seed: &[u8; 32], nodes: &mut [[u8; 32]])
+    requires { length nodes.old ≡ 2 * 2 ^ height lms }
+    ensures { AreNodesFrom lms ots i.now seed.now nodes.new (2 ^ height lms) }
+{
+    let leaves = lms.leaves();
+    'groups: for group in (0..leaves / 8).rev() {
+        let first = 8 * group;
+        let keys = public_of_eight(ots, i, first, seed);
+        'lanes: for lane in (0..8u32).rev() {
+            let node = leaves + first + lane;
+            nodes[node as usize] = leaf_value(i, node, &keys[lane as usize]);
+        }
+    }
+}
+
+// The value of one inner node, where those that are greater are there.
 fn node_value(
     lms: LmsType,
     ots: OtsType,
@@ -55,14 +71,10 @@ fn node_value(
     node: u32,
 ) -> [u8; 32]
     requires low { 1 ≤ node }
-    requires high { node < 2 * 2 ^ height lms }
+    requires high { node < 2 ^ height lms }
     requires below { AreNodesFrom lms ots i.now seed.now nodes.now (node + 1) }
     ensures { result ≡ tree_node ots (height lms) i.now seed.now node }
 {
-    let leaves = lms.leaves();
-    if node >= leaves {
-        return leaf_value(i, node, &public_of(ots, i, node - leaves, seed));
-    }
     let left = 2 * node as usize;
     inner_value(i, node, &nodes[left], &nodes[left + 1])
 }
@@ -77,9 +89,10 @@ fn grow(
 ) -> Result<Vec<[u8; 32]>, AllocError>
     ensures { IfOk result (λ nodes. AreNodesFrom lms ots i.now seed.now nodes.items 1) }
 {
-    let end = 2 * lms.leaves();
-    let mut nodes = vec![in alloc; [0u8; 32]; end as usize]?;
-    'nodes: for node in (1..end).rev() {
+    let leaves = lms.leaves();
+    let mut nodes = vec![in alloc; [0u8; 32]; 2 * leaves as usize]?;
+    grow_leaves(lms, ots, i, seed, nodes.as_mut_slice());
+    'nodes: for node in (1..leaves).rev() {
         let value = node_value(lms, ots, i, seed, nodes.as_slice(), node);
         nodes[node as usize] = value;
     }

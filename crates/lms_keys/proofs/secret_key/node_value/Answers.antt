@@ -1,20 +1,12 @@
-use Rattle.std.proofs.Common.{ℕ, ◌+◌, ◌-◌, ◌*◌, ◌^◌, ◌<◌, List, [], slice_index_or, sym, ◌∙◌, ap, arith}
-use Rattle.lmots.specs.OneTime.{public_key}
+use Rattle.std.proofs.Common.{ℕ, ◌+◌, ◌*◌, ◌^◌, ◌<◌, List, [], slice_index_or, sym, ◌∙◌, ap, arith}
 use Rattle.lms_keys.specs.LmsType.{height}
-use Rattle.lms_keys.specs.Tree.{leaf_value, inner_value, tree_node}
-use Rattle.lms_keys.proofs.Growing.{node-leaf, node-inner}
+use Rattle.lms_keys.specs.Tree.{inner_value, tree_node}
+use Rattle.lms_keys.proofs.Growing.{node-inner}
 use Rattle.lms_keys.proofs.secret_key.node_value.Goals as goal
-
-pub returns-then-node-leaves : goal.returns-then-node-leaves
-returns-then-node-leaves c =
-    c.leaf_value.ensures
-    ∙ ap (λ (key : List ℕ). leaf_value c.args.i.now c.args.node key)
-    (c.public_of.ensures ∙ ap (λ (n : ℕ). public_key c.args.ots c.args.i.now (c.args.node - n) c.args.seed.now) c.leaves-leaves.ensures)
-    ∙ sym (node-leaf c.args.ots (height c.args.lms) c.args.i.now c.args.seed.now c.args.node (omega arith))
 
 pub returns : goal.returns
 returns c =
-    let inner : c.args.node < 2 ^ height c.args.lms = omega arith in
+    let inner : c.args.node < 2 ^ height c.args.lms = c.requires.high in
     let left = c.requires.below.each (2 * c.args.node) (omega arith) (omega (arith, inner)) in
     let right = c.requires.below.each (2 * c.args.node + 1) (omega arith) (omega (arith, inner)) in
     c.inner_value.ensures

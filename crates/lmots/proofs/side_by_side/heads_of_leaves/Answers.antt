@@ -1,0 +1,5 @@
+use Rattle.std.proofs.Common.{arith}
+use Rattle.lmots.proofs.side_by_side.heads_of_leaves.Goals as goal
+
+pub returns : goal.returns
+returns c = record { at = λ k lt. c.lanes.invariant.1 k (omega arith) }

@@ -1,0 +1,7 @@
+mod Blocks
+mod ChMaj
+mod Lanes
+mod Rotations
+mod Sixteen
+mod Walking
+mod Progress

@@ -1,0 +1,19 @@
+//! SHA-256 along eight hash chains at once, by vectors whose lane i works on chain i.
+//!
+//! Each step of a one-time key's chain hashes 55 bytes: a head of 22 that names the chain, the
+//! step's number, and the value of 32 bytes before it. With their padding these are one block. The
+//! crate stands on `sha2`, whose definition of SHA-256 its contracts name, and takes no memory. The
+//! crate above may rely on this: each of the eight values that come out is the one that hashing
+//! step by step makes of the head and the value in the same place.
+#![tactic(auto)]
+
+mod chains;
+mod constants;
+mod message;
+mod rounds;
+mod schedule;
+#[cfg(test)]
+mod tests;
+mod words;
+
+pub use chains::{step, walk};
