@@ -1,0 +1,2 @@
+pub mod OneCommand
+pub mod PlainWords

@@ -1,0 +1,5 @@
+pub mod Commands
+pub mod FirstWords
+pub mod Grammars
+pub mod Laws
+pub mod Places

@@ -1,0 +1,47 @@
+//! Words into a command.
+
+ghost use Rattle.std.specs.Prelude.{map, string_bytes, IfOk, IsErrOf};
+ghost use Rattle.command_words.specs.Commands.{IsCommand, IsNoCommand};
+ghost use Rattle.command_words.specs.FirstWords.{AsksFor, AsksForNone};
+
+use crate::commands::{Command, CommandName};
+use crate::first_words::{named, split_first};
+use crate::streams::read_no_more;
+use crate::verify_ref::read_verify_ref;
+use crate::words_fault::WordsFault;
+use std::alloc::Global;
+
+// The command for the words after this first one.
+fn read_rest(alloc: Global, first: CommandName, words: &[String]) -> Result<Command, WordsFault>
+    ensures found { IfOk result (AsksFor first (map string_bytes words.now)) }
+    ensures outside { IsErrOf result WordsFault.Outside → AsksForNone first (map string_bytes words.now) }
+{
+    match first {
+        CommandName::VerifyRef => {
+            let (name, stdin) = read_verify_ref(alloc, words)?;
+            Ok(Command::VerifyRef { name, stdin })
+        }
+        CommandName::Export => {
+            read_no_more(alloc, "export", words)?;
+            Ok(Command::Export)
+        }
+        CommandName::Import => {
+            read_no_more(alloc, "import", words)?;
+            Ok(Command::Import)
+        }
+    }
+}
+
+/// The command that words ask for. `Outside` comes exactly where they ask for none, want of memory aside.
+pub fn read_command(alloc: Global, words: &[String]) -> Result<Command, WordsFault>
+    ensures found { IfOk result (IsCommand (map string_bytes words.now)) }
+    ensures outside { IsErrOf result WordsFault.Outside → IsNoCommand (map string_bytes words.now) }
+{
+    let Some((word, rest)) = split_first(words) else {
+        return Err(WordsFault::Outside);
+    };
+    let Some(first) = named(word) else {
+        return Err(WordsFault::Outside);
+    };
+    read_rest(alloc, first, rest)
+}

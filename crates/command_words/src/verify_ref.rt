@@ -1,0 +1,61 @@
+//! The words of `verify-ref`.
+
+ghost use Rattle.std.specs.Prelude.{◌≡◌, ◌↔◌, ℕ, Bool, List, map, string_bytes, IfOk, IsErrOf, IsTrue, OnOk};
+ghost use Rattle.clap.specs.Words.{app_of, found_of, matches_of, rows_of};
+ghost use Rattle.git_object.specs.Names.{log_name};
+ghost use Rattle.command_words.specs.Commands.{AsksVerdict, verify_ref_app};
+ghost use Rattle.command_words.specs.Grammars.{Takes};
+
+use crate::arguments::{
+    bare_command, flag, has_flag, positional, ref_name_in, take_words, with_argument,
+};
+use crate::words_fault::WordsFault;
+use clap::ArgMatches;
+use git_object::RefName;
+use std::alloc::{AllocError, Global};
+
+/// The name of the reference that the reference state log's tip stands at.
+pub const LOG_NAME: &str = "refs/gittuf/reference-state-log";
+
+fn verify_ref_command<'a>(alloc: Global) -> Result<clap::Command<'a>, AllocError>
+    ensures { IfOk result (λ c. app_of c ≡ verify_ref_app) }
+{
+    let command = with_argument(bare_command(alloc, "verify-ref"), positional(alloc, "ref"))?;
+    with_argument(command, flag(alloc, "stdin"))
+}
+
+// What `verify-ref` finds in the words after it.
+fn take_verify_ref<'a>(alloc: Global, words: &'a [String]) -> Result<ArgMatches<'a>, WordsFault>
+    ensures taken { OnOk result (Takes verify_ref_app (map string_bytes words.entry.now)) }
+    ensures rows { IfOk result (λ m. rows_of (found_of m) ≡ matches_of verify_ref_app (map string_bytes words.entry.now)) }
+    ensures outside { IsErrOf result WordsFault.Outside → Takes verify_ref_app (map string_bytes words.entry.now) → ⊥ }
+{
+    let Ok(command) = verify_ref_command(alloc) else {
+        return Err(WordsFault::Memory);
+    };
+    take_words(command, words)
+}
+
+fn is_log_name(name: &RefName) -> bool
+    ensures { IsTrue result ↔ (name.now ≡ log_name) }
+{
+    name.text() == LOG_NAME.as_bytes()
+}
+
+/// The reference of which the words after `verify-ref` ask, and whether `--stdin` is given. `Outside` comes
+/// exactly where they ask for none, want of memory aside.
+pub(crate) fn read_verify_ref(
+    alloc: Global,
+    words: &[String],
+) -> Result<(RefName, bool), WordsFault>
+    ensures found { IfOk result (λ found. AsksVerdict found.0 found.1 (map string_bytes words.now)) }
+    ensures outside { IsErrOf result WordsFault.Outside
+        → (name : List ℕ) (stdin : Bool) → AsksVerdict name stdin (map string_bytes words.now) → ⊥ }
+{
+    let matches = take_verify_ref(alloc, words)?;
+    let name = ref_name_in(alloc, &matches, "ref")?;
+    if is_log_name(&name) {
+        return Err(WordsFault::Outside);
+    }
+    Ok((name, has_flag(&matches, "stdin")))
+}
