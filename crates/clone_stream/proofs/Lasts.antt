@@ -1,6 +1,6 @@
 -- The last of a list, and keys that come after it.
 use Rattle.std.proofs.Common.{◌≡◌, ℕ, suc, ◌-◌, Bool, true, List, [], ◌∷◌, ◌++◌, length, refl, sym, ap, subst, ◌∙◌, arith}
-use Rattle.std.specs.Prelude.{Some, option_map, map, slice_get, IsTrue, ◌↔◌}
+use Rattle.std.specs.Prelude.{None, Some, option_map, map, slice_get, IsTrue, ◌↔◌}
 use Rattle.std.specs.Ordering.{is_lt}
 use Rattle.std.specs.declared.cmp.Ordering.{Ordering}
 use Rattle.std.specs.declared.cmp.Ordering.TheVariants.{Less, Equal, Greater}
@@ -74,3 +74,9 @@ module _ {X : Type 0} where
   sorted_next [] gs g s = tt
   sorted_next (e ∷ []) gs g s = below_has e.0 [] gs g (and_parts (below_all by_bytes e.0 (g ∷ gs)) (is_sorted by_bytes (g ∷ gs)) s).0
   sorted_next (e ∷ f ∷ es) gs g s = sorted_next (f ∷ es) gs g (and_parts (below_all by_bytes e.0 ((f ∷ es) ++ g ∷ gs)) (is_sorted by_bytes ((f ∷ es) ++ g ∷ gs)) s).1
+
+-- a list without a last is empty
+pub none_last : {A B : Type 0} (f : A → B) (xs : List A) → last_of (map f xs) ≡ None → length xs ≡ 0
+none_last f [] none = refl
+none_last f (x ∷ []) none = cc none
+none_last f (x ∷ y ∷ ys) none = absurd (omega (arith, none_last f (y ∷ ys) none))

@@ -1,16 +1,57 @@
--- The refusal of a stream that a refusal below it becomes.
-use Rattle.edge_io.specs.declared.sources.ReadFault.{ReadFault}
-use Rattle.edge_io.specs.declared.sources.ReadFault.TheVariants as read
+-- Refusals by number, and the refusal that one below becomes.
+use Rattle.std.specs.Prelude.{ℕ}
+use Rattle.buffered_reader.specs.declared.exact_reads.ExactFault.{ExactFault}
+use Rattle.buffered_reader.specs.declared.exact_reads.ExactFault.TheVariants as exact
+use Rattle.buffered_reader.specs.declared.line_reads.LineFault.{LineFault}
+use Rattle.buffered_reader.specs.declared.line_reads.LineFault.TheVariants as line
 use Rattle.keeper_api.specs.declared.keeper_faults.KeeperFault.{KeeperFault}
 use Rattle.keeper_api.specs.declared.keeper_faults.KeeperFault.TheVariants as keeper
-use Rattle.clone_stream.specs.declared.streams.StreamFault.{StreamFault}
-use Rattle.clone_stream.specs.declared.streams.StreamFault.TheVariants as stream
+use Rattle.clone_stream.specs.declared.stream_faults.Break.{Break}
+use Rattle.clone_stream.specs.declared.stream_faults.Break.TheVariants as break_
+use Rattle.clone_stream.specs.declared.stream_faults.StreamFault.{StreamFault}
+use Rattle.clone_stream.specs.declared.stream_faults.StreamFault.TheVariants.{BadLine, IdDiffers, Order, TooLarge, Truncated, SourceFailed, KeeperFailed, NotEmpty, Memory}
 
-abbrev pub from_read : ReadFault → StreamFault
-from_read read.TooLong = stream.NotStream
-from_read read.Failed = stream.SourceFailed
-from_read read.Memory = stream.Memory
+-- the place of a refusal among the refusals; want of memory has none
+abbrev pub fault_number : StreamFault → ℕ
+fault_number (BadLine at) = 1
+fault_number (IdDiffers id found) = 2
+fault_number (Order at) = 3
+fault_number (TooLarge limit) = 4
+fault_number (Truncated at) = 5
+fault_number SourceFailed = 6
+fault_number KeeperFailed = 7
+fault_number NotEmpty = 8
+fault_number Memory = 0
 
 abbrev pub from_keeper : KeeperFault → StreamFault
-from_keeper keeper.Failed = stream.KeeperFailed
-from_keeper keeper.Memory = stream.Memory
+from_keeper keeper.Failed = KeeperFailed
+from_keeper keeper.Memory = Memory
+
+abbrev pub from_line : ℕ → ℕ → LineFault → Break
+from_line at taken line.Long = break_.BadLine at
+from_line at taken line.Cut = break_.Cut taken
+from_line at taken line.Failed = break_.Failed taken
+
+abbrev pub from_exact : ℕ → ExactFault → Break
+from_exact taken exact.Cut = break_.Cut taken
+from_exact taken exact.Failed = break_.Failed taken
+from_exact taken exact.Memory = break_.Memory
+
+-- the input ended
+abbrev pub IsCut : Break → Type 0
+IsCut (break_.BadLine at) = ⊥
+IsCut (break_.IdDiffers id found) = ⊥
+IsCut (break_.Order at) = ⊥
+IsCut (break_.TooLarge limit) = ⊥
+IsCut (break_.Cut at) = Unit {0}
+IsCut (break_.Failed at) = ⊥
+IsCut break_.Memory = ⊥
+
+abbrev pub from_break : Break → StreamFault
+from_break (break_.BadLine at) = BadLine at
+from_break (break_.IdDiffers id found) = IdDiffers id found
+from_break (break_.Order at) = Order at
+from_break (break_.TooLarge limit) = TooLarge limit
+from_break (break_.Cut at) = Truncated at
+from_break (break_.Failed at) = SourceFailed
+from_break break_.Memory = Memory

@@ -1,5 +1,17 @@
+pub mod Breaks
 pub mod Changes
+pub mod Deciding
+pub mod ExportLaws
+pub mod Exporting
+pub mod Exports
 pub mod Faults
+pub mod Fronts
+pub mod Grammar
+pub mod Laws
+pub mod Parts
 pub mod Reading
+pub mod Records
+pub mod Stopping
 pub mod Streams
 pub mod Taking
+pub mod Words

@@ -17,9 +17,13 @@ header = codes "gittuf-stream 1\n"
 abbrev pub end_line : List ℕ
 end_line = codes "end\n"
 
--- the line of an object: its id, its kind and its body's size in bytes
-unfoldable pub object_line : List ℕ → Kind → ℕ → List ℕ
-object_line id kind size = codes "object " ++ (encode_lower id ++ 32 ∷ (kind_name kind ++ 32 ∷ decimal size))
+-- the most bytes that a stream may have: 1 GiB
+abbrev pub largest_stream : ℕ
+largest_stream = 1073741824
+
+-- the line of an object: its id, its kind and the digits of its body's size in bytes
+unfoldable pub object_line : List ℕ → Kind → List ℕ → List ℕ
+object_line id kind digits = codes "object " ++ (encode_lower id ++ 32 ∷ (kind_name kind ++ 32 ∷ digits))
 
 -- the line of a reference: its name and its id
 unfoldable pub ref_line : List ℕ → List ℕ → List ℕ
@@ -27,7 +31,7 @@ ref_line name id = codes "ref " ++ (name ++ 32 ∷ encode_lower id)
 
 -- an object's record: its line, its body, a line feed
 abbrev pub object_record : List ℕ × Pair → List ℕ
-object_record e = object_line e.0 e.1.kind (length e.1.body) ++ 10 ∷ (e.1.body ++ 10 ∷ [])
+object_record e = object_line e.0 e.1.kind (decimal (length e.1.body)) ++ 10 ∷ (e.1.body ++ 10 ∷ [])
 
 -- a reference's record: its line
 abbrev pub ref_record : List ℕ × List ℕ → List ℕ
@@ -52,10 +56,6 @@ pub record IsStreamText (r : Repository) (bytes : List ℕ) : Type 0 where
   pub objects : AllByRecursion IsOwn (entries r.objects)
   pub refs : AllByRecursion IsRef (entries r.refs)
   pub text : bytes ≡ stream_text r
-
--- the bytes are the text of no repository
-abbrev pub IsNoStream : List ℕ → Type 0
-IsNoStream bytes = (r : Repository) → IsStreamText r bytes → ⊥
 
 -- a stream's text has one repository, and begins no other stream's text
 abbrev pub OneSpelling : Type 0

@@ -1,14 +1,15 @@
 //! The program `gittuf <store> <key> <command>`: it makes the real objects and calls `gittuf_cli::run`.
 //!
-//! The store and the key are both `-`: an empty store in memory, and no key. The source is standard input,
-//! the answer goes to standard output and a refusal to standard error.
+//! A store `-` is an empty one in memory, and a path that ends in `/` a folder; the key is `-`. The source is
+//! standard input, the answer goes to standard output and a refusal to standard error.
 
 #![tactic(auto)]
 
-use edge_io::{Sink, Source, StdSink, StdSource, write_all};
-use gittuf_cli::{Outside, Refusal, after_places, run};
+use command_words::{Command, Store, WordsFault, after_places, read_command};
+use edge_io::{StdSink, StdSource, write_all};
+use gittuf_cli::{Outside, Refusal, run};
 use keeper_api::{Keeper, MemKeeper};
-use std::alloc::Global;
+use keeper_directory::{DirKeeper, OpenFault};
 use std::env;
 use std::io::ErrorKind;
 use std::process::ExitCode;
@@ -35,33 +36,55 @@ fn words_of<R: Env + AllocGlobal>(rt: &R) -> Result<Vec<String>, Refusal> {
 }
 
 // Says a refusal, and answers its status.
-fn refuse<F: Sink>(faults_out: &mut F, refusal: Refusal) -> u8 {
-    let _ = write_all(faults_out, refusal.line());
+fn refuse(rt: &HostRuntime, refusal: Refusal) -> u8 {
+    let mut faults_out = StdSink::new(rt.stderr());
+    let _ = write_all(&mut faults_out, refusal.line().as_slice());
     refusal.status()
 }
 
-// Runs the command whose words stand after the places of the store and the key.
-fn start<S: Source, K: Sink, F: Sink, R: Keeper>(
-    alloc: Global,
-    words: &[String],
-    outside: &mut Outside<S, K, F, R>,
-) -> u8 {
-    match after_places(words) {
-        Some(command) => run(alloc, command, outside),
-        None => refuse(&mut outside.faults_out, Refusal::Words),
-    }
-}
-
-fn main(rt: HostRuntime) -> ExitCode {
+// Runs the command of the words over a keeper and the standard streams.
+fn run_over<R: Keeper + Drop>(rt: &HostRuntime, command: &[String], keeper: R) -> u8 {
     let mut outside = Outside {
         source: StdSource::new(rt.stdin()),
         sink: StdSink::new(rt.stdout()),
         faults_out: StdSink::new(rt.stderr()),
-        keeper: MemKeeper::new(rt.alloc()),
+        keeper,
     };
+    run(rt.alloc(), command, &mut outside)
+}
+
+// The keeper over a folder, for the command of the words. Only `import` makes the folder, so that a wrong path is
+// not taken for an empty store, and words outside the grammar make none.
+fn open(rt: &HostRuntime, folder: &str, command: &[String]) -> Result<DirKeeper, Refusal> {
+    let opened = match read_command(rt.alloc(), command) {
+        Ok(Command::Import) => DirKeeper::create(rt, rt.alloc(), folder),
+        Ok(_) => DirKeeper::open(rt, rt.alloc(), folder),
+        Err(WordsFault::Outside) => return Err(Refusal::Words),
+        Err(WordsFault::Memory) => return Err(Refusal::Memory),
+    };
+    match opened {
+        Ok(keeper) => Ok(keeper),
+        Err(OpenFault::Failed) => Err(Refusal::Fault),
+        Err(OpenFault::Memory) => Err(Refusal::Memory),
+    }
+}
+
+// Opens the store that the words name first, and runs the command of the words after them.
+fn start(rt: &HostRuntime, words: &[String]) -> u8 {
+    match after_places(words) {
+        Some((Store::Memory, command)) => run_over(rt, command, MemKeeper::new(rt.alloc())),
+        Some((Store::Directory(folder), command)) => match open(rt, folder, command) {
+            Ok(keeper) => run_over(rt, command, keeper),
+            Err(refusal) => refuse(rt, refusal),
+        },
+        None => refuse(rt, Refusal::Words),
+    }
+}
+
+fn main(rt: HostRuntime) -> ExitCode {
     let status = match words_of(&rt) {
-        Ok(words) => start(rt.alloc(), words.as_slice(), &mut outside),
-        Err(refusal) => refuse(&mut outside.faults_out, refusal),
+        Ok(words) => start(&rt, words.as_slice()),
+        Err(refusal) => refuse(&rt, refusal),
     };
     ExitCode::from(status)
 }

@@ -1,5 +1,5 @@
 pub mod Exact
 pub mod Outcomes
 pub mod Runs
+pub mod Scenes
 pub mod Verdicts
-pub mod Words

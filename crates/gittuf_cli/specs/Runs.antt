@@ -1,147 +1,160 @@
 -- What a run of a command does to the objects outside.
-use Rattle.std.specs.Prelude.{◌≡◌, ◌≢◌, ◌≤◌, ◌⊎◌, ℕ, List, Option, Some, Result, Ok, Err}
+use Rattle.std.specs.Prelude.{◌≡◌, ◌≤◌, ◌⊎◌, ℕ, List, Option, Some, Result, Ok, Err, Bool, IsTrue, codes}
 use Rattle.octets.specs.Causes.{Rose}
-use Rattle.octets.specs.Content.{GainsPart, Stays, with_end}
-use Rattle.edge_io.specs.declared.sinks.Sink as sink
-use Rattle.edge_io.specs.declared.sources.Source as source
-use Rattle.git_object.specs.Repository.{Repository, empty_repository}
-use Rattle.keeper_api.specs.declared.keepers.Keeper as keeper
-use Rattle.clone_stream.specs.Taking.{IsRefused, Spells, Takes}
+use Rattle.octets.specs.Content.{GainsPart, with_end}
+use Rattle.git_object.specs.Repository.{Repository}
+use Rattle.clone_stream.specs.Exporting.{Exports, RefusesExport}
+use Rattle.clone_stream.specs.declared.export_faults.ExportFault.{ExportFault}
+use Rattle.clone_stream.specs.declared.export_faults.ExportFault.TheVariants as export
+use Rattle.command_words.specs.Commands.{IsCommand, IsNoCommand}
+use Rattle.command_words.specs.declared.commands.Command.{Command}
+use Rattle.command_words.specs.declared.commands.Command.TheVariants as command
 use Rattle.gittuf_cli.specs.Outcomes.{refusal_line, status_of}
+use Rattle.gittuf_cli.specs.Scenes.{Counts, HasFault, Inside, IsLeft, MayOpen, MayTake, Opens, RefusesStream, Scene, TakesStream}
 use Rattle.gittuf_cli.specs.Verdicts.{HasLog, IsVerdict, line}
-use Rattle.gittuf_cli.specs.Words.{IsNoCommand, IsVerifyRef}
+use Rattle.gittuf_cli.specs.declared.refusals.Done.{Done}
+use Rattle.gittuf_cli.specs.declared.refusals.Done.TheVariants.{Judged, Exported, Imported}
 use Rattle.gittuf_cli.specs.declared.refusals.Refusal.{Refusal}
-use Rattle.gittuf_cli.specs.declared.refusals.Refusal.TheVariants.{Words, NotEmpty, NotStream, NotBuiltLog, Fault, Memory}
+use Rattle.gittuf_cli.specs.declared.refusals.Refusal.TheVariants.{Words, Stream, NotBuiltLog, Object, TooLarge, Fault, Memory}
 use Rattle.gittuf_cli.specs.declared.verdicts.Verdict.{Verdict}
 
--- what a source, a sink and a keeper tell at one moment, and what they have counted
-pub record Scene : Type 0 where
-  pub left : Option (List ℕ)
-  pub printed : Option (List ℕ)
-  pub held : Option Repository
-  pub source_faults : ℕ
-  pub sink_faults : ℕ
-  pub keeper_faults : ℕ
-  pub reads : ℕ
+-- ---- verify-ref
 
-abbrev pub scene_of : {S K R : Type 0} → source.Ghosts S → sink.Ghosts K → keeper.Ghosts R → S → K → R → Scene
-scene_of source_of sink_of keeper_of source sink keeper = record {
-  left = source_of.left source;
-  printed = sink_of.contents sink;
-  held = keeper_of.content keeper;
-  source_faults = source_of.faults source;
-  sink_faults = sink_of.faults sink;
-  keeper_faults = keeper_of.faults keeper;
-  reads = keeper_of.reads keeper;
-}
+-- the repository was opened, and this is the verdict on what the keeper then tells
+pub record FindsVerdict (name : List ℕ) (stdin : Bool) (before after : Inside) (verdict : Verdict) : Type 0 where
+  pub opens : Opens stdin before after
+  pub is : (r : Repository) → after.held ≡ Some r → IsVerdict r name verdict
 
--- no count falls, and no object is read
-pub record Counts (before after : Scene) : Type 0 where
-  pub source : before.source_faults ≤ after.source_faults
-  pub sink : before.sink_faults ≤ after.sink_faults
-  pub keeper : before.keeper_faults ≤ after.keeper_faults
-  pub reads : after.reads ≡ before.reads
-
--- one of the three counted a fault
-abbrev pub HasFault : Scene → Scene → Type 0
-HasFault before after =
-    Rose before.source_faults after.source_faults ⊎ (Rose before.sink_faults after.sink_faults ⊎ Rose before.keeper_faults after.keeper_faults)
-
--- the keeper tells what it held, or the repository that the source's bytes spell
-abbrev pub MayHold : Option (List ℕ) → Option (List ℕ) → Option Repository → Option Repository → Type 0
-MayHold left left_now before after = (r : Repository) → after ≡ Some r → (before ≡ Some r) ⊎ Spells left left_now before r
-
--- the keeper held something, so nothing was read
-pub record FindsFull (left left_now : Option (List ℕ)) (before after : Option Repository) : Type 0 where
-  pub unread : left_now ≡ left
-  pub same : Stays before after
-  pub full : (r : Repository) → after ≡ Some r → r ≢ empty_repository
-
--- the keeper held nothing, and the source's bytes are the stream of no repository, or too many
-pub record FindsNoStream (left left_now : Option (List ℕ)) (before after : Option Repository) : Type 0 where
-  pub refused : IsRefused left left_now
-  pub same : Stays before after
-  pub empty : (r : Repository) → after ≡ Some r → r ≡ empty_repository
-
--- the keeper took the stream, and what it then tells has a log
-pub record FindsLog (left left_now : Option (List ℕ)) (before after : Option Repository) : Type 0 where
-  pub took : Takes left left_now before after
-  pub log : (r : Repository) → after ≡ Some r → HasLog r
-
--- the keeper took the stream, and this is the verdict on what it then tells
-pub record FindsVerdict (left left_now : Option (List ℕ)) (before after : Option Repository) (name : List ℕ) (verdict : Verdict) : Type 0 where
-  pub took : Takes left left_now before after
-  pub is : (r : Repository) → after ≡ Some r → IsVerdict r name verdict
-
--- why there is no verdict
-abbrev pub Refuses : Option (List ℕ) → Option (List ℕ) → Option Repository → Option Repository → Refusal → Type 0
-Refuses left left_now before after Words = ⊥
-Refuses left left_now before after NotEmpty = FindsFull left left_now before after
-Refuses left left_now before after NotStream = FindsNoStream left left_now before after
-Refuses left left_now before after NotBuiltLog = FindsLog left left_now before after
-Refuses left left_now before after Fault = MayHold left left_now before after
-Refuses left left_now before after Memory = MayHold left left_now before after
-
--- the words ask for a verdict, and this one was found
-pub record Finds (words : List (List ℕ)) (before after : Scene) (name : List ℕ) (verdict : Verdict) : Type 0 where
-  pub asked : IsVerifyRef words name
-  pub found : FindsVerdict before.left after.left before.held after.held name verdict
-
--- the verdict was found, and exactly its line was printed
-pub record Answers (words : List (List ℕ)) (before after : Scene) (verdict : Verdict) : Type 0 where
-  pub name : List ℕ
-  pub finds : Finds words before after name verdict
+-- exactly the verdict's line was printed
+pub record Answers (name : List ℕ) (stdin : Bool) (before after : Scene) (verdict : Verdict) : Type 0 where
+  pub finds : FindsVerdict name stdin before.inside after.inside verdict
   pub printed : after.printed ≡ with_end before.printed (line name verdict)
 
+-- the repository was opened and has a log
+pub record FindsLog (stdin : Bool) (before after : Inside) : Type 0 where
+  pub opens : Opens stdin before after
+  pub log : (r : Repository) → after.held ≡ Some r → HasLog r
+
+-- why there is no verdict to print
+abbrev pub DeclinesLook : Bool → Inside → Inside → Refusal → Type 0
+DeclinesLook stdin before after Words = ⊥
+DeclinesLook stdin before after (Stream number) = IsTrue stdin × RefusesStream before after number
+DeclinesLook stdin before after NotBuiltLog = FindsLog stdin before after
+DeclinesLook stdin before after (Object id) = ⊥
+DeclinesLook stdin before after TooLarge = ⊥
+DeclinesLook stdin before after Fault = MayOpen stdin before after
+DeclinesLook stdin before after Memory = MayOpen stdin before after
+
 -- a verdict was found, and a front of its line was printed
-pub record AnswersPart (words : List (List ℕ)) (before after : Scene) : Type 0 where
-  pub name : List ℕ
+pub record AnswersPart (name : List ℕ) (stdin : Bool) (before after : Scene) : Type 0 where
   pub verdict : Verdict
-  pub finds : Finds words before after name verdict
+  pub finds : FindsVerdict name stdin before.inside after.inside verdict
   pub printed : GainsPart before.printed after.printed (line name verdict)
 
--- a verdict is asked for and refused for this cause, and nothing was printed
-pub record Declines (words : List (List ℕ)) (before after : Scene) (refusal : Refusal) : Type 0 where
-  pub name : List ℕ
-  pub asked : IsVerifyRef words name
-  pub why : Refuses before.left after.left before.held after.held refusal
-  pub printed : after.printed ≡ before.printed
-
 -- the run stopped: nothing was printed, or a front of the line of the verdict that was found
-pub record Stops (words : List (List ℕ)) (before after : Scene) : Type 0 where
-  pub held : MayHold before.left after.left before.held after.held
-  pub printed : (after.printed ≡ before.printed) ⊎ AnswersPart words before after
+pub record StopsJudging (name : List ℕ) (stdin : Bool) (before after : Scene) : Type 0 where
+  pub held : MayOpen stdin before.inside after.inside
+  pub printed : (after.printed ≡ before.printed) ⊎ AnswersPart name stdin before after
 
--- a verdict is asked for, and the run stopped at a fault that was counted
-pub record Fails (words : List (List ℕ)) (before after : Scene) : Type 0 where
-  pub name : List ℕ
-  pub asked : IsVerifyRef words name
-  pub stops : Stops words before after
-  pub fault : HasFault before after
+-- why there is no verdict
+abbrev pub DeclinesVerdict : List ℕ → Bool → Scene → Scene → Refusal → Type 0
+DeclinesVerdict name stdin before after Words = ⊥
+DeclinesVerdict name stdin before after (Stream number) = IsTrue stdin × RefusesStream before.inside after.inside number × (after.printed ≡ before.printed)
+DeclinesVerdict name stdin before after NotBuiltLog = FindsLog stdin before.inside after.inside × (after.printed ≡ before.printed)
+DeclinesVerdict name stdin before after (Object id) = ⊥
+DeclinesVerdict name stdin before after TooLarge = ⊥
+DeclinesVerdict name stdin before after Fault = StopsJudging name stdin before after × HasFault before after
+DeclinesVerdict name stdin before after Memory = StopsJudging name stdin before after
+
+-- ---- import
+
+-- the stream was taken, and that was printed
+pub record Imports (before after : Scene) : Type 0 where
+  pub took : TakesStream before.inside after.inside
+  pub printed : after.printed ≡ with_end before.printed (codes "imported\n")
+
+-- the run stopped: nothing was printed, or the stream was taken and a front of the line was printed
+pub record StopsImporting (before after : Scene) : Type 0 where
+  pub held : MayTake before.inside after.inside
+  pub printed : (after.printed ≡ before.printed) ⊎ (TakesStream before.inside after.inside × GainsPart before.printed after.printed (codes "imported\n"))
+
+-- why nothing was imported
+abbrev pub DeclinesImport : Scene → Scene → Refusal → Type 0
+DeclinesImport before after Words = ⊥
+DeclinesImport before after (Stream number) = RefusesStream before.inside after.inside number × (after.printed ≡ before.printed)
+DeclinesImport before after NotBuiltLog = ⊥
+DeclinesImport before after (Object id) = ⊥
+DeclinesImport before after TooLarge = ⊥
+DeclinesImport before after Fault = StopsImporting before after × HasFault before after
+DeclinesImport before after Memory = StopsImporting before after
+
+-- ---- export
+
+-- the store is as before, the source unread, and the whole stream was printed
+pub record Exporting (before after : Scene) : Type 0 where
+  pub left : IsLeft before.inside after.inside
+  pub exports : Exports after.inside.held before.printed after.printed
+
+-- the store is as before, the source unread, and this is why the stream was not printed whole
+pub record Halts (before after : Scene) (fault : ExportFault) : Type 0 where
+  pub left : IsLeft before.inside after.inside
+  pub refuses : RefusesExport after.inside.held before.printed after.printed fault
+
+-- why no stream was printed whole; at a fault and for want of memory a front of the stream was printed
+abbrev pub DeclinesExport : Scene → Scene → Refusal → Type 0
+DeclinesExport before after Words = ⊥
+DeclinesExport before after (Stream number) = ⊥
+DeclinesExport before after NotBuiltLog = ⊥
+DeclinesExport before after (Object id) = Halts before after (export.Damaged id)
+DeclinesExport before after TooLarge = (limit : ℕ) × Halts before after (export.TooLarge limit)
+DeclinesExport before after Fault = (Halts before after export.KeeperFailed ⊎ Halts before after export.SinkFailed) × HasFault before after
+DeclinesExport before after Memory = Halts before after export.Memory
+
+-- ---- every command
+
+-- what each outcome of a command means
+abbrev pub EndsOf : Command → Scene → Scene → Result Done Refusal → Type 0
+EndsOf (command.VerifyRef name stdin) before after (Ok (Judged verdict)) = Answers name stdin before after verdict
+EndsOf (command.VerifyRef name stdin) before after (Ok Exported) = ⊥
+EndsOf (command.VerifyRef name stdin) before after (Ok Imported) = ⊥
+EndsOf (command.VerifyRef name stdin) before after (Err refusal) = DeclinesVerdict name stdin before after refusal
+EndsOf command.Export before after (Ok (Judged verdict)) = ⊥
+EndsOf command.Export before after (Ok Exported) = Exporting before after
+EndsOf command.Export before after (Ok Imported) = ⊥
+EndsOf command.Export before after (Err refusal) = DeclinesExport before after refusal
+EndsOf command.Import before after (Ok (Judged verdict)) = ⊥
+EndsOf command.Import before after (Ok Exported) = ⊥
+EndsOf command.Import before after (Ok Imported) = Imports before after
+EndsOf command.Import before after (Err refusal) = DeclinesImport before after refusal
+
+-- the words ask for this command, and its outcome has this meaning
+pub record RunsCommand (words : List (List ℕ)) (before after : Scene) (outcome : Result Done Refusal) : Type 0 where
+  pub command : Command
+  pub asked : IsCommand words command
+  pub ends : EndsOf command before after outcome
+
+-- no command was run: the words ask for none, or memory was wanting to read them
+pub record RunsNone (words : List (List ℕ)) (before after : Scene) (outcome : Result Done Refusal) : Type 0 where
+  pub why : ((outcome ≡ Err Words) × IsNoCommand words) ⊎ (outcome ≡ Err Memory)
+  pub untouched : after ≡ before
 
 -- what each outcome means
-abbrev pub Ends : List (List ℕ) → Scene → Scene → Result Verdict Refusal → Type 0
-Ends words before after (Ok verdict) = Answers words before after verdict
-Ends words before after (Err Words) = IsNoCommand words
-Ends words before after (Err NotEmpty) = Declines words before after NotEmpty
-Ends words before after (Err NotStream) = Declines words before after NotStream
-Ends words before after (Err NotBuiltLog) = Declines words before after NotBuiltLog
-Ends words before after (Err Fault) = Fails words before after
-Ends words before after (Err Memory) = Stops words before after
+abbrev pub Ends : List (List ℕ) → Scene → Scene → Result Done Refusal → Type 0
+Ends words before after outcome = RunsNone words before after outcome ⊎ RunsCommand words before after outcome
 
 -- the line was written, unless a fault of the object that takes it was counted; else a front of it
 pub record SaysLine (told told_now : Option (List ℕ)) (faults faults_now : ℕ) (message : List ℕ) : Type 0 where
   pub part : GainsPart told told_now message
   pub whole : (Rose faults faults_now → ⊥) → told_now ≡ with_end told message
 
--- what is said of an outcome: nothing of a verdict, its line of a refusal
-abbrev pub Says : Option (List ℕ) → Option (List ℕ) → ℕ → ℕ → Result Verdict Refusal → Type 0
-Says told told_now faults faults_now (Ok verdict) = (told_now ≡ told) × (faults_now ≡ faults)
+-- what is said of an outcome: nothing where the command is done, its line of a refusal
+abbrev pub Says : Option (List ℕ) → Option (List ℕ) → ℕ → ℕ → Result Done Refusal → Type 0
+Says told told_now faults faults_now (Ok found) = (told_now ≡ told) × (faults_now ≡ faults)
 Says told told_now faults faults_now (Err refusal) = SaysLine told told_now faults faults_now (refusal_line refusal)
 
 -- a run of these words answered this status: there is an outcome with the status, its meaning holds, and it was said
 pub record Ran (words : List (List ℕ)) (before after : Scene) (told told_now : Option (List ℕ)) (faults faults_now : ℕ) (status : ℕ) : Type 0 where
-  pub outcome : Result Verdict Refusal
+  pub outcome : Result Done Refusal
   pub status_is : status ≡ status_of outcome
   pub ends : Ends words before after outcome
   pub counts : Counts before after

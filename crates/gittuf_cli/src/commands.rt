@@ -1,85 +1,49 @@
-//! The command `verify-ref`.
+//! The words of a command, and the command that they ask for.
 
-ghost use Rattle.std.specs.Prelude.{◌≡◌, ◌≤◌, ◌⊎◌, ℕ, List, map, string_bytes, IfOk, IfErr, IsErrOf, OnOk, OnErr};
-ghost use Rattle.octets.specs.Causes.{IsCaused, Rose};
-ghost use Rattle.octets.specs.Content.{GainsPart, with_end};
+ghost use Rattle.std.specs.Prelude.{◌≡◌, ◌⊎◌, map, string_bytes};
 ghost use Rattle.git_object.specs.Repository.{Repository};
 ghost use Rattle.clone_stream.specs.Taking.{Spells};
-ghost use Rattle.gittuf_cli.specs.Runs.{Counts, Ends, FindsVerdict, Refuses, scene_of};
-ghost use Rattle.gittuf_cli.specs.Verdicts.{line};
-ghost use Rattle.gittuf_cli.specs.Words.{IsNoCommand, IsVerifyRef};
+ghost use Rattle.command_words.specs.Commands.{IsExport, IsNoCommand};
+ghost use Rattle.command_words.specs.declared.commands.Command.TheVariants as command;
+ghost use Rattle.gittuf_cli.specs.Runs.{Ends, EndsOf};
+ghost use Rattle.gittuf_cli.specs.Scenes.{Counts, scene_of};
 
-use crate::judging::judge;
-use crate::refusals::{Refusal, Stop, of_stop, of_stream};
-use crate::verdicts::{Verdict, line_of};
-use crate::words::asked_name;
-use clone_stream::read_stream;
-use edge_io::{Sink, Source, write_all};
-use git_object::RefName;
+use crate::exporting::export;
+use crate::importing::import;
+use crate::refusals::{Done, Refusal};
+use crate::verifying::verify_ref;
+use command_words::{Command, WordsFault, read_command};
+use edge_io::{Sink, Source};
 use keeper_api::Keeper;
 use std::alloc::Global;
 
-// Takes the source's stream into the keeper, and judges the reference in what the keeper then holds.
-fn look<S: Source, R: Keeper>(
+// Carries a command out.
+fn carry_out<S: Source, K: Sink, R: Keeper>(
     alloc: Global,
-    name: &RefName,
-    source: &mut S,
-    keeper: &mut R,
-) -> Result<Verdict, Refusal>
-    ensures found { IfOk result (FindsVerdict (S.left source.old) (S.left source.new) (R.content keeper.old) (R.content keeper.new) name.now) }
-    ensures refused { IfErr result (Refuses (S.left source.old) (S.left source.new) (R.content keeper.old) (R.content keeper.new)) }
-    ensures fault { IsErrOf result Refusal.Fault → Rose (S.faults source.old) (S.faults source.new) ⊎ Rose (R.faults keeper.old) (R.faults keeper.new) }
-    ensures source_later { S.faults source.old ≤ S.faults source.new }
-    ensures keeper_later { R.faults keeper.old ≤ R.faults keeper.new }
-    ensures reads { R.reads keeper.new ≡ R.reads keeper.old }
-    ensures stop { (r : Repository) → R.left keeper.new r → R.left keeper.old r ⊎ Spells (S.left source.old) (S.left source.new) (R.content keeper.old) r }
-{
-    match read_stream(alloc, source, keeper) {
-        Ok(()) => {}
-        Err(fault) => return Err(of_stream(fault)),
-    }
-    match judge(alloc, keeper, name) {
-        Ok(Some(verdict)) => Ok(verdict),
-        Ok(None) => Err(Refusal::NotBuiltLog),
-        Err(stop) => Err(of_stop(stop)),
-    }
-}
-
-// Prints the line of a verdict.
-fn print<K: Sink>(
-    alloc: Global,
-    name: &RefName,
-    verdict: &Verdict,
-    sink: &mut K,
-) -> Result<(), Stop>
-    ensures whole { OnOk result (K.contents sink.new ≡ with_end (K.contents sink.old) (line name.now verdict.now)) }
-    ensures part { OnErr result ((K.contents sink.new ≡ K.contents sink.old) ⊎ GainsPart (K.contents sink.old) (K.contents sink.new) (line name.now verdict.now)) }
-    ensures cause { IsCaused Stop.Fault (K.faults sink.old) (K.faults sink.new) result }
-{
-    let text = line_of(alloc, name, verdict)?;
-    match write_all(sink, text.as_slice()) {
-        Ok(()) => Ok(()),
-        Err(_) => Err(Stop::Fault),
-    }
-}
-
-// Takes the source's stream, judges the reference, and prints the verdict's line.
-fn verify_ref<S: Source, K: Sink, R: Keeper>(
-    alloc: Global,
-    name: &RefName,
+    command: &Command,
     source: &mut S,
     sink: &mut K,
     keeper: &mut R,
-) -> Result<Verdict, Refusal>
-    ensures ends { (words : List (List ℕ)) → IsVerifyRef words name.now
-        → Ends words (scene_of S.Source K.Sink R.Keeper source.old sink.old keeper.old) (scene_of S.Source K.Sink R.Keeper source.new sink.new keeper.new) result }
+) -> Result<Done, Refusal>
+    ensures ends { EndsOf command.now (scene_of S.Source K.Sink R.Keeper source.old sink.old keeper.old) (scene_of S.Source K.Sink R.Keeper source.new sink.new keeper.new) result }
     ensures counts { Counts (scene_of S.Source K.Sink R.Keeper source.old sink.old keeper.old) (scene_of S.Source K.Sink R.Keeper source.new sink.new keeper.new) }
     ensures stop { (r : Repository) → R.left keeper.new r → R.left keeper.old r ⊎ Spells (S.left source.old) (S.left source.new) (R.content keeper.old) r }
 {
-    let verdict = look(alloc, name, source, keeper)?;
-    match print(alloc, name, &verdict, sink) {
-        Ok(()) => Ok(verdict),
-        Err(stop) => Err(of_stop(stop)),
+    match command {
+        Command::VerifyRef { name, stdin } => {
+            match verify_ref(alloc, name, *stdin, source, sink, keeper) {
+                Ok(verdict) => Ok(Done::Judged(verdict)),
+                Err(refusal) => Err(refusal),
+            }
+        }
+        Command::Export => match export(alloc, source, sink, keeper) {
+            Ok(()) => Ok(Done::Exported),
+            Err(refusal) => Err(refusal),
+        },
+        Command::Import => match import(alloc, source, sink, keeper) {
+            Ok(()) => Ok(Done::Imported),
+            Err(refusal) => Err(refusal),
+        },
     }
 }
 
@@ -90,12 +54,16 @@ pub(crate) fn command<S: Source, K: Sink, R: Keeper>(
     source: &mut S,
     sink: &mut K,
     keeper: &mut R,
-) -> Result<Verdict, Refusal>
+) -> Result<Done, Refusal>
     ensures ends { Ends (map string_bytes words.now) (scene_of S.Source K.Sink R.Keeper source.old sink.old keeper.old) (scene_of S.Source K.Sink R.Keeper source.new sink.new keeper.new) result }
     ensures counts { Counts (scene_of S.Source K.Sink R.Keeper source.old sink.old keeper.old) (scene_of S.Source K.Sink R.Keeper source.new sink.new keeper.new) }
     ensures stop { (r : Repository) → R.left keeper.new r → R.left keeper.old r ⊎ Spells (S.left source.old) (S.left source.new) (R.content keeper.old) r }
     ensures untouched { IsNoCommand (map string_bytes words.now) → (source.new ≡ source.old) × (sink.new ≡ sink.old) × (keeper.new ≡ keeper.old) }
 {
-    let name = asked_name(alloc, words)?;
-    verify_ref(alloc, &name, source, sink, keeper)
+    let command = match read_command(alloc, words) {
+        Ok(command) => command,
+        Err(WordsFault::Outside) => return Err(Refusal::Words),
+        Err(WordsFault::Memory) => return Err(Refusal::Memory),
+    };
+    carry_out(alloc, &command, source, sink, keeper)
 }

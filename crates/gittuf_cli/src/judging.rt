@@ -9,7 +9,7 @@ ghost use Rattle.gittuf_cli.specs.Verdicts.{HasLog, IsVerdict};
 
 use crate::refusals::Stop;
 use crate::verdicts::{Verdict, verdict_on};
-use crate::words::LOG_NAME;
+use command_words::LOG_NAME;
 use git_object::{ObjectId, RefFault, RefName};
 use keeper_api::{Keeper, KeeperFault};
 use octets::Memory;

@@ -2,7 +2,8 @@
 
 ghost use Rattle.gittuf_cli.specs.Exact.{OneOutcome, TellsOutcome};
 
-use clone_stream::laws::one_spelling;
+use clone_stream::laws::{one_export, one_refusal, one_spelling};
+use command_words::laws::one_command;
 
 /// Where source and keeper tell their content, an outcome is the one for the words and that content, unless it
 /// is a fault or want of memory.
@@ -14,5 +15,8 @@ pub fn tells_outcome()
 pub fn one_outcome()
     ensures { OneOutcome }
 {
+    one_command();
     one_spelling();
+    one_refusal();
+    one_export();
 }

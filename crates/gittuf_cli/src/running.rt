@@ -4,46 +4,47 @@ ghost use Rattle.std.specs.Prelude.{◌≡◌, ◌≤◌, ◌⊎◌, map, string
 ghost use Rattle.git_object.specs.Repository.{Repository};
 ghost use Rattle.clone_stream.specs.Taking.{Spells};
 ghost use Rattle.gittuf_cli.specs.Outcomes.{status_of};
-ghost use Rattle.gittuf_cli.specs.Runs.{Ran, Says, scene_of};
-ghost use Rattle.gittuf_cli.specs.Words.{IsNoCommand};
+ghost use Rattle.command_words.specs.Commands.{IsNoCommand};
+ghost use Rattle.gittuf_cli.specs.Runs.{Ran, Says};
+ghost use Rattle.gittuf_cli.specs.Scenes.{scene_of};
 
 use crate::Outside;
 use crate::commands::command;
-use crate::refusals::Refusal;
-use crate::verdicts::Verdict;
+use crate::refusals::{Done, Refusal};
 use edge_io::{Sink, Source, write_all};
 use keeper_api::Keeper;
 use std::alloc::Global;
 
 // The status of the program for an outcome.
-fn status(outcome: &Result<Verdict, Refusal>) -> u8
+fn status(outcome: &Result<Done, Refusal>) -> u8
     ensures status { result ≡ status_of outcome.now }
     ensures bound { result ≤ 5 }
 {
     match outcome {
-        Ok(verdict) => verdict.status(),
+        Ok(done) => done.status(),
         Err(refusal) => refusal.status(),
     }
 }
 
 // Says why there is no answer, if there is none.
-fn say<F: Sink>(outcome: &Result<Verdict, Refusal>, faults_out: &mut F)
+fn say<F: Sink>(outcome: &Result<Done, Refusal>, faults_out: &mut F)
     ensures says { Says (F.contents faults_out.old) (F.contents faults_out.new) (F.faults faults_out.old) (F.faults faults_out.new) outcome.now }
     ensures later { F.faults faults_out.old ≤ F.faults faults_out.new }
 {
     match outcome {
         Ok(_) => {}
         Err(refusal) => {
-            let _ = write_all(faults_out, refusal.line());
+            let _ = write_all(faults_out, refusal.line().as_slice());
         }
     }
 }
 
 /// Runs the command of the words over the objects outside, and answers the status of the program: 0 where the
-/// verdict is `accepted`, 1 where it is `tip-differs`, 2 where the words are outside the grammar, 3 where the
-/// stream is refused or the repository has a log, 4 where the source, the sink or the keeper counted a fault,
-/// 5 for want of memory. At 0 and 1 the sink gains the verdict's line, at the others `faults_out` gains the
-/// line of the refusal; a fault of `faults_out` changes no status.
+/// verdict is `accepted`, or the stream was printed or taken; 1 where the verdict is `tip-differs`; 2 where the
+/// words are outside the grammar; 3 where the stream is refused, the repository has a log, or cannot be written
+/// as a stream; 4 where the source, the sink or the keeper counted a fault; 5 for want of memory. At 0 and 1 the
+/// sink gains the whole answer, at the others `faults_out` gains the line of the refusal; a fault of
+/// `faults_out` changes no status.
 pub fn run<S: Source, K: Sink, F: Sink, R: Keeper>(
     alloc: Global,
     words: &[String],

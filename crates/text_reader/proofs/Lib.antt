@@ -1,3 +1,4 @@
 pub mod LowerHexadecimal
 pub mod Matched
+pub mod Numbers
 pub mod Unique

@@ -1,2 +1,3 @@
 pub mod Hexadecimal
 pub mod Line
+pub mod Number

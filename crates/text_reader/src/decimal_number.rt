@@ -1,8 +1,7 @@
 //! Decimal numbers without a sign or a leading zero.
 
-ghost use Rattle.std.specs.Prelude.{◌≡◌, ◌≢◌, ◌↔◌, ◌<◌, ◌^◌, ◌++◌, ◌∷◌, ℕ, List, IfSome, IfNone, IsTrue, decimal};
+ghost use Rattle.std.specs.Prelude.{◌≡◌, ◌≢◌, ◌↔◌, ◌<◌, ◌^◌, ℕ, IfSome, IfNone, IsTrue, decimal};
 
-use crate::split_line;
 use itoa::Buffer;
 use std::str;
 
@@ -39,18 +38,4 @@ pub fn read_decimal(text: &[u8]) -> Option<u64>
         Ok(text) => read_digits(text),
         Err(_) => None,
     }
-}
-
-/// The number below 2^64 whose decimal digits are all of the first line, and the rest after the line feed.
-pub fn split_decimal_line(text: &[u8]) -> Option<(u64, &[u8])>
-    ensures found { IfSome result (λ parts. text.now ≡ decimal parts.0 ++ 10 ∷ parts.1.now) }
-    ensures none { IfNone result ((number : ℕ) (rest : List ℕ) → number < 2 ^ 64 → text.now ≢ decimal number ++ 10 ∷ rest) }
-{
-    let Some((digits, rest)) = split_line(text) else {
-        return None;
-    };
-    let Some(number) = read_decimal(digits) else {
-        return None;
-    };
-    Some((number, rest))
 }

@@ -9,11 +9,13 @@
 mod decimal_number;
 mod front;
 mod hexadecimal;
+mod number;
 #[cfg(test)]
 mod tests;
 
-pub use decimal_number::{read_decimal, split_decimal_line};
+pub use decimal_number::read_decimal;
 pub use front::{
     begins_with, same_bytes, split_at_zero, split_front, split_line, split_word, strip_front,
 };
 pub use hexadecimal::{is_lower_hexadecimal, read_hexadecimal};
+pub use number::{NumberFault, is_number, read_decimal_within};

@@ -1,4 +1,7 @@
-use crate::{read_decimal, read_hexadecimal, split_front, split_line, split_word, strip_front};
+use crate::{
+    NumberFault, read_decimal, read_decimal_within, read_hexadecimal, split_front, split_line,
+    split_word, strip_front,
+};
 
 #[test]
 fn leaves_take_what_stands_there(rt: HostRuntime) {
@@ -34,4 +37,22 @@ fn numbers_have_one_form(rt: HostRuntime) {
     assert_eq!(rt; read_hexadecimal::<2>(b"0aff"), Some([10, 255]));
     assert_eq!(rt; read_hexadecimal::<2>(b"0aFF"), None);
     assert_eq!(rt; read_hexadecimal::<2>(b"0aff0"), None);
+}
+
+#[test]
+fn numbers_stay_within_a_limit(rt: HostRuntime) {
+    for (text, answer) in [
+        (b"0".as_slice(), Ok(0)),
+        (b"16777216".as_slice(), Ok(16777216)),
+        (b"16777217".as_slice(), Err(NumberFault::TooLarge)),
+        (
+            b"100000000000000000000000".as_slice(),
+            Err(NumberFault::TooLarge),
+        ),
+        (b"016777216".as_slice(), Err(NumberFault::NotNumber)),
+        (b"".as_slice(), Err(NumberFault::NotNumber)),
+        (b"16777216 ".as_slice(), Err(NumberFault::NotNumber)),
+    ] {
+        assert_eq!(rt; read_decimal_within(text, 16777216), answer);
+    }
 }

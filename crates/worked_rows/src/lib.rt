@@ -7,6 +7,8 @@
 #![tactic(auto)]
 
 #[cfg(test)]
+mod kept;
+#[cfg(test)]
 mod scenes;
 #[cfg(test)]
 mod streams;

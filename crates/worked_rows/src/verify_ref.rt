@@ -13,7 +13,7 @@ fn words_outside_the_grammar_touch_nothing(rt: HostRuntime) -> Result<(), Fail> 
     for words in [
         [].as_slice(),
         &["verify-ref"],
-        &["verify-ref", "refs/heads/main"],
+        &["verify-ref", "refs/heads/main", "refs/heads/side"],
         &["verify-ref", "refs/heads/a..b", "--stdin"],
         &["verify-ref", "refs/gittuf/reference-state-log", "--stdin"],
         &["verify", "refs/heads/main", "--stdin"],
@@ -48,17 +48,38 @@ fn a_stream_is_taken_and_judged(rt: HostRuntime) -> Result<(), Fail> {
 #[test]
 fn a_refused_stream_leaves_the_keeper(rt: HostRuntime) -> Result<(), Fail> {
     let alloc = rt.alloc();
-    for stream in [
-        b"".as_slice(),
-        streams::cut_after_the_header(),
-        streams::cut_in_the_end(),
-        streams::one_line_feed_too_many(),
-        streams::blob_under_a_wrong_id(),
-        streams::objects_out_of_order(),
+    for (stream, said) in [
+        (b"".as_slice(), b"stream 5\n".as_slice()),
+        (streams::cut_after_the_header(), b"stream 5\n"),
+        (streams::cut_in_the_end(), b"stream 5\n"),
+        (streams::one_line_feed_too_many(), b"stream 1\n"),
+        (streams::blob_under_a_wrong_id(), b"stream 2\n"),
+        (streams::objects_out_of_order(), b"stream 3\n"),
+        (streams::blob_past_the_limit(), b"stream 4\n"),
     ] {
-        expect_of(&rt, alloc, stream, refused(3, b"stream\n"), false)?;
+        expect_of(&rt, alloc, stream, refused(3, said), false)?;
     }
     Ok(())
+}
+
+#[test]
+fn without_a_stream_the_store_is_judged(rt: HostRuntime) -> Result<(), Fail> {
+    let alloc = rt.alloc();
+    let words = ["verify-ref", "refs/heads/main"];
+    let mut outside = over(alloc, streams::main_at_the_blob())?;
+    let status = run_words(alloc, &words, &mut outside)?;
+    expect(&rt, alloc, status, &mut outside, accepted(), false)?;
+    outside.keeper = MemKeeper::failing(MemKeeper::new(alloc), vec![in alloc; 1]?, Vec::new(alloc));
+    outside.sink = MemSink::new(alloc, 100)?;
+    let status = run_words(alloc, &words, &mut outside)?;
+    expect(
+        &rt,
+        alloc,
+        status,
+        &mut outside,
+        refused(4, b"fault\n"),
+        false,
+    )
 }
 
 #[test]
@@ -75,7 +96,7 @@ fn a_keeper_that_holds_something_takes_no_stream(rt: HostRuntime) -> Result<(), 
         alloc,
         status,
         &mut outside,
-        refused(3, b"stream\n"),
+        refused(3, b"stream 8\n"),
         true,
     )
 }

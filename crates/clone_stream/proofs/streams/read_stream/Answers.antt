@@ -1,13 +1,22 @@
-use Rattle.std.proofs.Common.{ap, inr, subst}
-use Rattle.std.specs.Prelude.{Err}
-use Rattle.clone_stream.specs.Streams.{IsNoStream}
+use Rattle.std.proofs.Common.{◌≡◌, subst}
+use Rattle.clone_stream.specs.Taking.{IsOfSource}
+use Rattle.clone_stream.specs.declared.stream_faults.StreamFault.TheVariants.{KeeperFailed, NotEmpty}
 use Rattle.clone_stream.proofs.streams.read_stream.Goals as goal
 
-pub returns-in-Err-NotStream-clause-not_stream : goal.returns-in-Err-NotStream-clause-not_stream
-returns-in-Err-NotStream-clause-not_stream g c = λ _.
-    let read = c.in_ok-bytes.ensures in
-    inr (
-      c.in_ok-bytes.bytes,
-      record { read = read.bytes; end = read.end; short = read.short },
-      subst IsNoStream c.as_slice.ensures (c.in-Err-NotStream.ensures.bad (ap Err c.in-Err-NotStream.field-0-is)),
-    )
+pub returns-in-Err-clause-not_empty : goal.returns-in-Err-clause-not_empty
+returns-in-Err-clause-not_empty g c = λ full.
+    let same : c.in-Err.fault ≡ NotEmpty = cc in
+    absurd (subst IsOfSource same c.in-Err.ensures.no_keeper)
+
+pub returns-in-Err-clause-unread : goal.returns-in-Err-clause-unread
+returns-in-Err-clause-unread g c = λ full.
+    let same : c.in-Err.fault ≡ NotEmpty = cc in
+    absurd (subst IsOfSource same c.in-Err.ensures.no_keeper)
+
+pub returns-in-Err-clause-keeper_cause : goal.returns-in-Err-clause-keeper_cause
+returns-in-Err-clause-keeper_cause g c = record {
+  later = c.is_empty.ensures.cause.later;
+  failed = λ failed.
+      let same : c.in-Err.fault ≡ KeeperFailed = cc in
+      absurd (subst IsOfSource same c.in-Err.ensures.no_keeper);
+}

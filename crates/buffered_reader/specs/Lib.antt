@@ -1,0 +1,4 @@
+pub mod Ahead
+pub mod Bytes
+pub mod Lines
+pub mod Stops

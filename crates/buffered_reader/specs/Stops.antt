@@ -1,0 +1,22 @@
+-- Calls that stopped in the middle of what they were to take.
+use Rattle.std.specs.Prelude.{◌≡◌, ◌<◌, ◌+◌, [], ℕ, List, length, Option}
+use Rattle.octets.specs.Content.{with_front}
+use Rattle.buffered_reader.specs.Ahead.{Reading}
+
+-- the source failed after a part was taken, and nothing is buffered
+pub record StopsAfter (IsPart : List ℕ → Type 0) (was now : Reading) (before after : Option (List ℕ)) : Type 0 where
+  pub part : List ℕ
+  pub is : IsPart part
+  pub read : before ≡ with_front part after
+  pub taken : now.taken ≡ was.taken + length part
+  pub drained : now.buffered ≡ []
+
+-- the input ended in the middle: what was there is a part, it was taken, and nothing is buffered
+pub record EndsIn (IsPart : List ℕ → Type 0) (was now : Reading) (rest : List ℕ) : Type 0 where
+  pub is : IsPart rest
+  pub taken : now.taken ≡ was.taken + length rest
+  pub drained : now.buffered ≡ []
+
+-- fewer bytes than so many
+abbrev pub IsShorter : ℕ → List ℕ → Type 0
+IsShorter count part = length part < count

@@ -1,0 +1,45 @@
+use Rattle.std.proofs.Common.{refl, rules}
+use Rattle.buffered_reader.specs.Ahead.{ahead}
+use Rattle.clone_stream.specs.Records.{IsNextObject, IsNextRef, last_read}
+use Rattle.clone_stream.proofs.Growing.{at_first, next_breaks, object_read, ref_read, stops_after}
+use Rattle.clone_stream.proofs.records.read_records.Goals as goal
+
+pub records-init : goal.records-init
+records-init g c = record {
+  read = rw (c.new-objects.ensures, c.new-refs.ensures) (at_first (ahead c.args.reader.now (g.S.Source.left c.args.source.now)) c.args.reader.now.taken);
+  past = refl;
+  limit = refl;
+  later = search rules;
+}
+
+pub records-preserved-in-Continue-1 : goal.records-preserved-in-Continue-1
+records-preserved-in-Continue-1 g c = record {
+  read =
+      let object = c.in-Ok-Object.object in
+      let found : IsNextObject (last_read c.as_slice.result.now c.as_slice-in-records.result.now) object = rw c.in-Ok-Object.field-0-is at c.in-Ok-Object.ensures.next in
+      let next : IsNextObject (last_read c.records.objects c.records.refs) object = rw (c.as_slice.ensures, c.as_slice-in-records.ensures) at found in
+      rw c.in_ok-push-in-Ok-Object.ensures.added (object_read c.records.objects c.records.refs _ _ _ _ c.records.invariant.read object _ _ next
+      (rw c.in-Ok-Object.field-0-is at c.in-Ok-Object.ensures.ahead) (rw c.in-Ok-Object.field-0-is at c.in-Ok-Object.ensures.taken));
+  past = search rules;
+  limit = search rules;
+  later = search rules;
+}
+
+pub records-preserved : goal.records-preserved
+records-preserved g c = record {
+  read =
+      let value = c.in-Ok-Ref.value in
+      let found : IsNextRef (last_read c.as_slice.result.now c.as_slice-in-records.result.now) value.name value.id = rw c.in-Ok-Ref.field-0-is at c.in-Ok-Ref.ensures.next in
+      let next : IsNextRef (last_read c.records.objects c.records.refs) value.name value.id = rw (c.as_slice.ensures, c.as_slice-in-records.ensures) at found in
+      rw (c.in_ok-push-in-Ok-Ref.ensures.added, c.set.ensures) (ref_read c.records.objects c.records.refs _ _ _ _ c.records.invariant.read value.name value.id _ _ next
+      (rw c.in-Ok-Ref.field-0-is at c.in-Ok-Ref.ensures.ahead) (rw c.in-Ok-Ref.field-0-is at c.in-Ok-Ref.ensures.taken));
+  past = search rules;
+  limit = search rules;
+  later = search rules;
+}
+
+pub returns-in-Err-clause-bad : goal.returns-in-Err-clause-bad
+returns-in-Err-clause-bad g c = next_breaks c.records.objects c.records.refs _ _ _ _ c.records.invariant.read c.in-Err.fault (rw (c.as_slice.ensures, c.as_slice-in-records.ensures) at c.in-Err.ensures.bad)
+
+pub returns-in-Err-clause-stops : goal.returns-in-Err-clause-stops
+returns-in-Err-clause-stops g c = stops_after c.records.objects c.records.refs _ _ _ _ c.records.invariant.read c.records.reader c.next_record.new.reader c.args.reader.now _ c.in-Err.fault refl refl c.in-Err.ensures.stops

@@ -1,0 +1,34 @@
+-- Where reading stands after a break.
+use Rattle.std.specs.Prelude.{◌≡◌, ◌+◌, [], ℕ, List, length, Option}
+use Rattle.octets.specs.Causes.{Rose}
+use Rattle.octets.specs.Content.{with_front}
+use Rattle.buffered_reader.specs.Ahead.{Reading}
+use Rattle.clone_stream.specs.declared.stream_faults.Break.{Break}
+use Rattle.clone_stream.specs.declared.stream_faults.Break.TheVariants.{BadLine, IdDiffers, Order, TooLarge, Cut, Failed, Memory}
+
+-- the source failed: all that was taken was read, and nothing is buffered
+pub record FailsAt (was now : Reading) (before after : Option (List ℕ)) (p : ℕ) : Type 0 where
+  pub part : List ℕ
+  pub read : before ≡ with_front part after
+  pub taken : now.taken ≡ was.taken + length part
+  pub place : p ≡ now.taken
+  pub drained : now.buffered ≡ []
+
+abbrev pub StopsAt : Reading → Reading → Option (List ℕ) → Option (List ℕ) → Break → Type 0
+StopsAt was now before after (BadLine p) = Unit {0}
+StopsAt was now before after (IdDiffers id found) = Unit {0}
+StopsAt was now before after (Order p) = Unit {0}
+StopsAt was now before after (TooLarge limit) = Unit {0}
+StopsAt was now before after (Cut p) = p ≡ now.taken
+StopsAt was now before after (Failed p) = FailsAt was now before after p
+StopsAt was now before after Memory = Unit {0}
+
+-- a fault of the source is answered only where it was counted
+abbrev pub IsCausedAt : ℕ → ℕ → Break → Type 0
+IsCausedAt before now (BadLine p) = Unit {0}
+IsCausedAt before now (IdDiffers id found) = Unit {0}
+IsCausedAt before now (Order p) = Unit {0}
+IsCausedAt before now (TooLarge limit) = Unit {0}
+IsCausedAt before now (Cut p) = Unit {0}
+IsCausedAt before now (Failed p) = Rose before now
+IsCausedAt before now Memory = Unit {0}

@@ -1,0 +1,143 @@
+//! Writing one record of a stream within the limit.
+
+ghost use Rattle.std.specs.Prelude.{◌≡◌, ◌≤◌, ◌++◌, ◌∷◌, [], length, decimal, IfOk, OnOk, OnErr};
+ghost use Rattle.octets.specs.Causes.{HasCause, IsCaused};
+ghost use Rattle.octets.specs.Content.{GainsPart, with_end};
+ghost use Rattle.clone_stream.specs.Exports.{Puts};
+ghost use Rattle.clone_stream.specs.Streams.{largest_stream, object_line, object_record, ref_line, ref_record};
+
+use crate::{ExportFault, LARGEST_STREAM};
+use edge_io::{Failed, Sink, write_all};
+use git_object::{Object, ObjectId, RefName};
+use itoa::Buffer;
+use octets::{Memory, Octets};
+use std::alloc::Global;
+
+// The most bytes of a body that is copied, so that its record goes out in one piece.
+const LARGEST_COPIED: usize = 4096;
+
+/// Writes a whole text after so many bytes, and answers how many there are then. `TooLarge` comes exactly where
+/// the text would pass the limit, and then nothing of it goes out.
+pub fn put<K: Sink>(sink: &mut K, text: &[u8], written: u64) -> Result<u64, ExportFault>
+    requires { written ≤ largest_stream }
+    ensures puts { Puts text.now written (K.contents sink.old) (K.contents sink.new) result }
+    ensures cause { IsCaused ExportFault.SinkFailed (K.faults sink.old) (K.faults sink.new) result }
+{
+    if text.len() as u64 > LARGEST_STREAM - written {
+        return Err(ExportFault::TooLarge {
+            limit: LARGEST_STREAM,
+        });
+    }
+    write_all(sink, text)?;
+    Ok(written + text.len() as u64)
+}
+
+// Writes a line, a body and a line feed, of which none is copied.
+fn write_pieces<K: Sink>(sink: &mut K, line: &[u8], body: &[u8]) -> Result<(), Failed>
+    ensures whole { OnOk result (K.contents sink.new ≡ with_end (K.contents sink.old) (line.now ++ (body.now ++ 10 ∷ []))) }
+    ensures part { OnErr result (GainsPart (K.contents sink.old) (K.contents sink.new) (line.now ++ (body.now ++ 10 ∷ []))) }
+    ensures cause { HasCause (K.faults sink.old) (K.faults sink.new) result }
+{
+    write_all(sink, line)?;
+    write_all(sink, body)?;
+    write_all(sink, b"\n")
+}
+
+// Writes a line, a body and a line feed, as `put` writes a text.
+fn put_pieces<K: Sink>(
+    sink: &mut K,
+    line: &[u8],
+    body: &[u8],
+    written: u64,
+) -> Result<u64, ExportFault>
+    requires { written ≤ largest_stream }
+    ensures puts { Puts (line.now ++ (body.now ++ 10 ∷ [])) written (K.contents sink.old) (K.contents sink.new) result }
+    ensures cause { IsCaused ExportFault.SinkFailed (K.faults sink.old) (K.faults sink.new) result }
+{
+    let size = (line.len() as u64)
+        .saturating_add(body.len() as u64)
+        .saturating_add(1);
+    if size > LARGEST_STREAM - written {
+        return Err(ExportFault::TooLarge {
+            limit: LARGEST_STREAM,
+        });
+    }
+    write_pieces(sink, line, body)?;
+    Ok(written + size)
+}
+
+// The line of an object and its line feed.
+#[tactic(auto, unfolding(crate::specs::Streams::object_line))]
+fn line_of(alloc: Global, id: &ObjectId, object: &Object) -> Result<Octets, Memory>
+    ensures { IfOk result (λ line. line ≡ object_line id.now object.now.kind (decimal (length object.now.body)) ++ 10 ∷ []) }
+{
+    let mut digits = Buffer::new();
+    let mut line = Octets::from_slice(alloc, b"object ")?;
+    line.append(&id.to_hex())?;
+    line.append(b" ")?;
+    line.append(object.kind().name())?;
+    line.append(b" ")?;
+    line.append(digits.format(object.body().len()).as_bytes())?;
+    line.append(b"\n")?;
+    Ok(line)
+}
+
+// A line, a body and a line feed in one piece.
+fn joined(line: Octets, body: &[u8]) -> Result<Octets, Memory>
+    ensures { IfOk result (λ text. text ≡ line ++ (body.now ++ 10 ∷ [])) }
+{
+    let mut text = line;
+    text.append(body)?;
+    text.append(b"\n")?;
+    Ok(text)
+}
+
+/// Writes the record of an object after so many bytes, as `put` writes a text. A small body is copied, and goes
+/// out with its line in one piece.
+pub fn put_object<K: Sink>(
+    alloc: Global,
+    sink: &mut K,
+    id: &ObjectId,
+    object: &Object,
+    written: u64,
+) -> Result<u64, ExportFault>
+    requires { written ≤ largest_stream }
+    ensures puts { Puts (object_record (id.now, object.now)) written (K.contents sink.old) (K.contents sink.new) result }
+    ensures cause { IsCaused ExportFault.SinkFailed (K.faults sink.old) (K.faults sink.new) result }
+{
+    let line = line_of(alloc, id, object)?;
+    if object.body().len() > LARGEST_COPIED {
+        return put_pieces(sink, line.as_slice(), object.body(), written);
+    }
+    let text = joined(line, object.body())?;
+    put(sink, text.as_slice(), written)
+}
+
+// The line of a reference and its line feed.
+#[tactic(auto, unfolding(crate::specs::Streams::ref_line))]
+fn ref_text(alloc: Global, name: &RefName, id: &ObjectId) -> Result<Octets, Memory>
+    ensures { IfOk result (λ text. text ≡ ref_record (name.now, id.now)) }
+{
+    let mut text = Octets::from_slice(alloc, b"ref ")?;
+    text.append(name.text())?;
+    text.append(b" ")?;
+    text.append(&id.to_hex())?;
+    text.append(b"\n")?;
+    Ok(text)
+}
+
+/// Writes the record of a reference after so many bytes, as `put` writes a text.
+pub fn put_ref<K: Sink>(
+    alloc: Global,
+    sink: &mut K,
+    name: &RefName,
+    id: &ObjectId,
+    written: u64,
+) -> Result<u64, ExportFault>
+    requires { written ≤ largest_stream }
+    ensures puts { Puts (ref_record (name.now, id.now)) written (K.contents sink.old) (K.contents sink.new) result }
+    ensures cause { IsCaused ExportFault.SinkFailed (K.faults sink.old) (K.faults sink.new) result }
+{
+    let text = ref_text(alloc, name, id)?;
+    put(sink, text.as_slice(), written)
+}

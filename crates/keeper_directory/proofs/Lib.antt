@@ -1,0 +1,6 @@
+mod Counting
+mod Digits
+mod Heads
+mod Ids
+mod Order
+mod Reading

@@ -1,0 +1,76 @@
+//! The calls of the keeper over a folder.
+
+ghost use Rattle.std.specs.Prelude.{◌≡◌, None};
+ghost use Rattle.octets.specs.Causes.{IsCaused, one_more};
+ghost use Rattle.keeper_directory.specs.Counting.{faults_after};
+
+use crate::DirKeeper;
+use git_object::{Object, ObjectId, RefName};
+use keeper_api::{Change, Keeper, KeeperFault, RefValue};
+use std::alloc::Global;
+use std::rt::Files;
+
+/// It tells nothing. A fault is counted exactly where a call answers `Failed`.
+impl<R: Files> Keeper for DirKeeper<R> {
+    ghost content = { λ _. None };
+
+    ghost left = { λ _ _. ⊥ };
+
+    ghost faults = { λ k. k.faults };
+
+    ghost reads = { λ k. k.reads };
+
+    fn read_object(&mut self, alloc: Global, id: &ObjectId) -> Result<Option<Object>, KeeperFault>
+        ensures faults { self.new.faults ≡ faults_after result self.old.faults }
+        ensures reads { self.new.reads ≡ one_more self.old.reads }
+        ensures cause { IsCaused KeeperFault.Failed self.old.faults self.new.faults result }
+    {
+        self.object_of(alloc, id)
+    }
+
+    fn read_ref(&mut self, alloc: Global, name: &RefName) -> Result<Option<ObjectId>, KeeperFault>
+        ensures faults { self.new.faults ≡ faults_after result self.old.faults }
+        ensures reads { self.new.reads ≡ self.old.reads }
+        ensures cause { IsCaused KeeperFault.Failed self.old.faults self.new.faults result }
+    {
+        self.id_of_ref(alloc, name)
+    }
+
+    fn next_object_after(
+        &mut self,
+        alloc: Global,
+        after: Option<&ObjectId>,
+    ) -> Result<Option<ObjectId>, KeeperFault>
+        ensures faults { self.new.faults ≡ faults_after result self.old.faults }
+        ensures reads { self.new.reads ≡ self.old.reads }
+        ensures cause { IsCaused KeeperFault.Failed self.old.faults self.new.faults result }
+    {
+        self.id_after(alloc, after)
+    }
+
+    fn next_ref_after(
+        &mut self,
+        alloc: Global,
+        after: Option<&RefName>,
+    ) -> Result<Option<RefValue>, KeeperFault>
+        ensures faults { self.new.faults ≡ faults_after result self.old.faults }
+        ensures reads { self.new.reads ≡ self.old.reads }
+        ensures cause { IsCaused KeeperFault.Failed self.old.faults self.new.faults result }
+    {
+        self.ref_after(alloc, after)
+    }
+
+    fn commit(&mut self, _alloc: Global, change: &Change) -> Result<(), KeeperFault>
+        ensures faults { self.new.faults ≡ faults_after result self.old.faults }
+        ensures reads { self.new.reads ≡ self.old.reads }
+        ensures cause { IsCaused KeeperFault.Failed self.old.faults self.new.faults result }
+    {
+        self.make(change)
+    }
+
+    fn faults(&self) -> u64
+        ensures { result ≡ self.now.faults }
+    {
+        self.fault_count()
+    }
+}

@@ -1,0 +1,225 @@
+use crate::{DirKeeper, OpenFault};
+use git_object::{Kind, Object, ObjectId, Objects, Octets, RefName, id_of};
+use keeper_api::{Change, Keeper, KeeperFault, RefChange, RefChanges};
+use std::alloc::Global;
+use std::test::Fail;
+use std::{env, fs, process};
+
+// An empty folder for one test of this process.
+fn fresh_folder(rt: &HostRuntime, name: &str) -> Result<String, Fail> {
+    let mut path = env::temp_dir(rt)?.into_string();
+    let number = process::id(rt.process());
+    path.push_str(format!(in rt.alloc(); "/keeper_directory-{number}-{name}")?.as_str())?;
+    let _ = fs::remove_dir_all(rt, path.as_str());
+    Ok(path)
+}
+
+fn open(rt: &HostRuntime, path: &str) -> Result<DirKeeper, Fail> {
+    match DirKeeper::create(rt, rt.alloc(), path) {
+        Ok(keeper) => Ok(keeper),
+        Err(_) => Err(Fail::from("a folder")),
+    }
+}
+
+fn put(rt: &HostRuntime, folder: &str, name: &str, text: &[u8]) -> Result<(), Fail> {
+    let path = format!(in rt.alloc(); "{folder}/{name}")?;
+    Ok(fs::write(rt, path.as_str(), text)?)
+}
+
+fn name_of(alloc: Global, text: &[u8]) -> Result<RefName, Fail> {
+    Ok(RefName::read(alloc, text)?)
+}
+
+// Keeps blobs of these bodies, and makes these reference changes.
+fn commit<R: Keeper>(
+    alloc: Global,
+    keeper: &mut R,
+    bodies: &[&[u8]],
+    refs: &[(&[u8], Option<ObjectId>)],
+) -> Result<Option<KeeperFault>, Fail> {
+    let mut change = Change {
+        objects: Objects::new(alloc),
+        refs: RefChanges::new(alloc),
+    };
+    for body in bodies {
+        let body = Octets::from_slice(alloc, *body)?;
+        change.objects.push(Object::new(alloc, Kind::Blob, body)?)?;
+    }
+    for (text, to) in refs {
+        let name = name_of(alloc, *text)?;
+        change.refs.push(RefChange { name, to: *to })?;
+    }
+    Ok(keeper.commit(alloc, &change).err())
+}
+
+// How many objects and references a keeper goes over, each after the one before, and that each is read.
+fn counts<R: Keeper>(alloc: Global, keeper: &mut R) -> Result<(usize, usize), Fail> {
+    let mut last = None;
+    let mut objects = 0usize;
+    for _ in 0..100 {
+        let Some(id) = keeper.next_object_after(alloc, last.as_ref())? else {
+            break;
+        };
+        let object = keeper.read_object(alloc, &id)?.ok_or("an object")?;
+        if object.id() == id {
+            objects = objects.saturating_add(1);
+        }
+        last = Some(id);
+    }
+    let mut after = None;
+    let mut refs = 0usize;
+    for _ in 0..100 {
+        let Some(value) = keeper.next_ref_after(alloc, after.as_ref())? else {
+            break;
+        };
+        if keeper.read_ref(alloc, &value.name)? == Some(value.id) {
+            refs = refs.saturating_add(1);
+        }
+        after = Some(value.name);
+    }
+    Ok((objects, refs))
+}
+
+fn ref_of<R: Keeper>(alloc: Global, keeper: &mut R, text: &[u8]) -> Result<Option<ObjectId>, Fail> {
+    Ok(keeper.read_ref(alloc, &name_of(alloc, text)?)?)
+}
+
+const MAIN: &[u8] = b"refs/heads/main";
+
+#[test]
+fn a_change_is_read_back(rt: HostRuntime) -> Result<(), Fail> {
+    let alloc = rt.alloc();
+    let folder = fresh_folder(&rt, "back")?;
+    let mut keeper = open(&rt, folder.as_str())?;
+    assert_eq!(rt; counts(alloc, &mut keeper)?, (0, 0));
+    let id = id_of(Kind::Blob, b"one");
+    let refs = [(MAIN, Some(id)), (b"refs/tags/a/b".as_slice(), Some(id))];
+    let long = vec![in alloc; b'x'; 10000]?;
+    let bodies = [b"one".as_slice(), long.as_slice()];
+    assert_eq!(rt; commit(alloc, &mut keeper, &bodies, &refs)?, None);
+    assert_eq!(rt; counts(alloc, &mut keeper)?, (2, 2));
+    let kept = keeper.read_object(alloc, &id_of(Kind::Blob, long.as_slice()))?;
+    assert_eq!(rt; kept.ok_or("a blob")?.body(), long.as_slice());
+    let mut other = open(&rt, format!(in alloc; "{folder}/")?.as_str())?;
+    assert_eq!(rt; counts(alloc, &mut other)?, (2, 2));
+    assert_eq!(rt; ref_of(alloc, &mut other, MAIN)?, Some(id));
+    assert_eq!(rt; ref_of(alloc, &mut other, b"refs/tags/a")?, None);
+    assert_eq!(rt; ref_of(alloc, &mut other, b"refs/heads/main/a")?, None);
+    assert!(rt; other.read_object(alloc, &ObjectId::zeros())?.is_none());
+    assert_eq!(rt; keeper.faults().max(other.faults()), 0);
+    Ok(fs::remove_dir_all(&rt, folder.as_str())?)
+}
+
+#[test]
+fn a_name_and_its_folder_take_turns(rt: HostRuntime) -> Result<(), Fail> {
+    let alloc = rt.alloc();
+    let folder = fresh_folder(&rt, "turns")?;
+    let mut keeper = open(&rt, folder.as_str())?;
+    let id = Some(ObjectId::zeros());
+    let below = b"refs/heads/a/b/c".as_slice();
+    let above = b"refs/heads/a".as_slice();
+    assert_eq!(rt; commit(alloc, &mut keeper, &[], &[(below, id)])?, None);
+    let fault = commit(alloc, &mut keeper, &[], &[(above, id)])?;
+    assert_eq!(rt; fault, Some(KeeperFault::Failed));
+    assert_eq!(rt; keeper.faults(), 1);
+    assert_eq!(rt; ref_of(alloc, &mut keeper, above)?, None);
+    let turn = [(below, None), (above, id), (MAIN, None)];
+    assert_eq!(rt; commit(alloc, &mut keeper, &[], &turn)?, None);
+    assert_eq!(rt; ref_of(alloc, &mut keeper, above)?, id);
+    let fault = commit(alloc, &mut keeper, &[], &[(below, id)])?;
+    assert_eq!(rt; fault, Some(KeeperFault::Failed));
+    assert_eq!(rt; counts(alloc, &mut keeper)?, (0, 1));
+    assert_eq!(rt; commit(alloc, &mut keeper, &[], &[(above, None)])?, None);
+    assert_eq!(rt; counts(alloc, &mut keeper)?, (0, 0));
+    Ok(fs::remove_dir_all(&rt, folder.as_str())?)
+}
+
+#[test]
+fn other_files_are_passed_over_and_other_forms_are_faults(rt: HostRuntime) -> Result<(), Fail> {
+    let alloc = rt.alloc();
+    let folder = fresh_folder(&rt, "forms")?;
+    let mut keeper = open(&rt, folder.as_str())?;
+    let refs = [(MAIN, Some(ObjectId::zeros()))];
+    assert_eq!(rt; commit(alloc, &mut keeper, &[b"one"], &refs)?, None);
+    for name in [
+        "objects/readme",
+        "objects/0000.lock",
+        "refs/heads/main.lock",
+        "refs/heads/.x",
+        "HEAD",
+    ] {
+        put(&rt, folder.as_str(), name, b"x")?;
+    }
+    let mut keeper = open(&rt, folder.as_str())?;
+    assert_eq!(rt; counts(alloc, &mut keeper)?, (1, 1));
+    let zeros = "objects/0000000000000000000000000000000000000000000000000000000000000000";
+    put(&rt, folder.as_str(), zeros, b"blob 0\0")?;
+    let empty = keeper
+        .read_object(alloc, &ObjectId::zeros())?
+        .ok_or("a blob")?;
+    assert!(rt; empty.kind() == Kind::Blob && empty.body().is_empty());
+    for (number, text) in [
+        b"blob 1\0".as_slice(),
+        b"blob 0\0x",
+        b"blob 00\0",
+        b"blob 0",
+        b"file 0\0",
+        b"",
+    ]
+    .iter()
+    .enumerate()
+    {
+        put(&rt, folder.as_str(), zeros, *text)?;
+        let fault = keeper.read_object(alloc, &ObjectId::zeros()).err();
+        assert_eq!(rt; fault, Some(KeeperFault::Failed));
+        assert_eq!(rt; keeper.faults(), (number as u64).saturating_add(1));
+    }
+    put(&rt, folder.as_str(), "refs/heads/main", &[b'0'; 64])?;
+    let fault = keeper.next_ref_after(alloc, None).err();
+    assert_eq!(rt; fault, Some(KeeperFault::Failed));
+    assert_eq!(rt; keeper.faults(), 7);
+    Ok(fs::remove_dir_all(&rt, folder.as_str())?)
+}
+
+// Whether a folder is refused as none that a keeper may work in.
+fn is_refused(rt: &HostRuntime, folder: &str) -> bool {
+    let answer = DirKeeper::open(rt, rt.alloc(), folder);
+    matches!(answer.err(), Some(OpenFault::Failed))
+}
+
+#[test]
+fn a_half_made_change_is_not_opened(rt: HostRuntime) -> Result<(), Fail> {
+    let alloc = rt.alloc();
+    let folder = fresh_folder(&rt, "half")?;
+    let mut keeper = open(&rt, folder.as_str())?;
+    let id = Some(ObjectId::zeros());
+    let both = [
+        (b"refs/heads/a".as_slice(), id),
+        (b"refs/heads/a/b".as_slice(), id),
+    ];
+    let fault = commit(alloc, &mut keeper, &[b"one"], &both)?;
+    assert_eq!(rt; fault, Some(KeeperFault::Failed));
+    assert!(rt; is_refused(&rt, folder.as_str()));
+    let fault = commit(alloc, &mut keeper, &[], &[(MAIN, id)])?;
+    assert_eq!(rt; fault, Some(KeeperFault::Failed));
+    Ok(fs::remove_dir_all(&rt, folder.as_str())?)
+}
+
+#[test]
+fn a_folder_of_something_else_is_not_opened(rt: HostRuntime) -> Result<(), Fail> {
+    let folder = fresh_folder(&rt, "else")?;
+    assert!(rt; is_refused(&rt, folder.as_str()));
+    fs::create_dir_all(&rt, folder.as_str())?;
+    assert!(rt; !is_refused(&rt, folder.as_str()));
+    put(&rt, folder.as_str(), "HEAD", b"ref: refs/heads/main\n")?;
+    assert!(rt; is_refused(&rt, folder.as_str()));
+    fs::create_dir_all(&rt, format!(in rt.alloc(); "{folder}/refs")?.as_str())?;
+    assert!(rt; !is_refused(&rt, folder.as_str()));
+    put(&rt, folder.as_str(), "config", b"")?;
+    assert!(rt; is_refused(&rt, folder.as_str()));
+    fs::remove_dir_all(&rt, folder.as_str())?;
+    fs::create_dir_all(&rt, folder.as_str())?;
+    put(&rt, folder.as_str(), "refs", b"")?;
+    assert!(rt; is_refused(&rt, folder.as_str()));
+    Ok(fs::remove_dir_all(&rt, folder.as_str())?)
+}

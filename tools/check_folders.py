@@ -1,0 +1,296 @@
+"""The checks of tools/check on a store that is kept in a folder, over a large Git repository."""
+
+import hashlib
+import os
+import shutil
+
+from check_repositories import COMMITS, LONGEST_NAME, NAME_BYTES, UNUSUAL_NAME
+from checking import EMPTY_TREE, LAUNCHER, STREAM_TO_GIT, ZEROS, Failure, want, want_refusal, want_run
+
+HEADER, END = b"gittuf-stream 1\n", b"end\n"
+IMPORTED = b"imported\n"
+
+
+def command(place, *words):
+    """The words of a command over the store in this folder."""
+    return (LAUNCHER, f"{place}/", "-", *words)
+
+
+def files_below(folder):
+    """The bytes of each file below a folder, and None for each folder, by path."""
+    found = {}
+    for at, folders, files in os.walk(os.fsencode(folder)):
+        for name in folders:
+            found[os.path.relpath(os.path.join(at, name), os.fsencode(folder))] = None
+        for name in files:
+            with open(os.path.join(at, name), "rb") as file:
+                found[os.path.relpath(file.name, os.fsencode(folder))] = file.read()
+    return found
+
+
+def expect_same(place, before):
+    """Holds the files of a folder to what they were, and names the first that is not so."""
+    after = files_below(place)
+    for path in sorted({*before, *after}):
+        found, wanted = after.get(path, "nothing"), before.get(path, "nothing")
+        want(found, wanted, f"the file {os.fsdecode(path)} of a folder that was not to change")
+
+
+def write(place, name, text):
+    path = os.path.join(place, name)
+    os.makedirs(os.path.dirname(path), exist_ok=True)
+    with open(path, "wb") as file:
+        file.write(text)
+
+
+def object_file(kind, body):
+    """The text of an object's file, and its id."""
+    text = b"%s %d\0%s" % (kind, len(body), body)
+    return text, hashlib.sha256(text).hexdigest()
+
+
+def record(text, object_id):
+    """The record in a stream of the object with this file."""
+    head, _, body = text.partition(b"\0")
+    return b"object %s %s\n%s\n" % (object_id.encode(), head, body)
+
+
+def small_store(repositories, name):
+    """A new folder with three objects and a reference to the second, and the files' texts by rising id."""
+    place = repositories.path(name)
+    objects = sorted(object_file(b"blob", b"body %d\n" % it)[::-1] for it in range(3))
+    for object_id, text in objects:
+        write(place, f"objects/{object_id}", text)
+    write(place, "refs/heads/main", objects[1][0].encode() + b"\n")
+    return place, objects
+
+
+def stream_of(objects, references):
+    records = b"".join(record(text, object_id) for object_id, text in objects)
+    return HEADER + records + b"".join(b"ref %s %s\n" % it for it in references) + END
+
+
+def large_store(repositories):
+    """The folder of the large repository's store, which is made at the first call."""
+    stream, place = repositories.large_stream(), repositories.path("large")
+    if not os.path.isdir(place):
+        want_run(command(place, "import"), 0, IMPORTED, input=stream)
+    return place
+
+
+def has_all_kinds(repositories):
+    """the large repository has 300 commits, a merge, a submodule, tags of tags and names with every byte"""
+
+    def git(*words):
+        return repositories.git(*words, name=repositories.large())
+
+    counts = [git("rev-list", "--count", *it, "--all").strip() for it in ([], ["--min-parents=2"])]
+    want(counts, [b"%d" % COMMITS, b"1"], "the numbers of commits and of merges")
+    entries = [it.partition(b"\t") for it in git("ls-tree", "-r", "-z", "refs/heads/main").split(b"\0")]
+    # A name's byte ends it, and another path holds all of them.
+    ends = {path[-1] for _, _, path in entries if path.startswith(b"names/n")}
+    want(ends, set(NAME_BYTES), "the bytes at the ends of names")
+    if not any(bytes(NAME_BYTES) in path for _, _, path in entries):
+        raise Failure("no name holds all bytes")
+    modes = {it.split(b" ")[0] for it, _, _ in entries if it}
+    want(modes, {b"100644", b"100755", b"120000", b"160000"}, "the modes")
+    kinds = [git("cat-file", "tag", it).splitlines()[1] for it in ("of-of-v2", "of-v2", "v2")]
+    want(kinds, [b"type tag", b"type tag", b"type commit"], "what the tags are of")
+
+
+def goes_through_a_folder(repositories):
+    """300 commits go from Git through a kept folder to Git and back, byte for byte"""
+    stream = repositories.large_stream()
+    want_run(command(large_store(repositories), "export"), 0, stream)
+    repositories.from_stream(stream, "large-copy.git")
+    repositories.git("fsck", "--strict", name="large-copy.git")
+    again = repositories.stream_of("large-copy.git")
+    want(again.replace(EMPTY_TREE, b""), stream.replace(EMPTY_TREE, b""), "the second stream without the empty tree")
+    log = ("log", "--all", "--format=%H %T %P %s")
+    want(repositories.git(*log, name="large-copy.git"), repositories.git(*log, name="large.git"), "the log of the copy")
+    return f"{stream.count(b'object ')} objects, {len(stream)} bytes"
+
+
+def holds_what_git_holds(repositories):
+    """a kept folder's files are Git's objects and references, each under its own name"""
+    place = large_store(repositories)
+    objects = os.path.join(place, "objects")
+    found = {}
+    for name in os.listdir(objects):
+        with open(os.path.join(objects, name), "rb") as file:
+            text = file.read()
+        want(hashlib.sha256(text).hexdigest(), name, "the id of an object's file")
+        found[name] = text.partition(b"\0")[0].decode()
+    listing = repositories.git("cat-file", "--batch-all-objects", "--batch-check", name="large.git").decode()
+    want(found, dict(line.split(" ", 1) for line in listing.splitlines()), "the objects by id, with kind and size")
+    references = {b"refs/" + name: text for name, text in files_below(os.path.join(place, "refs")).items() if text}
+    listing = repositories.git("for-each-ref", "--format=%(refname) %(objectname)", name="large.git")
+    wanted = dict(line.split(b" ") for line in listing.splitlines())
+    want(references, {name: value + b"\n" for name, value in wanted.items()}, "the references' files")
+    want(sorted(os.listdir(place)), ["objects", "refs"], "what is in the folder")
+
+
+def judges_a_folder(repositories):
+    """verify-ref prints the same of a kept folder as of its stream"""
+    stream, place = repositories.large_stream(), large_store(repositories)
+    before = files_below(place)
+    for name in (b"refs/heads/main", UNUSUAL_NAME, LONGEST_NAME, b"refs/heads/absent"):
+        tip = repositories.git("for-each-ref", "--format=%(objectname)", name, name="large.git").decode().strip()
+        line = f"tip-differs %s kept {tip} recorded {ZEROS}\n" if tip else "accepted %s 0 entries\n"
+        told = line.encode() % name
+        status = 1 if tip else 0
+        want_run(command(place, "verify-ref", name), status, told)
+        want_run((LAUNCHER, "-", "-", "verify-ref", name, "--stdin"), status, told, input=stream)
+    expect_same(place, before)
+
+
+def imports_once(repositories):
+    """a second import into the same folder is refused, and changes nothing"""
+    place, objects = small_store(repositories, "imported twice")
+    before = files_below(place)
+    for stream in (stream_of(objects, []), repositories.large_stream(), HEADER + END, b""):
+        want_run(command(place, "import"), 3, b"", b"stream 8\n", input=stream)
+        expect_same(place, before)
+
+
+def refuses_streams(repositories):
+    """a refused stream leaves no object and no reference in a new folder"""
+    stream = repositories.large_stream()
+    _, objects = small_store(repositories, "three objects")
+    first, text = objects[0]
+    whole, reference = stream_of(objects, []), (b"refs/heads/main", first.encode())
+    refusals = [
+        (b"stream 1\n", b"gittuf-stream 2\nend\n"),
+        (b"stream 1\n", stream + b"\n"),
+        (b"stream 2\n", stream.replace(b"A project", b"a project", 1)),
+        (b"stream 3\n", stream_of(objects[::-1], [])),
+        (b"stream 3\n", stream_of(objects, [reference, reference])),
+        (b"stream 4\n", HEADER + b"object %s blob %d\n" % (first.encode(), (16 << 20) + 1)),
+        (b"stream 5\n", stream[: len(stream) // 2]),
+        (b"stream 5\n", stream[:-1]),
+        (b"stream 5\n", whole[: len(HEADER + record(text, first)) + 20]),
+        (b"stream 5\n", b""),
+    ]
+    for number, (line, it) in enumerate(refusals):
+        place = repositories.path(f"refused {number}")
+        want_run(command(place, "import"), 3, b"", line, input=it)
+        left = [path for path, text in files_below(place).items() if text is not None]
+        want(left, [], f"the files in the folder of {line.decode().strip()}")
+        # The folder takes a whole stream afterwards.
+        want_run(command(place, "import"), 0, IMPORTED, input=whole)
+        want_run(command(place, "export"), 0, whole)
+
+
+def tells_damage(repositories):
+    """export names the first object that is damaged, and prints what comes before it, which is no whole stream"""
+    place, objects = small_store(repositories, "damaged objects")
+    write(place, f"objects/{objects[2][0]}", objects[1][1])
+    before = HEADER + b"".join(record(text, object_id) for object_id, text in objects[:2])
+    want_run(command(place, "export"), 3, before, f"object {objects[2][0]}\n".encode())
+    write(place, f"objects/{ZEROS}", b"blob 0\0")
+    want_run(command(place, "export"), 3, HEADER, f"object {ZEROS}\n".encode())
+    repositories.needed()
+    want_refusal((STREAM_TO_GIT, repositories.path("never.git")), b"cut after", input=before)
+
+
+def tells_faults(repositories):
+    """a missing folder and a file of another form are faults"""
+    missing = repositories.path("missing")
+    for words in (("verify-ref", "refs/heads/main"), ("export",)):
+        want_run(command(missing, *words), 4, b"", b"fault\n")
+        if os.path.lexists(missing):
+            raise Failure(f"{words[0]} made the folder that was missing")
+    place, objects = small_store(repositories, "other forms")
+    object_id, text = objects[0]
+    for other in (b"", text[:-1], text + b"\n", b"blob 00\0", b"word 0\0", b"blob 0", b"blob 1 \0a"):
+        write(place, f"objects/{object_id}", other)
+        want_run(command(place, "export"), 4, HEADER, b"fault\n")
+    write(place, f"objects/{object_id}", text)
+    for other in (b"", object_id.encode(), object_id.encode() + b"\n\n", object_id.upper().encode() + b"\n"):
+        write(place, "refs/heads/main", other)
+        want_run(command(place, "verify-ref", "refs/heads/main"), 4, b"", b"fault\n")
+
+
+def tells_failing_streams(repositories):
+    """a full or closed standard output, and a folder as standard input, are faults"""
+    place, _ = small_store(repositories, "failing streams")
+    before = files_below(place)
+    export, judge = command(place, "export"), command(place, "verify-ref", "refs/heads/main")
+    for redirection, words in (
+        ("> /dev/full", export),
+        ("> /dev/full", judge),
+        (">&-", export),
+        (">&-", judge),
+        ("< /", (LAUNCHER, "-", "-", "verify-ref", "refs/heads/main", "--stdin")),
+        ("< /", (LAUNCHER, "-", "-", "import")),
+        ("<&-", (LAUNCHER, "-", "-", "import")),
+    ):
+        want_run(("sh", "-c", f'exec "$@" {redirection}', "sh", *words), 4, b"", b"fault\n")
+    expect_same(place, before)
+
+
+def is_no_store(place):
+    """Holds each command over a folder to a fault that changes nothing there."""
+    before = files_below(place)
+    for words in (("verify-ref", "refs/heads/main"), ("export",), ("import",)):
+        want_run(command(place, *words), 4, b"", b"fault\n", input=HEADER + END)
+        expect_same(place, before)
+
+
+def refuses_half_a_store(repositories):
+    """a folder that an import left half made is no store"""
+    place = repositories.path("half made")
+    _, objects = small_store(repositories, "of the half made")
+    target = objects[0][0].encode()
+    # In a folder a reference's name cannot also be that of a folder above another.
+    both = stream_of(objects, [(b"refs/heads/a", target), (b"refs/heads/a/b", target)])
+    want_run(command(place, "import"), 4, b"", b"fault\n", input=both)
+    is_no_store(place)
+
+
+def refuses_other_folders(repositories):
+    """a Git repository and a folder of other things are no stores"""
+    place = repositories.path("other things")
+    write(place, "notes", b"text")
+    is_no_store(place)
+    is_no_store(os.path.join(repositories.needed(), ".git"))
+
+
+def refuses_words(repositories):
+    """words outside the grammar are refused before the folder is looked at, and make none"""
+    place = repositories.path("never made")
+    for words in ((), ("word",), ("import", "more"), ("export", "--stdin"), ("verify-ref",), ("verify-ref", "main")):
+        want_run(command(place, *words), 2, b"", b"words refused\n", input=HEADER + END)
+        if os.path.lexists(place):
+            raise Failure(f"a folder was made for the words {' '.join(words)}")
+
+
+def passes_over_other_files(repositories):
+    """export and verify-ref pass over files with other names"""
+    place, objects = small_store(repositories, "other names")
+    target = objects[1][0]
+    others = ("objects/README", f"objects/{target}.lock", f"objects/{target.upper()}", "refs/heads/main.lock", "HEAD")
+    for name in others:
+        write(place, name, b"anything")
+    os.mkdir(os.path.join(place, "refs", "heads", "empty"))
+    want_run(command(place, "export"), 0, stream_of(objects, [(b"refs/heads/main", target.encode())]))
+    told = f"tip-differs refs/heads/main kept {target} recorded {ZEROS}\n".encode()
+    want_run(command(place, "verify-ref", "refs/heads/main"), 1, told)
+    shutil.rmtree(place)
+
+
+CHECKS = (
+    has_all_kinds,
+    goes_through_a_folder,
+    holds_what_git_holds,
+    judges_a_folder,
+    imports_once,
+    refuses_streams,
+    tells_damage,
+    tells_faults,
+    tells_failing_streams,
+    refuses_half_a_store,
+    refuses_other_folders,
+    refuses_words,
+    passes_over_other_files,
+)

@@ -1,0 +1,67 @@
+"""What the checks of tools/check share: running programs, and holding what they do to what is wanted."""
+
+import os
+import subprocess
+
+TOP = os.path.dirname(os.path.dirname(os.path.realpath(__file__)))
+LAUNCHER = os.path.join(TOP, "gittuf")
+PROGRAM = os.path.join(TOP, "crates", "gittuf", "out", "gittuf")
+GIT_TO_STREAM = os.path.join(TOP, "tools", "git-to-stream")
+STREAM_TO_GIT = os.path.join(TOP, "tools", "stream-to-git")
+EMPTY_STREAM = os.path.join(TOP, "examples", "empty.stream")
+EMPTY_TREE = b"object 6ef19b41225c5369f1c104d45d8d85efa9b057b53b14b4b9b939dd74decc5321 tree 0\n\n"
+ZEROS = "0" * 64
+# The first call may build the program, and no other takes long.
+SECONDS = 120
+
+
+class Failure(Exception):
+    """What was found in place of what a check wants."""
+
+
+class Skip(Exception):
+    """Why a check cannot be made here."""
+
+
+def run(*words, input=b"", folder=None, builds=False):
+    """Runs a program to its end, and returns its status, its output and, where nothing is built, its errors."""
+    errors, most = (None, None) if builds else (subprocess.PIPE, SECONDS)
+    try:
+        ran = subprocess.run(words, input=input, cwd=folder, stdout=subprocess.PIPE, stderr=errors, timeout=most)
+    except subprocess.TimeoutExpired:
+        raise Failure(f"{os.path.basename(words[0])} did not end in {SECONDS} seconds") from None
+    return ran.returncode, ran.stdout, ran.stderr
+
+
+def short(found):
+    """A value for the line of a failure, cut where it is long."""
+    found = repr(found)
+    return found if len(found) <= 400 else f"{found[:400]}.."
+
+
+def want(found, wanted, what):
+    if found == wanted:
+        return
+    where = ""
+    if isinstance(found, bytes) and isinstance(wanted, bytes):
+        place = len(os.path.commonprefix([found, wanted]))
+        where = f", which differ at byte {place}"
+        found, wanted = found[max(place - 80, 0) :], wanted[max(place - 80, 0) :]
+    raise Failure(f"{what}: found {short(found)}, and wanted is {short(wanted)}{where}")
+
+
+def want_run(words, status, output=b"", errors=b"", **how):
+    """Runs a program, and holds its status and all that it wrote to what is wanted."""
+    found = run(*words, **how)
+    name = os.path.basename(words[0])
+    want(found[::2], (status, errors), f"the status and errors of {name}")
+    want(found[1], output, f"the output of {name}")
+
+
+def want_refusal(words, part, input=b""):
+    """Runs a tool that is to refuse its work in one line with this part."""
+    status, _, errors = run(*words, input=input)
+    tool = os.path.basename(words[0])
+    want(status, 1, f"the status of {tool}")
+    if not errors.startswith(f"{tool}: ".encode()) or part not in errors or errors.count(b"\n") != 1:
+        raise Failure(f"{tool} says {errors!r}, and one line with {part!r} is wanted")
