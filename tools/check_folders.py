@@ -194,7 +194,7 @@ def tells_damage(repositories):
 
 
 def tells_faults(repositories):
-    """a missing folder and a file of another form are faults"""
+    """a missing folder, a pipe and a file of another form are faults"""
     missing = repositories.path("missing")
     for words in (("verify-ref", "refs/heads/main"), ("export",)):
         want_run(command(missing, *words), 4, b"", b"fault\n")
@@ -205,6 +205,10 @@ def tells_faults(repositories):
     for other in (b"", text[:-1], text + b"\n", b"blob 00\0", b"word 0\0", b"blob 0", b"blob 1 \0a"):
         write(place, f"objects/{object_id}", other)
         want_run(command(place, "export"), 4, HEADER, b"fault\n")
+    os.remove(os.path.join(place, "objects", object_id))
+    os.mkfifo(os.path.join(place, "objects", object_id))
+    want_run(command(place, "export"), 4, HEADER, b"fault\n")
+    os.remove(os.path.join(place, "objects", object_id))
     write(place, f"objects/{object_id}", text)
     for other in (b"", object_id.encode(), object_id.encode() + b"\n\n", object_id.upper().encode() + b"\n"):
         write(place, "refs/heads/main", other)

@@ -2,5 +2,6 @@ mod Counting
 mod Digits
 mod Heads
 mod Ids
+mod NamesLeft
 mod Order
 mod Reading

@@ -1,3 +1,4 @@
 pub mod Counting
 pub mod Files
 pub mod Sorted
+pub mod Stores

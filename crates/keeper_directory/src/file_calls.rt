@@ -29,9 +29,13 @@ fn again<T, F: FnMut() -> io::Result<T>>(mut call: F) -> Result<T, FileFault>
     Err(FileFault::Failed)
 }
 
-/// The file at a path, to be read.
+/// The file at a path, to be read. What is neither file nor folder is not opened: a pipe would wait for its writer.
 pub fn open_file<R: Files>(rt: &R, path: &str) -> Result<R::File, FileFault> {
-    again(|| fs::open(rt, path))
+    match is_folder(rt, path)? {
+        Some(true) => Err(FileFault::IsFolder),
+        Some(false) => again(|| fs::open(rt, path)),
+        None => Err(FileFault::Failed),
+    }
 }
 
 /// An empty file at a path, to be written. Folders above it that are missing are made.

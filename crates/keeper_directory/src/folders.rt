@@ -5,10 +5,11 @@ use crate::file_calls::{
     rename, write_parts,
 };
 use crate::file_faults::FileFault;
-use crate::listings::{Found, ids_among, look_into, may_be_kept};
+use crate::listings::{Found, ids_among, look_into};
 use crate::object_files::{make_object_text, read_object};
 use crate::places::Places;
 use crate::ref_files::{append_ref_text, name_text, read_id};
+use crate::stores::may_be_kept;
 use git_object::{Object, ObjectId, RefName};
 use keeper_api::{Change, RefValue};
 use octets::Copied;

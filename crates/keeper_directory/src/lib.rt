@@ -18,6 +18,7 @@ mod object_files;
 mod places;
 mod ref_files;
 mod sorted_keys;
+mod stores;
 #[cfg(test)]
 mod tests;
 

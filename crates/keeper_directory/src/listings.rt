@@ -12,7 +12,7 @@ use git_object::{Memory, ObjectId, RefFault, RefName};
 use std::alloc::Global;
 use std::rt::Files;
 use std::str;
-use text_reader::{same_bytes, split_at_zero};
+use text_reader::split_at_zero;
 
 /// Reference names that were found, and folders that are still to be looked into.
 #[derive(Drop)]
@@ -56,43 +56,6 @@ pub fn ids_among(alloc: Global, names: &[u8]) -> Result<Vec<ObjectId>, Memory> {
         rest = more;
     }
     Ok(ids)
-}
-
-// Whether one of the names, which are each followed by a zero byte, is this one.
-fn is_among(names: &[u8], wanted: &[u8]) -> bool {
-    let mut rest = names;
-    'names: while let Some((name, more)) = split_at_zero(rest) {
-        if same_bytes(name, wanted) {
-            return true;
-        }
-        rest = more;
-    }
-    false
-}
-
-// Whether the only names are those of the folder itself and of the one above it.
-fn is_empty(names: &[u8]) -> bool {
-    let mut rest = names;
-    'names: while let Some((name, more)) = split_at_zero(rest) {
-        if !same_bytes(name, b".") && !same_bytes(name, b"..") {
-            return false;
-        }
-        rest = more;
-    }
-    true
-}
-
-/// Whether the names in a folder, each followed by a zero byte, are those of one that may be a keeper's: no change
-/// is being made in it or was left half made, Git does not keep a repository of its own there, and it is empty or
-/// has one of the keeper's two folders.
-pub fn may_be_kept(names: &[u8]) -> bool {
-    if is_among(names, b"commit.lock") {
-        return false;
-    }
-    if is_among(names, b"HEAD") && is_among(names, b"config") {
-        return false;
-    }
-    is_empty(names) || is_among(names, b"objects") || is_among(names, b"refs")
 }
 
 // The name that a text is, or None where it is none.

@@ -1,0 +1,29 @@
+-- Which folders may be a store's, by the names of what is in them.
+use Rattle.std.specs.Prelude.{◌≡◌, ◌⊎◌, ◌++◌, ◌∷◌, [], ℕ, List, false, codes}
+use Rattle.std.specs.List.{AllByRecursion}
+use Rattle.text_reader.specs.Line.{has_byte}
+
+-- the text is that of these names, each followed by a zero byte, which none of them holds
+abbrev pub IsListing : List (List ℕ) → List ℕ → Type 0
+IsListing [] text = text ≡ []
+IsListing (name ∷ names) text = (rest : List ℕ) × (text ≡ name ++ 0 ∷ rest) × (has_byte 0 name ≡ false) × IsListing names rest
+
+-- a name is one of these
+abbrev pub IsOneOf : List ℕ → List (List ℕ) → Type 0
+IsOneOf name [] = ⊥
+IsOneOf name (other ∷ names) = (other ≡ name) ⊎ IsOneOf name names
+
+-- the name of a folder itself, or of the one above it
+abbrev pub IsDots : List ℕ → Type 0
+IsDots name = (name ≡ codes ".") ⊎ (name ≡ codes "..")
+
+-- there are only such names
+abbrev pub AreDots : List (List ℕ) → Type 0
+AreDots names = AllByRecursion IsDots names
+
+-- a folder with these names may be a store's: no change was left half made in it, it is no Git directory, and it is
+-- empty or has one of the store's two folders
+pub record MayBeKept (names : List (List ℕ)) : Type 0 where
+  pub whole : IsOneOf (codes "commit.lock") names → ⊥
+  pub not_git : IsOneOf (codes "HEAD") names → IsOneOf (codes "config") names → ⊥
+  pub own : AreDots names ⊎ (IsOneOf (codes "objects") names ⊎ IsOneOf (codes "refs") names)

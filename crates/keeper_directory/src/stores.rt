@@ -1,0 +1,56 @@
+//! Which folders may be a store's.
+
+ghost use Rattle.std.specs.Prelude.{◌↔◌, ℕ, List, IsTrue};
+ghost use Rattle.keeper_directory.specs.Stores.{AreDots, IsDots, IsListing, IsOneOf, MayBeKept};
+
+use text_reader::{same_bytes, split_at_zero};
+
+// Whether one of the names, which are each followed by a zero byte, is this one.
+fn is_among(names: &[u8], wanted: &[u8]) -> bool
+    ensures { (list : List (List ℕ)) → IsListing list names.now → IsTrue result ↔ IsOneOf wanted.now list }
+{
+    let mut rest = names;
+    'names: while let Some((name, more)) = split_at_zero(rest) {
+        if same_bytes(name, wanted) {
+            return true;
+        }
+        rest = more;
+    }
+    false
+}
+
+// Whether a name is that of a folder itself or of the one above it.
+fn is_dots(name: &[u8]) -> bool
+    ensures { IsTrue result ↔ IsDots name.now }
+{
+    same_bytes(name, b".") || same_bytes(name, b"..")
+}
+
+// Whether the only names are those of the folder itself and of the one above it.
+fn is_empty(names: &[u8]) -> bool
+    ensures { (list : List (List ℕ)) → IsListing list names.now → IsTrue result ↔ AreDots list }
+{
+    let mut rest = names;
+    'names: while let Some((name, more)) = split_at_zero(rest) {
+        if !is_dots(name) {
+            return false;
+        }
+        rest = more;
+    }
+    true
+}
+
+/// Whether the names in a folder, each followed by a zero byte, are those of one that may be a keeper's: no change
+/// is being made in it or was left half made, Git does not keep a repository of its own there, and it is empty or
+/// has one of the keeper's two folders.
+pub fn may_be_kept(names: &[u8]) -> bool
+    ensures { (list : List (List ℕ)) → IsListing list names.now → IsTrue result ↔ MayBeKept list }
+{
+    if is_among(names, b"commit.lock") {
+        return false;
+    }
+    if is_among(names, b"HEAD") && is_among(names, b"config") {
+        return false;
+    }
+    is_empty(names) || is_among(names, b"objects") || is_among(names, b"refs")
+}
