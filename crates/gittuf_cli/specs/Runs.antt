@@ -1,7 +1,7 @@
 -- What a run of a command does to the objects outside.
 use Rattle.std.specs.Prelude.{◌≡◌, ◌≤◌, ◌⊎◌, ℕ, List, Option, Some, Result, Ok, Err, Bool, IsTrue, codes}
 use Rattle.octets.specs.Causes.{Rose}
-use Rattle.octets.specs.Content.{GainsPart, with_end}
+use Rattle.octets.specs.Content.{GainsPart, Stays, with_end}
 use Rattle.git_object.specs.Repository.{Repository}
 use Rattle.clone_stream.specs.Exporting.{Exports, RefusesExport}
 use Rattle.clone_stream.specs.declared.export_faults.ExportFault.{ExportFault}
@@ -64,7 +64,7 @@ DeclinesVerdict name stdin before after NotBuiltLog = FindsLog stdin before.insi
 DeclinesVerdict name stdin before after (Object id) = ⊥
 DeclinesVerdict name stdin before after TooLarge = ⊥
 DeclinesVerdict name stdin before after Fault = StopsJudging name stdin before after × HasFault before after
-DeclinesVerdict name stdin before after Memory = StopsJudging name stdin before after
+DeclinesVerdict name stdin before after Memory = MayOpen stdin before.inside after.inside × (after.printed ≡ before.printed)
 
 -- ---- import
 
@@ -86,7 +86,7 @@ DeclinesImport before after NotBuiltLog = ⊥
 DeclinesImport before after (Object id) = ⊥
 DeclinesImport before after TooLarge = ⊥
 DeclinesImport before after Fault = StopsImporting before after × HasFault before after
-DeclinesImport before after Memory = StopsImporting before after
+DeclinesImport before after Memory = Stays before.inside.held after.inside.held × (after.printed ≡ before.printed)
 
 -- ---- export
 

@@ -95,7 +95,7 @@ DeclinesTaking before after NotBuiltLog = ⊥
 DeclinesTaking before after (Object id) = ⊥
 DeclinesTaking before after TooLarge = ⊥
 DeclinesTaking before after Fault = MayTake before after
-DeclinesTaking before after Memory = MayTake before after
+DeclinesTaking before after Memory = Stays before.held after.held
 
 -- why no repository was opened: a stream was asked for, and none was taken
 abbrev pub DeclinesOpening : Bool → Inside → Inside → Refusal → Type 0

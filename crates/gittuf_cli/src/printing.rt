@@ -1,6 +1,6 @@
 //! Writing a text to the sink of answers.
 
-ghost use Rattle.std.specs.Prelude.{◌≡◌, OnOk, OnErr};
+ghost use Rattle.std.specs.Prelude.{◌≡◌, IsErrOf, OnOk, OnErr};
 ghost use Rattle.octets.specs.Causes.{IsCaused};
 ghost use Rattle.octets.specs.Content.{GainsPart, with_end};
 
@@ -11,6 +11,7 @@ use edge_io::{Sink, write_all};
 pub(crate) fn print<K: Sink>(text: &[u8], sink: &mut K) -> Result<(), Stop>
     ensures whole { OnOk result (K.contents sink.new ≡ with_end (K.contents sink.old) text.now) }
     ensures part { OnErr result (GainsPart (K.contents sink.old) (K.contents sink.new) text.now) }
+    ensures only { IsErrOf result Stop.Memory → ⊥ }
     ensures cause { IsCaused Stop.Fault (K.faults sink.old) (K.faults sink.new) result }
 {
     match write_all(sink, text) {

@@ -50,6 +50,7 @@ fn look<S: Source, R: Keeper>(
 fn tell<K: Sink>(alloc: Global, name: &RefName, verdict: &Verdict, sink: &mut K) -> Result<(), Stop>
     ensures whole { OnOk result (K.contents sink.new ≡ with_end (K.contents sink.old) (line name.now verdict.now)) }
     ensures part { OnErr result ((K.contents sink.new ≡ K.contents sink.old) ⊎ GainsPart (K.contents sink.old) (K.contents sink.new) (line name.now verdict.now)) }
+    ensures unprinted { IsErrOf result Stop.Memory → K.contents sink.new ≡ K.contents sink.old }
     ensures cause { IsCaused Stop.Fault (K.faults sink.old) (K.faults sink.new) result }
 {
     let text = line_of(alloc, name, verdict)?;
