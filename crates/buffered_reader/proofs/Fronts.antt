@@ -171,10 +171,6 @@ none_buffered (x ∷ b) taken limit limited full = absurd (omega arith)
 
 -- ---- pieces one after the other
 
-pub with_fronts : (a b : List ℕ) (told : Option (List ℕ)) → with_front a (with_front b told) ≡ with_front (a ++ b) told
-with_fronts a b None = refl
-with_fronts a b (Some rest) = ap Some (sym (append_assoc a b rest))
-
 -- what begins with a byte goes on
 pub goes_on : (told after : Option (List ℕ)) (bytes : List ℕ) → told ≡ with_front bytes after → 0 < length bytes → IfSome told (λ rest. rest ≢ [])
 goes_on told None bytes e some = subst (λ (o : Option (List ℕ)). IfSome o (λ rest. rest ≢ [])) (sym e) tt

@@ -5,7 +5,7 @@ use Rattle.std.specs.List.{AllByRecursion, flat_map}
 use Rattle.std.proofs.lemmas.List.{append-nil}
 use Rattle.octets.specs.Content.{with_front}
 use Rattle.buffered_reader.specs.Ahead.{Reading}
-use Rattle.buffered_reader.proofs.Fronts.{with_fronts}
+use Rattle.edge_io.proofs.Taken.{with_fronts}
 use Rattle.git_object.specs.Objects.{Pair, pair_id}
 use Rattle.git_object.proofs.Runs.{all_push, flat_push}
 use Rattle.keeper_api.specs.declared.changes.RefChange.{RefChange}

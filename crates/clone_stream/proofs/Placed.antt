@@ -3,7 +3,7 @@ use Rattle.std.proofs.Common.{◌≡◌, ℕ, ◌+◌, List, [], ◌∷◌, ◌+
 use Rattle.std.specs.Prelude.{decimal, IfErr, IfSome, Ok, Err, Result, ◌⊎◌}
 use Rattle.octets.specs.Content.{with_front}
 use Rattle.buffered_reader.specs.Ahead.{Reading}
-use Rattle.buffered_reader.proofs.Fronts.{with_fronts}
+use Rattle.edge_io.proofs.Taken.{with_fronts}
 use Rattle.clone_stream.specs.Breaks.{BreaksOrder, BreaksRecord, Last}
 use Rattle.clone_stream.specs.Reading.{Comes}
 use Rattle.clone_stream.specs.Records.{IsBroken, IsLate}

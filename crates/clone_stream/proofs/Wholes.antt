@@ -5,7 +5,7 @@ use Rattle.std.specs.List.{AllByRecursion, flat_map}
 use Rattle.std.specs.FinMap.{empty, entries}
 use Rattle.octets.specs.Content.{with_front}
 use Rattle.buffered_reader.specs.Ahead.{Reading}
-use Rattle.buffered_reader.proofs.Fronts.{with_fronts}
+use Rattle.edge_io.proofs.Taken.{with_fronts}
 use Rattle.git_object.specs.Objects.{Pair}
 use Rattle.git_object.specs.Repository.{empty_repository}
 use Rattle.keeper_api.specs.Changes.{changed, with_objects, with_refs}

@@ -1,6 +1,6 @@
 //! A source in memory.
 
-ghost use Rattle.std.specs.Prelude.{◌≡◌, ◌≤◌, ◌<◌, ◌++◌, ◌↔◌, [], length, take, IfOk, OnErr, IsErr, IsTrue, Some};
+ghost use Rattle.std.specs.Prelude.{◌≡◌, ◌≤◌, ◌<◌, ◌++◌, ◌↔◌, [], length, take, drop, min, IfOk, OnErr, IsErr, IsTrue, Some};
 ghost use Rattle.octets.specs.Causes.{HasCause};
 ghost use Rattle.octets.specs.Calls.{after_call, fails_next};
 
@@ -9,7 +9,7 @@ use octets::{FailingCalls, Octets};
 use std::marker::Model;
 
 /// Bytes in memory, of which each call gives as many as fit. It tells what is left, and fails at the calls
-/// that are listed and nowhere else.
+/// that are listed and nowhere else; then the buffer is as it was.
 #[derive(Drop)]
 pub struct MemSource {
     content: Octets,
@@ -59,7 +59,8 @@ fn copy_front(from: &[u8], to: &mut [u8]) -> usize
     ensures bound { result ≤ length to.new }
     ensures bytes { take result to.new ≡ take result from.now }
     ensures within { result ≤ length from.now }
-    ensures none { result ≡ 0 → 0 < length to.new → from.now ≡ [] }
+    ensures full { result ≡ min (length from.now) (length to.new) }
+    ensures rest { drop result to.new ≡ drop result to.old }
 {
     let count = from.len().min(to.len());
     let (front, _) = from.split_at(count);
@@ -79,6 +80,9 @@ impl Source for MemSource {
         ensures end { IfOk result (λ count. count ≡ 0 → 0 < length buf.new → self.old.left ≡ []) }
         ensures failed { OnErr result (self.new.left ≡ self.old.left) }
         ensures cause { HasCause self.old.calls.faults self.new.calls.faults result }
+        ensures full { IfOk result (λ count. count ≡ min (length self.old.left) (length buf.new)) }
+        ensures rest { IfOk result (λ count. drop count buf.new ≡ drop count buf.old) }
+        ensures untouched { OnErr result (buf.new ≡ buf.old) }
         ensures fails { IsErr result ↔ IsTrue (fails_next self.old.calls) }
         ensures counted { self.new.calls ≡ after_call self.old.calls }
     {

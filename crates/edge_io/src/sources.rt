@@ -2,9 +2,9 @@
 
 ghost use Rattle.std.specs.Prelude.{◌≡◌, ◌≤◌, ◌<◌, ℕ, List, [], length, take, IfOk, IfSome, OnErr, IsErrOf};
 ghost use Rattle.std.specs.declared.option.Option.{Option};
-ghost use Rattle.octets.specs.Causes.{Rose, HasCause};
+ghost use Rattle.octets.specs.Causes.{HasCause, IsCaused};
 ghost use Rattle.octets.specs.Content.{with_front};
-ghost use Rattle.edge_io.specs.Read.{IsAtEnd, HasMore};
+ghost use Rattle.edge_io.specs.Read.{IsAtEnd, HasMore, HasRead};
 
 use octets::{Memory, Octets};
 use std::alloc::Global;
@@ -61,15 +61,17 @@ pub trait Source {
         ensures cause { HasCause (faults self.old) (faults self.new) result };
 }
 
-/// Reads a source to its end. `TooLong` comes exactly where more than `max` bytes were there, `Failed` only
-/// where the source's faults rose. What was read is gone after a refusal.
+/// Reads a source to its end. `TooLong` comes exactly where more than `max` bytes were there, and then at most
+/// 4096 more than these were taken; `Failed` exactly where the source counted a fault. After `Failed` and want
+/// of memory at most `max` bytes were taken. What was taken is gone after a refusal.
 pub fn read_all<S: Source>(alloc: Global, source: &mut S, max: usize) -> Result<Octets, ReadFault>
     ensures bytes { IfOk result (λ bytes. S.left source.old ≡ with_front bytes (S.left source.new)) }
     ensures end { IfOk result (λ _. IsAtEnd (S.left source.new)) }
     ensures short { IfOk result (λ bytes. length bytes ≤ max) }
     ensures too_long { IsErrOf result ReadFault.TooLong → HasMore max (S.left source.old) (S.left source.new) }
-    ensures failed { IsErrOf result ReadFault.Failed → Rose (S.faults source.old) (S.faults source.new) }
-    ensures later { S.faults source.old ≤ S.faults source.new }
+    ensures failed { IsErrOf result ReadFault.Failed → HasRead max (S.left source.old) (S.left source.new) }
+    ensures memory { IsErrOf result ReadFault.Memory → HasRead max (S.left source.old) (S.left source.new) }
+    ensures cause { IsCaused ReadFault.Failed (S.faults source.old) (S.faults source.new) result }
 {
     let mut bytes = Octets::new(alloc);
     let mut buffer = [0; 4096];
@@ -78,9 +80,9 @@ pub fn read_all<S: Source>(alloc: Global, source: &mut S, max: usize) -> Result<
         if count == 0 {
             return Ok(bytes);
         }
-        bytes.append(&buffer[..count])?;
-        if bytes.len() > max {
+        if count > max - bytes.len() {
             return Err(ReadFault::TooLong);
         }
+        bytes.append(&buffer[..count])?;
     }
 }

@@ -21,6 +21,10 @@ after_call calls = record {
   faults = (if fails_next calls then one_more calls.faults else calls.faults);
 }
 
+-- what a call makes of it that fails for another cause than its number
+abbrev pub after_other : Calls → Calls
+after_other calls = record { listed = calls.listed; made = one_more calls.made; faults = calls.faults }
+
 -- one more fault
 abbrev pub with_fault : Calls → Calls
 with_fault calls = record { listed = calls.listed; made = calls.made; faults = one_more calls.faults }

@@ -1,20 +1,18 @@
--- When a fault may be answered: only where the count of faults of the object that was called rose.
-use Rattle.std.specs.Prelude.{ℕ, ◌+◌, ◌-◌, ◌^◌, ◌≤◌, min, Result, OnErr, IsErrOf}
+-- When a fault may be answered: where the count of faults of the object that was called rose, and only there.
+use Rattle.std.specs.Prelude.{ℕ, ◌≡◌, ◌+◌, ◌-◌, ◌^◌, ◌≤◌, min, Result, OnOk, OnErr, IsErrOf}
 
 -- one more, or the same at the end of the counter's type
 abbrev pub one_more : ℕ → ℕ
 one_more count = min (count + 1) (2 ^ 64 - 1)
 
--- a count of faults has risen, or stands at its end
-abbrev pub Rose : ℕ → ℕ → Type 0
-Rose before now = one_more before ≤ now
-
--- the count has not fallen, and it has risen where the call failed
+-- one fault was counted where the call failed, and none where it did not
 pub record HasCause {T E : Type 0} (before now : ℕ) (result : Result T E) : Type 0 where
   pub later : before ≤ now
-  pub failed : OnErr result (Rose before now)
+  pub quiet : OnOk result (now ≡ before)
+  pub failed : OnErr result (now ≡ one_more before)
 
--- the count has not fallen, and it has risen where the answer is this one refusal
+-- one fault was counted where the answer is this one refusal, and none where it is anything else
 pub record IsCaused {T E : Type 0} (fault : E) (before now : ℕ) (result : Result T E) : Type 0 where
   pub later : before ≤ now
-  pub failed : IsErrOf result fault → Rose before now
+  pub quiet : (IsErrOf result fault → ⊥) → now ≡ before
+  pub failed : IsErrOf result fault → now ≡ one_more before

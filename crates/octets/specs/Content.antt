@@ -1,5 +1,5 @@
 -- What an object holds that may tell it or not: None where it does not tell.
-use Rattle.std.specs.Prelude.{◌≡◌, ◌++◌, ℕ, List, Option, Some, None}
+use Rattle.std.specs.Prelude.{◌≡◌, ◌++◌, ◌<◌, ℕ, List, length, Option, Some, None}
 
 -- what there is where these bytes stand before it
 abbrev pub with_front : List ℕ → Option (List ℕ) → Option (List ℕ)
@@ -11,11 +11,12 @@ abbrev pub with_end : Option (List ℕ) → List ℕ → Option (List ℕ)
 with_end None bytes = None
 with_end (Some before) bytes = Some (before ++ bytes)
 
--- a front of the bytes was added at the end, and nothing else
+-- a front of the bytes was added at the end, but not all of them, and nothing else
 pub record GainsPart (before after : Option (List ℕ)) (bytes : List ℕ) : Type 0 where
   pub front : List ℕ
   pub rest : List ℕ
   pub whole : bytes ≡ front ++ rest
+  pub less : 0 < length rest
   pub gained : after ≡ with_end before front
 
 -- what is told now was told before, and the two are so related; telling may end and never begins

@@ -1,6 +1,7 @@
 //! Which calls of an object in memory fail, so that a test can have a fault where it wants one.
 
-ghost use Rattle.std.specs.Prelude.{◌≡◌, ◌≤◌, []};
+ghost use Rattle.std.specs.Prelude.{◌≡◌, ◌≤◌, [], IsTrue, false};
+ghost use Rattle.octets.specs.Causes.{one_more};
 
 use std::alloc::Global;
 use std::marker::Model;
@@ -22,7 +23,7 @@ impl Model for FailingCalls {
 }
 
 impl FailingCalls {
-    ghost use Rattle.octets.specs.Calls.{after_call, fails_next, with_fault};
+    ghost use Rattle.octets.specs.Calls.{after_call, after_other, fails_next, with_fault};
 
     /// Calls of which none fails and none was made. It takes no memory.
     pub fn none(alloc: Global) -> Self
@@ -46,24 +47,41 @@ impl FailingCalls {
         }
     }
 
+    /// Whether the next call is one that fails.
+    pub fn fails_next(&self) -> bool
+        ensures { result ≡ fails_next self.now }
+    {
+        self.listed.contains(&self.made.saturating_add(1))
+    }
+
     /// Counts a call, and tells whether it is one that fails.
     pub fn fails(&mut self) -> bool
         ensures answer { result ≡ fails_next self.old }
         ensures counted { self.new ≡ after_call self.old }
         ensures later { self.old.faults ≤ self.new.faults }
+        ensures quiet { result ≡ false → self.new.faults ≡ self.old.faults }
+        ensures risen { IsTrue result → self.new.faults ≡ one_more self.old.faults }
     {
+        let fails = self.fails_next();
         self.made = self.made.saturating_add(1);
-        let fails = self.listed.contains(&self.made);
         if fails {
             self.faults = self.faults.saturating_add(1);
         }
         fails
     }
 
+    /// Counts a call that fails for another cause than its number, of which no fault is counted.
+    pub fn count_other(&mut self)
+        ensures { self.new ≡ after_other self.old }
+    {
+        self.made = self.made.saturating_add(1);
+    }
+
     /// Counts a fault of the last call that is not among those listed.
     pub fn add_fault(&mut self)
         ensures counted { self.new ≡ with_fault self.old }
         ensures later { self.old.faults ≤ self.new.faults }
+        ensures risen { self.new.faults ≡ one_more self.old.faults }
     {
         self.faults = self.faults.saturating_add(1);
     }

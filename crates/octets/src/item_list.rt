@@ -1,6 +1,6 @@
 //! One list type for the items of every crate, which contracts see as the list itself.
 
-ghost use Rattle.std.specs.Prelude.{◌≡◌, ◌++◌, ◌∷◌, ◌==◌, [], List, length, slice_get, IfOk, OnOk, OnErr};
+ghost use Rattle.std.specs.Prelude.{◌≡◌, ◌++◌, ◌∷◌, ◌==◌, [], List, length, slice_get, IfOk, IsOk, OnOk, OnErr};
 ghost use Rattle.std.specs.Option.{option_copied};
 
 use crate::Memory;
@@ -79,9 +79,10 @@ impl<T: Drop> Items<T> {
 }
 
 impl<T: Copied> Items<T> {
-    /// An equal list.
+    /// An equal list. That of the empty list takes no memory.
     pub fn copy(&self) -> Result<Self, Memory>
-        ensures { IfOk result (λ list. list ≡ self.now) }
+        ensures same { IfOk result (λ list. list ≡ self.now) }
+        ensures free { length self.now ≡ 0 → IsOk result }
     {
         let mut items = Vec::new(*self.items.allocator());
         for item in self.as_slice() {

@@ -1,6 +1,6 @@
 //! A list of bytes that contracts see as the list itself.
 
-ghost use Rattle.std.specs.Prelude.{◌≡◌, ◌++◌, ◌∷◌, ◌==◌, [], ℕ, List, length, slice_get, IfOk, OnOk, OnErr};
+ghost use Rattle.std.specs.Prelude.{◌≡◌, ◌++◌, ◌∷◌, ◌==◌, [], ℕ, List, length, slice_get, IfOk, IsOk, OnOk, OnErr};
 ghost use Rattle.std.specs.Option.{option_copied};
 ghost use Rattle.std.specs.Ordering.{nat_cmp, as_partial_cmp};
 ghost use Rattle.std.specs.Bool.{nat_eq};
@@ -97,10 +97,11 @@ impl Octets {
         }
     }
 
-    /// Adds bytes at the end. After a refusal the list is as before.
+    /// Adds bytes at the end. After a refusal the list is as before. No byte takes no memory.
     pub fn append(&mut self, bytes: &[u8]) -> Result<(), Memory>
         ensures added { OnOk result (self.new ≡ self.old ++ bytes.now) }
         ensures same { OnErr result (self.new ≡ self.old) }
+        ensures free { length bytes.now ≡ 0 → IsOk result }
     {
         match self.bytes.extend_from_slice(bytes) {
             Ok(()) => Ok(()),

@@ -1,4 +1,4 @@
-use Rattle.std.proofs.Common.{◌≡◌, List, ℕ, ◌++◌, take, sym, ap, ◌∙◌, append_assoc, arith}
+use Rattle.std.proofs.Common.{◌≡◌, List, ℕ, ◌++◌, take, sym, ap, ◌∙◌, append_assoc}
 use Rattle.std.proofs.lemmas.List.{take-append-drop}
 use Rattle.octets.specs.Content.{with_end}
 use Rattle.edge_io.proofs.Parts.{with_ends}
@@ -17,5 +17,5 @@ pieces-preserved g c =
         before.1 ∙ ap (λ (r : List ℕ). front ++ r) whole ∙ sym (append_assoc front (take count rest) c.split_at.result.1.now),
         c.in_ok-count.ensures.bytes ∙ ap (λ (told : _). with_end told (take count rest)) before.2 ∙ with_ends (g.K.Sink.contents c.args.sink.now) front (take count rest),
       );
-      later = omega (arith, c.in_ok-count.ensures.cause.later, c.pieces.invariant.later);
+      quiet = c.in_ok-count.ensures.cause.quiet ∙ c.pieces.invariant.quiet;
     }

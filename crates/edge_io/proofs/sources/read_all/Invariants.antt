@@ -6,7 +6,7 @@ abbrev pub invariant-pieces : goal.invariant-pieces
 invariant-pieces g l = record {
   short : length l.bytes ≤ l.max;
   read : g.S.Source.left l.fn.source ≡ with_front l.bytes (g.S.Source.left l.source);
-  later : g.S.Source.faults l.fn.source ≤ g.S.Source.faults l.source;
+  quiet : g.S.Source.faults l.source ≡ g.S.Source.faults l.fn.source;
 }
 
 abbrev pub decreases-pieces : goal.decreases-pieces

@@ -3,7 +3,7 @@ use Rattle.std.proofs.lemmas.List.{length-append}
 use Rattle.std.proofs.Math.Seq.{take-append-add}
 use Rattle.octets.specs.Content.{with_front}
 use Rattle.buffered_reader.specs.Ahead.{ahead}
-use Rattle.buffered_reader.proofs.Fronts.{with_fronts}
+use Rattle.edge_io.proofs.Taken.{with_fronts}
 use Rattle.buffered_reader.proofs.reader.BufferedReader.fill.Goals as goal
 
 pub pieces-preserved : goal.pieces-preserved
@@ -23,5 +23,5 @@ pieces-preserved g c =
           ∙ ap (λ (k : ℕ). take (k + count) (front ++ c.read.new.out)) at);
       taken = omega (arith, c.in_ok-count.ensures.taken);
       limit = search rules;
-      later = search rules;
+      quiet = search rules;
     }

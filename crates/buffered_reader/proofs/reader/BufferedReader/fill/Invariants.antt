@@ -11,7 +11,7 @@ invariant-pieces g l = record {
   bytes : ahead l.fn.self (g.S.Source.left l.fn.source) ≡ with_front (take l.at l.out) (ahead l.self (g.S.Source.left l.source));
   taken : l.self.taken ≡ l.fn.self.taken + l.at;
   limit : l.self.limit ≡ l.fn.self.limit;
-  later : g.S.Source.faults l.fn.source ≤ g.S.Source.faults l.source;
+  quiet : g.S.Source.faults l.source ≡ g.S.Source.faults l.fn.source;
 }
 
 abbrev pub decreases-pieces : goal.decreases-pieces

@@ -3,7 +3,8 @@ use Rattle.std.specs.Prelude.{Option}
 use Rattle.octets.specs.Content.{with_front}
 use Rattle.buffered_reader.specs.Ahead.{ahead}
 use Rattle.buffered_reader.specs.Bytes.{bytes_of}
-use Rattle.buffered_reader.proofs.Fronts.{too_long, with_fronts}
+use Rattle.edge_io.proofs.Taken.{with_fronts}
+use Rattle.buffered_reader.proofs.Fronts.{too_long}
 use Rattle.buffered_reader.proofs.reader.BufferedReader.line.Goals as goal
 
 pub returns-then-len-eq399-clause-long : goal.returns-then-len-eq399-clause-long

@@ -12,7 +12,7 @@ invariant-bytes g l = record {
   bytes : ahead l.fn.self (g.S.Source.left l.fn.source) ≡ with_front l.line (ahead l.self (g.S.Source.left l.source));
   taken : l.self.taken ≡ l.fn.self.taken + length l.line;
   limit : l.self.limit ≡ l.fn.self.limit;
-  later : g.S.Source.faults l.fn.source ≤ g.S.Source.faults l.source;
+  quiet : g.S.Source.faults l.source ≡ g.S.Source.faults l.fn.source;
 }
 
 abbrev pub decreases-bytes : goal.decreases-bytes
