@@ -57,7 +57,7 @@ impl BufferedReader {
     }
 
     /// Takes so many bytes, which go into a buffer of their own. `Cut` comes exactly where fewer are ahead, and
-    /// then all of them were taken. `Failed` comes only where the source's faults rose, and then fewer were
+    /// then all of them were taken. `Failed` comes exactly where the source counted a fault, and then fewer were
     /// taken, and nothing is buffered.
     pub fn exact<S: Source>(
         &mut self,

@@ -12,6 +12,7 @@ part_first o n a b part = record {
   front = part.front;
   rest = part.rest ++ b;
   whole = ap (λ (t : List ℕ). t ++ b) part.whole ∙ append_assoc part.front part.rest b;
+  less = omega (arith, part.less, length-append part.rest b);
   gained = part.gained;
 }
 
@@ -21,6 +22,7 @@ part_then o m n a b first part = record {
   front = a ++ part.front;
   rest = part.rest;
   whole = ap (λ (t : List ℕ). a ++ t) part.whole ∙ sym (append_assoc a part.front part.rest);
+  less = part.less;
   gained = part.gained ∙ ap (λ (p : Option (List ℕ)). with_end p part.front) first ∙ with_ends o a part.front;
 }
 

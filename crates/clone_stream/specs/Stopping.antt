@@ -1,6 +1,6 @@
 -- Where reading stands after a break.
 use Rattle.std.specs.Prelude.{◌≡◌, ◌+◌, [], ℕ, List, length, Option}
-use Rattle.octets.specs.Causes.{Rose}
+use Rattle.octets.specs.Causes.{one_more}
 use Rattle.octets.specs.Content.{with_front}
 use Rattle.buffered_reader.specs.Ahead.{Reading}
 use Rattle.clone_stream.specs.declared.stream_faults.Break.{Break}
@@ -23,12 +23,12 @@ StopsAt was now before after (Cut p) = p ≡ now.taken
 StopsAt was now before after (Failed p) = FailsAt was now before after p
 StopsAt was now before after Memory = Unit {0}
 
--- a fault of the source is answered only where it was counted
+-- one fault of the source was counted where it is answered, and none elsewhere
 abbrev pub IsCausedAt : ℕ → ℕ → Break → Type 0
-IsCausedAt before now (BadLine p) = Unit {0}
-IsCausedAt before now (IdDiffers id found) = Unit {0}
-IsCausedAt before now (Order p) = Unit {0}
-IsCausedAt before now (TooLarge limit) = Unit {0}
-IsCausedAt before now (Cut p) = Unit {0}
-IsCausedAt before now (Failed p) = Rose before now
-IsCausedAt before now Memory = Unit {0}
+IsCausedAt before now (BadLine p) = now ≡ before
+IsCausedAt before now (IdDiffers id found) = now ≡ before
+IsCausedAt before now (Order p) = now ≡ before
+IsCausedAt before now (TooLarge limit) = now ≡ before
+IsCausedAt before now (Cut p) = now ≡ before
+IsCausedAt before now (Failed p) = now ≡ one_more before
+IsCausedAt before now Memory = now ≡ before

@@ -159,8 +159,8 @@ fn write_refs<K: Sink, R: Keeper>(
 
 /// Writes the stream of a keeper's repository: its one text. `Damaged` comes exactly where the object is the first
 /// that is kept damaged and what comes before its record is within 1 GiB, and `TooLarge` exactly where the text
-/// passes 1 GiB before that; nothing of a record goes out that would. `KeeperFailed` and `SinkFailed` come only
-/// where the faults of the keeper or the sink rose. After a refusal a front of the text went out, which has no
+/// passes 1 GiB before that; nothing of a record goes out that would. `KeeperFailed` and `SinkFailed` come exactly
+/// where the keeper or the sink counted a fault. After a refusal a front of the text went out, which has no
 /// damaged object in it. The keeper is as before.
 pub fn write_stream<K: Sink, R: Keeper>(
     alloc: Global,

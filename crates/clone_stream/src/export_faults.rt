@@ -16,9 +16,9 @@ pub enum ExportFault {
     Damaged { id: ObjectId },
     /// The stream has more than 1 GiB; the limit in bytes.
     TooLarge { limit: u64 },
-    /// The keeper failed. It comes only where the keeper's count of faults rose.
+    /// The keeper failed. It comes exactly where the keeper counted a fault.
     KeeperFailed,
-    /// The sink failed. It comes only where the sink's count of faults rose.
+    /// The sink failed. It comes exactly where the sink counted a fault.
     SinkFailed,
     Memory,
 }

@@ -1,7 +1,6 @@
 //! Reading the line and the body of a record.
 
 ghost use Rattle.std.specs.Prelude.{◌≡◌, ◌≤◌, ◌+◌, ◌++◌, ◌∷◌, [], length, decimal, IfOk, IfErr, IfSome, OnOk};
-ghost use Rattle.octets.specs.Causes.{Rose};
 ghost use Rattle.octets.specs.Content.{with_front};
 ghost use Rattle.buffered_reader.specs.Ahead.{ahead, past};
 ghost use Rattle.git_object.specs.Objects.{pair_id};
@@ -32,6 +31,7 @@ pub fn next_words<S: Source>(
     ensures past { past reader.new (S.left source.new) ≡ past reader.old (S.left source.old) }
     ensures limit { reader.new.limit ≡ reader.old.limit }
     ensures later { S.faults source.old ≤ S.faults source.new }
+    ensures quiet { OnOk result (S.faults source.new ≡ S.faults source.old) }
     ensures cause { IfErr result (IsCausedAt (S.faults source.old) (S.faults source.new)) }
 {
     let at = reader.taken();
@@ -59,6 +59,7 @@ fn next_body<S: Source>(
     ensures past { past reader.new (S.left source.new) ≡ past reader.old (S.left source.old) }
     ensures limit { reader.new.limit ≡ reader.old.limit }
     ensures later { S.faults source.old ≤ S.faults source.new }
+    ensures quiet { OnOk result (S.faults source.new ≡ S.faults source.old) }
     ensures cause { IfErr result (IsCausedAt (S.faults source.old) (S.faults source.new)) }
 {
     let body = match reader.exact(alloc, source, head.size as usize) {
@@ -99,6 +100,7 @@ pub fn next_object<S: Source>(
     ensures past { past reader.new (S.left source.new) ≡ past reader.old (S.left source.old) }
     ensures limit { reader.new.limit ≡ reader.old.limit }
     ensures later { S.faults source.old ≤ S.faults source.new }
+    ensures quiet { OnOk result (S.faults source.new ≡ S.faults source.old) }
     ensures cause { IfErr result (IsCausedAt (S.faults source.old) (S.faults source.new)) }
 {
     let id = head.id;

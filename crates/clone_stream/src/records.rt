@@ -96,6 +96,7 @@ fn object_after<S: Source>(
     ensures past { past reader.new (S.left source.new) ≡ past reader.old (S.left source.old) }
     ensures limit { reader.new.limit ≡ reader.old.limit }
     ensures later { S.faults source.old ≤ S.faults source.new }
+    ensures quiet { OnOk result (S.faults source.new ≡ S.faults source.old) }
     ensures cause { IfErr result (IsCausedAt (S.faults source.old) (S.faults source.new)) }
 {
     if !may_come(objects, refs, &head.id) {
@@ -136,6 +137,7 @@ pub fn next_record<S: Source>(
     ensures past { past reader.new (S.left source.new) ≡ past reader.old (S.left source.old) }
     ensures limit { reader.new.limit ≡ reader.old.limit }
     ensures later { S.faults source.old ≤ S.faults source.new }
+    ensures quiet { OnOk result (S.faults source.new ≡ S.faults source.old) }
     ensures cause { IfErr result (IsCausedAt (S.faults source.old) (S.faults source.new)) }
 {
     let at = reader.taken();
@@ -169,6 +171,7 @@ pub fn read_records<S: Source>(
     ensures past { past reader.new (S.left source.new) ≡ past reader.old (S.left source.old) }
     ensures limit { reader.new.limit ≡ reader.old.limit }
     ensures later { S.faults source.old ≤ S.faults source.new }
+    ensures quiet { OnOk result (S.faults source.new ≡ S.faults source.old) }
     ensures cause { IfErr result (IsCausedAt (S.faults source.old) (S.faults source.new)) }
 {
     let mut objects = Objects::new(alloc);

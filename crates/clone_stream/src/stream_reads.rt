@@ -33,6 +33,7 @@ fn read_header<S: Source>(reader: &mut BufferedReader, source: &mut S) -> Result
     ensures past { past reader.new (S.left source.new) ≡ past reader.old (S.left source.old) }
     ensures limit { reader.new.limit ≡ reader.old.limit }
     ensures later { S.faults source.old ≤ S.faults source.new }
+    ensures quiet { OnOk result (S.faults source.new ≡ S.faults source.old) }
     ensures cause { IfErr result (IsCausedAt (S.faults source.old) (S.faults source.new)) }
 {
     let line = match reader.line(source) {
@@ -53,6 +54,7 @@ fn read_end<S: Source>(reader: &mut BufferedReader, source: &mut S) -> Result<()
     ensures past { past reader.new (S.left source.new) ≡ past reader.old (S.left source.old) }
     ensures limit { reader.new.limit ≡ reader.old.limit }
     ensures later { S.faults source.old ≤ S.faults source.new }
+    ensures quiet { OnOk result (S.faults source.new ≡ S.faults source.old) }
     ensures cause { IfErr result (IsCausedAt (S.faults source.old) (S.faults source.new)) }
 {
     match reader.byte(source) {
@@ -77,6 +79,7 @@ fn read_parts<S: Source>(
     ensures past { past reader.new (S.left source.new) ≡ past reader.old (S.left source.old) }
     ensures limit { reader.new.limit ≡ reader.old.limit }
     ensures later { S.faults source.old ≤ S.faults source.new }
+    ensures quiet { OnOk result (S.faults source.new ≡ S.faults source.old) }
     ensures cause { IfErr result (IsCausedAt (S.faults source.old) (S.faults source.new)) }
 {
     match read_header(reader, source) {

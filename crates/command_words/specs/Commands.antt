@@ -1,5 +1,5 @@
 -- The words of each command.
-use Rattle.std.specs.Prelude.{◌≡◌, ◌≢◌, ◌∷◌, ℕ, Bool, List, Some, codes}
+use Rattle.std.specs.Prelude.{◌≡◌, ◌≢◌, ◌∷◌, ℕ, Bool, List, Option, Some, codes}
 use Rattle.clap.specs.Simple.{App, with_rule}
 use Rattle.git_object.specs.Names.{IsRefName, log_name}
 use Rattle.command_words.specs.Grammars.{Takes, bare_app, flag_rule, is_given, positional_rule, value_of}
@@ -16,6 +16,12 @@ pub record Begins (first : List ℕ) (After : List (List ℕ) → Type 0) (words
 
 abbrev pub verify_ref_app : App
 verify_ref_app = with_rule (with_rule (bare_app (codes "verify-ref")) (positional_rule (codes "ref"))) (flag_rule (codes "stdin"))
+
+-- a value that is given is the name of a reference other than the log's own
+pub record IsAsked (given : Option (List ℕ)) (name : List ℕ) : Type 0 where
+  pub is : given ≡ Some name
+  pub is_name : IsRefName name
+  pub not_log : name ≢ log_name
 
 -- the words after the first: a reference other than the log's own, and whether the flag is given
 pub record AsksVerdict (name : List ℕ) (stdin : Bool) (words : List (List ℕ)) : Type 0 where

@@ -1,5 +1,5 @@
 -- Which command a first word names, and what the words after it ask for.
-use Rattle.std.specs.Prelude.{◌≡◌, ℕ, List, codes}
+use Rattle.std.specs.Prelude.{◌≡◌, ◌∷◌, ℕ, List, codes}
 use Rattle.command_words.specs.Commands.{AsksVerdict}
 use Rattle.command_words.specs.Grammars.{Takes, bare_app}
 use Rattle.command_words.specs.declared.commands.Command.{Command}
@@ -11,6 +11,12 @@ abbrev pub name_text : CommandName → List ℕ
 name_text name.VerifyRef = codes "verify-ref"
 name_text name.Export = codes "export"
 name_text name.Import = codes "import"
+
+-- the first word is the name of a command
+pub record AreNamed (words : List (List ℕ)) : Type 0 where
+  pub first : CommandName
+  pub rest : List (List ℕ)
+  pub are : words ≡ name_text first ∷ rest
 
 abbrev pub name_of : Command → CommandName
 name_of (VerifyRef reference stdin) = name.VerifyRef

@@ -1,14 +1,12 @@
 //! What the commands share of `clap`: building a command, taking words, and the values of an argument.
 
-ghost use Rattle.std.specs.Prelude.{◌≡◌, ℕ, List, Some, true, false, map, option_map, string_bytes, IfOk, IsErrOf, OnOk};
+ghost use Rattle.std.specs.Prelude.{◌≡◌, true, false, map, option_map, string_bytes, IfOk, IsErrOf, OnOk};
 ghost use Rattle.clap.specs.Words.{app_of, first_of, found_of, is_simple_and_free, matches_of, rows_of, rule_of, with_rule};
-ghost use Rattle.git_object.specs.Names.{IsRefName};
 ghost use Rattle.command_words.specs.Grammars.{Takes, bare_app, flag_rule, is_yes, positional_rule};
 
 use crate::words_fault::WordsFault;
 use clap::error::ErrorKind;
 use clap::{Arg, ArgAction, ArgMatches, Command};
-use git_object::{RefFault, RefName};
 use std::alloc::{AllocError, Global};
 
 /// A command with no argument yet, without flags for help and version.
@@ -84,25 +82,5 @@ pub(crate) fn has_flag(matches: &ArgMatches, id: &str) -> bool
     match value_in(matches, id) {
         Some(text) => text == "true",
         None => false,
-    }
-}
-
-/// The reference name that is given for an argument. `Outside` comes where none is given, want of memory aside.
-pub(crate) fn ref_name_in(
-    alloc: Global,
-    matches: &ArgMatches,
-    id: &str,
-) -> Result<RefName, WordsFault>
-    ensures found { IfOk result (λ name. (first_of id.now (rows_of (found_of matches.now)) ≡ Some name) × IsRefName name) }
-    ensures outside { IsErrOf result WordsFault.Outside
-        → (name : List ℕ) → first_of id.now (rows_of (found_of matches.now)) ≡ Some name → IsRefName name → ⊥ }
-{
-    let Some(text) = value_in(matches, id) else {
-        return Err(WordsFault::Outside);
-    };
-    match RefName::read(alloc, text.as_bytes()) {
-        Ok(name) => Ok(name),
-        Err(RefFault::BadRef) => Err(WordsFault::Outside),
-        Err(RefFault::Memory) => Err(WordsFault::Memory),
     }
 }

@@ -2,7 +2,7 @@
 
 ghost use Rattle.std.specs.Prelude.{map, string_bytes, IfOk, IsErrOf};
 ghost use Rattle.command_words.specs.Commands.{IsCommand, IsNoCommand};
-ghost use Rattle.command_words.specs.FirstWords.{AsksFor, AsksForNone};
+ghost use Rattle.command_words.specs.FirstWords.{AreNamed, AsksFor, AsksForNone};
 
 use crate::commands::{Command, CommandName};
 use crate::first_words::{named, split_first};
@@ -32,10 +32,12 @@ fn read_rest(alloc: Global, first: CommandName, words: &[String]) -> Result<Comm
     }
 }
 
-/// The command that words ask for. `Outside` comes exactly where they ask for none, want of memory aside.
+/// The command that words ask for. `Outside` comes exactly where they ask for none, want of memory aside; want of
+/// memory comes only where the first word is the name of a command.
 pub fn read_command(alloc: Global, words: &[String]) -> Result<Command, WordsFault>
     ensures found { IfOk result (IsCommand (map string_bytes words.now)) }
     ensures outside { IsErrOf result WordsFault.Outside → IsNoCommand (map string_bytes words.now) }
+    ensures memory { IsErrOf result WordsFault.Memory → AreNamed (map string_bytes words.now) }
 {
     let Some((word, rest)) = split_first(words) else {
         return Err(WordsFault::Outside);

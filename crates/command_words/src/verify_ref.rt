@@ -1,17 +1,17 @@
 //! The words of `verify-ref`.
 
-ghost use Rattle.std.specs.Prelude.{◌≡◌, ◌↔◌, ℕ, Bool, List, map, string_bytes, IfOk, IsErrOf, IsTrue, OnOk};
-ghost use Rattle.clap.specs.Words.{app_of, found_of, matches_of, rows_of};
-ghost use Rattle.git_object.specs.Names.{log_name};
-ghost use Rattle.command_words.specs.Commands.{AsksVerdict, verify_ref_app};
+ghost use Rattle.std.specs.Prelude.{◌≡◌, ℕ, Bool, List, codes, map, string_bytes, IfOk, IsErrOf, OnOk};
+ghost use Rattle.clap.specs.Words.{app_of, first_of, found_of, matches_of, rows_of};
+ghost use Rattle.command_words.specs.Commands.{AsksVerdict, IsAsked, verify_ref_app};
 ghost use Rattle.command_words.specs.Grammars.{Takes};
 
 use crate::arguments::{
-    bare_command, flag, has_flag, positional, ref_name_in, take_words, with_argument,
+    bare_command, flag, has_flag, positional, take_words, value_in, with_argument,
 };
+use crate::first_words::is_word;
 use crate::words_fault::WordsFault;
 use clap::ArgMatches;
-use git_object::RefName;
+use git_object::{RefFault, RefName};
 use std::alloc::{AllocError, Global};
 
 /// The name of the reference that the reference state log's tip stands at.
@@ -36,10 +36,23 @@ fn take_verify_ref<'a>(alloc: Global, words: &'a [String]) -> Result<ArgMatches<
     take_words(command, words)
 }
 
-fn is_log_name(name: &RefName) -> bool
-    ensures { IsTrue result ↔ (name.now ≡ log_name) }
+// The reference whose verdict is asked for: any but the log's own. What is none is `Outside`, and takes no memory.
+fn reference_in(alloc: Global, matches: &ArgMatches) -> Result<RefName, WordsFault>
+    ensures found { IfOk result (IsAsked (first_of (codes "ref") (rows_of (found_of matches.now)))) }
+    ensures outside { IsErrOf result WordsFault.Outside → (name : List ℕ) → IsAsked (first_of (codes "ref") (rows_of (found_of matches.now))) name → ⊥ }
+    ensures memory { IsErrOf result WordsFault.Memory → (name : List ℕ) × IsAsked (first_of (codes "ref") (rows_of (found_of matches.now))) name }
 {
-    name.text() == LOG_NAME.as_bytes()
+    let Some(text) = value_in(matches, "ref") else {
+        return Err(WordsFault::Outside);
+    };
+    if is_word(text, LOG_NAME) {
+        return Err(WordsFault::Outside);
+    }
+    match RefName::read(alloc, text.as_bytes()) {
+        Ok(name) => Ok(name),
+        Err(RefFault::BadRef) => Err(WordsFault::Outside),
+        Err(RefFault::Memory) => Err(WordsFault::Memory),
+    }
 }
 
 /// The reference of which the words after `verify-ref` ask, and whether `--stdin` is given. `Outside` comes
@@ -53,9 +66,6 @@ pub(crate) fn read_verify_ref(
         → (name : List ℕ) (stdin : Bool) → AsksVerdict name stdin (map string_bytes words.now) → ⊥ }
 {
     let matches = take_verify_ref(alloc, words)?;
-    let name = ref_name_in(alloc, &matches, "ref")?;
-    if is_log_name(&name) {
-        return Err(WordsFault::Outside);
-    }
+    let name = reference_in(alloc, &matches)?;
     Ok((name, has_flag(&matches, "stdin")))
 }

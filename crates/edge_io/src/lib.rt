@@ -1,10 +1,10 @@
 //! The outside as traits: where bytes come from and where they go.
 //!
 //! This crate stands on `octets`. A crate above may rely on three things. An object that tells its bytes
-//! is read and written as told. A call answers `Failed` only where the object's count of faults rose, or
-//! stands at its end. And `write_all` wrote a front of the bytes where it failed. The forms in memory tell
-//! their bytes and fail at the calls that are listed; the forms over the standard library's readers and
-//! writers tell nothing and are the trusted edge.
+//! is read and written as told. A call that answers `Failed` counts one fault, and no other call counts any.
+//! And `write_all` wrote a front of the bytes, but not all, where it failed. The forms in memory tell their
+//! bytes and fail at the calls that are listed; the forms over the standard library's readers and writers tell
+//! nothing and are the trusted edge.
 
 #![tactic(auto)]
 

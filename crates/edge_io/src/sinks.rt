@@ -25,8 +25,8 @@ pub trait Sink {
         ensures cause { HasCause (faults self.old) (faults self.new) result };
 }
 
-/// Writes all bytes, in as many pieces as the sink takes. After `Failed`, which comes only where the sink's
-/// faults rose, a front of them went out. It takes no memory.
+/// Writes all bytes, in as many pieces as the sink takes. After `Failed`, which comes exactly where the sink
+/// counted a fault, a front of them went out, and not all. It takes no memory.
 pub fn write_all<K: Sink>(sink: &mut K, bytes: &[u8]) -> Result<(), Failed>
     ensures whole { OnOk result (K.contents sink.new ≡ with_end (K.contents sink.old) bytes.now) }
     ensures part { OnErr result (GainsPart (K.contents sink.old) (K.contents sink.new) bytes.now) }

@@ -52,10 +52,12 @@ impl RefName {
     /// The name that a text is. It begins with `refs/`, is UTF-8, has at most 255 bytes and at most 16
     /// components between slashes; no component is empty, begins with `.` or ends in `.lock`; it holds
     /// no `..`, no `@{`, no byte below 33 or of value 127 and none of `~ ^ : ? * [ \`, and does not end in `.`.
+    /// Memory is taken only for a name, so no other text is answered for want of it.
     pub fn read(alloc: Global, text: &[u8]) -> Result<RefName, RefFault>
         ensures found { IfOk result (λ name. name ≡ text.now) }
         ensures valid { IfOk result IsRefName }
         ensures bad { IsErrOf result RefFault.BadRef → IsRefName text.now → ⊥ }
+        ensures named { IsErrOf result RefFault.Memory → IsRefName text.now }
     {
         if !is_ref_name(text) {
             return Err(RefFault::BadRef);

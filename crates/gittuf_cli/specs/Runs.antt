@@ -1,16 +1,17 @@
 -- What a run of a command does to the objects outside.
 use Rattle.std.specs.Prelude.{◌≡◌, ◌≤◌, ◌⊎◌, ℕ, List, Option, Some, Result, Ok, Err, Bool, IsTrue, codes}
-use Rattle.octets.specs.Causes.{Rose}
+use Rattle.octets.specs.Causes.{one_more}
 use Rattle.octets.specs.Content.{GainsPart, Stays, with_end}
 use Rattle.git_object.specs.Repository.{Repository}
 use Rattle.clone_stream.specs.Exporting.{Exports, RefusesExport}
 use Rattle.clone_stream.specs.declared.export_faults.ExportFault.{ExportFault}
 use Rattle.clone_stream.specs.declared.export_faults.ExportFault.TheVariants as export
 use Rattle.command_words.specs.Commands.{IsCommand, IsNoCommand}
+use Rattle.command_words.specs.FirstWords.{AreNamed}
 use Rattle.command_words.specs.declared.commands.Command.{Command}
 use Rattle.command_words.specs.declared.commands.Command.TheVariants as command
 use Rattle.gittuf_cli.specs.Outcomes.{refusal_line, status_of}
-use Rattle.gittuf_cli.specs.Scenes.{Counts, HasFault, Inside, IsLeft, MayOpen, MayTake, Opens, RefusesStream, Scene, TakesStream}
+use Rattle.gittuf_cli.specs.Scenes.{Counts, Inside, IsCounted, IsLeft, MayOpen, MayTake, Opens, RefusesStream, Scene, TakesStream}
 use Rattle.gittuf_cli.specs.Verdicts.{HasLog, IsVerdict, line}
 use Rattle.gittuf_cli.specs.declared.refusals.Done.{Done}
 use Rattle.gittuf_cli.specs.declared.refusals.Done.TheVariants.{Judged, Exported, Imported}
@@ -63,7 +64,7 @@ DeclinesVerdict name stdin before after (Stream number) = IsTrue stdin × Refuse
 DeclinesVerdict name stdin before after NotBuiltLog = FindsLog stdin before.inside after.inside × (after.printed ≡ before.printed)
 DeclinesVerdict name stdin before after (Object id) = ⊥
 DeclinesVerdict name stdin before after TooLarge = ⊥
-DeclinesVerdict name stdin before after Fault = StopsJudging name stdin before after × HasFault before after
+DeclinesVerdict name stdin before after Fault = StopsJudging name stdin before after
 DeclinesVerdict name stdin before after Memory = MayOpen stdin before.inside after.inside × (after.printed ≡ before.printed)
 
 -- ---- import
@@ -85,7 +86,7 @@ DeclinesImport before after (Stream number) = RefusesStream before.inside after.
 DeclinesImport before after NotBuiltLog = ⊥
 DeclinesImport before after (Object id) = ⊥
 DeclinesImport before after TooLarge = ⊥
-DeclinesImport before after Fault = StopsImporting before after × HasFault before after
+DeclinesImport before after Fault = StopsImporting before after
 DeclinesImport before after Memory = Stays before.inside.held after.inside.held × (after.printed ≡ before.printed)
 
 -- ---- export
@@ -107,7 +108,7 @@ DeclinesExport before after (Stream number) = ⊥
 DeclinesExport before after NotBuiltLog = ⊥
 DeclinesExport before after (Object id) = Halts before after (export.Damaged id)
 DeclinesExport before after TooLarge = (limit : ℕ) × Halts before after (export.TooLarge limit)
-DeclinesExport before after Fault = (Halts before after export.KeeperFailed ⊎ Halts before after export.SinkFailed) × HasFault before after
+DeclinesExport before after Fault = (Halts before after export.KeeperFailed ⊎ Halts before after export.SinkFailed)
 DeclinesExport before after Memory = Halts before after export.Memory
 
 -- ---- every command
@@ -133,19 +134,19 @@ pub record RunsCommand (words : List (List ℕ)) (before after : Scene) (outcome
   pub asked : IsCommand words command
   pub ends : EndsOf command before after outcome
 
--- no command was run: the words ask for none, or memory was wanting to read them
+-- no command was run: the words ask for none, or memory was wanting to read them behind the name of a command
 pub record RunsNone (words : List (List ℕ)) (before after : Scene) (outcome : Result Done Refusal) : Type 0 where
-  pub why : ((outcome ≡ Err Words) × IsNoCommand words) ⊎ (outcome ≡ Err Memory)
+  pub why : ((outcome ≡ Err Words) × IsNoCommand words) ⊎ ((outcome ≡ Err Memory) × AreNamed words)
   pub untouched : after ≡ before
 
 -- what each outcome means
 abbrev pub Ends : List (List ℕ) → Scene → Scene → Result Done Refusal → Type 0
 Ends words before after outcome = RunsNone words before after outcome ⊎ RunsCommand words before after outcome
 
--- the line was written, unless a fault of the object that takes it was counted; else a front of it
-pub record SaysLine (told told_now : Option (List ℕ)) (faults faults_now : ℕ) (message : List ℕ) : Type 0 where
-  pub part : GainsPart told told_now message
-  pub whole : (Rose faults faults_now → ⊥) → told_now ≡ with_end told message
+-- the line was written and no fault counted, or a front of the line was written and one fault counted
+abbrev pub SaysLine : Option (List ℕ) → Option (List ℕ) → ℕ → ℕ → List ℕ → Type 0
+SaysLine told told_now faults faults_now message =
+    ((told_now ≡ with_end told message) × (faults_now ≡ faults)) ⊎ (GainsPart told told_now message × (faults_now ≡ one_more faults))
 
 -- what is said of an outcome: nothing where the command is done, its line of a refusal
 abbrev pub Says : Option (List ℕ) → Option (List ℕ) → ℕ → ℕ → Result Done Refusal → Type 0
@@ -158,5 +159,6 @@ pub record Ran (words : List (List ℕ)) (before after : Scene) (told told_now :
   pub status_is : status ≡ status_of outcome
   pub ends : Ends words before after outcome
   pub counts : Counts before after
+  pub counted : IsCounted before.faults after.faults outcome
   pub says : Says told told_now faults faults_now outcome
   pub later : faults ≤ faults_now

@@ -1,6 +1,6 @@
 -- What the objects outside tell at one moment, and what may be told afterwards.
-use Rattle.std.specs.Prelude.{◌≡◌, ◌≢◌, ◌≤◌, ◌⊎◌, ℕ, List, Option, Some, Bool, IsTrue, false}
-use Rattle.octets.specs.Causes.{Rose}
+use Rattle.std.specs.Prelude.{◌≡◌, ◌≢◌, ◌≤◌, ◌⊎◌, ℕ, List, Option, Some, Result, IsErrOf, Bool, IsTrue, false}
+use Rattle.octets.specs.Causes.{one_more}
 use Rattle.octets.specs.Content.{Stays}
 use Rattle.edge_io.specs.declared.sinks.Sink as sink
 use Rattle.edge_io.specs.declared.sources.Source as source
@@ -21,33 +21,46 @@ pub record Inside : Type 0 where
 abbrev pub inside_of : {S R : Type 0} → source.Ghosts S → keeper.Ghosts R → S → R → Inside
 inside_of source_of keeper_of source keeper = record { left = source_of.left source; held = keeper_of.content keeper }
 
+-- how many faults a source, a sink and a keeper have counted
+pub record Faults : Type 0 where
+  pub source : ℕ
+  pub sink : ℕ
+  pub keeper : ℕ
+
 -- what a source, a sink and a keeper tell at one moment, and what they have counted
 pub record Scene : Type 0 where
   pub inside : Inside
   pub printed : Option (List ℕ)
-  pub source_faults : ℕ
-  pub sink_faults : ℕ
-  pub keeper_faults : ℕ
+  pub faults : Faults
+
+abbrev pub faults_of : {S K R : Type 0} → source.Ghosts S → sink.Ghosts K → keeper.Ghosts R → S → K → R → Faults
+faults_of source_of sink_of keeper_of source sink keeper =
+    record { source = source_of.faults source; sink = sink_of.faults sink; keeper = keeper_of.faults keeper }
 
 abbrev pub scene_of : {S K R : Type 0} → source.Ghosts S → sink.Ghosts K → keeper.Ghosts R → S → K → R → Scene
 scene_of source_of sink_of keeper_of source sink keeper = record {
   inside = inside_of source_of keeper_of source keeper;
   printed = sink_of.contents sink;
-  source_faults = source_of.faults source;
-  sink_faults = sink_of.faults sink;
-  keeper_faults = keeper_of.faults keeper;
+  faults = faults_of source_of sink_of keeper_of source sink keeper;
 }
 
 -- no count falls
 pub record Counts (before after : Scene) : Type 0 where
-  pub source : before.source_faults ≤ after.source_faults
-  pub sink : before.sink_faults ≤ after.sink_faults
-  pub keeper : before.keeper_faults ≤ after.keeper_faults
+  pub source : before.faults.source ≤ after.faults.source
+  pub sink : before.faults.sink ≤ after.faults.sink
+  pub keeper : before.faults.keeper ≤ after.faults.keeper
 
--- one of the three counted a fault
-abbrev pub HasFault : Scene → Scene → Type 0
+-- one of the three counted one fault, and the others none
+abbrev pub HasFault : Faults → Faults → Type 0
 HasFault before after =
-    Rose before.source_faults after.source_faults ⊎ (Rose before.sink_faults after.sink_faults ⊎ Rose before.keeper_faults after.keeper_faults)
+    (after ≡ record { source = one_more before.source; sink = before.sink; keeper = before.keeper })
+    ⊎ ((after ≡ record { source = before.source; sink = one_more before.sink; keeper = before.keeper })
+    ⊎ (after ≡ record { source = before.source; sink = before.sink; keeper = one_more before.keeper }))
+
+-- one fault was counted where that is the answer, and none where it is anything else
+pub record IsCounted {T : Type 0} (before after : Faults) (result : Result T Refusal) : Type 0 where
+  pub quiet : (IsErrOf result Fault → ⊥) → after ≡ before
+  pub fault : IsErrOf result Fault → HasFault before after
 
 -- the source is unread, and what the keeper tells it told before
 pub record IsLeft (before after : Inside) : Type 0 where

@@ -6,7 +6,7 @@ ghost use Rattle.clone_stream.specs.Taking.{Spells};
 ghost use Rattle.command_words.specs.Commands.{IsExport, IsNoCommand};
 ghost use Rattle.command_words.specs.declared.commands.Command.TheVariants as command;
 ghost use Rattle.gittuf_cli.specs.Runs.{Ends, EndsOf};
-ghost use Rattle.gittuf_cli.specs.Scenes.{Counts, scene_of};
+ghost use Rattle.gittuf_cli.specs.Scenes.{Counts, IsCounted, faults_of, scene_of};
 
 use crate::exporting::export;
 use crate::importing::import;
@@ -27,6 +27,7 @@ fn carry_out<S: Source, K: Sink, R: Keeper>(
 ) -> Result<Done, Refusal>
     ensures ends { EndsOf command.now (scene_of S.Source K.Sink R.Keeper source.old sink.old keeper.old) (scene_of S.Source K.Sink R.Keeper source.new sink.new keeper.new) result }
     ensures counts { Counts (scene_of S.Source K.Sink R.Keeper source.old sink.old keeper.old) (scene_of S.Source K.Sink R.Keeper source.new sink.new keeper.new) }
+    ensures counted { IsCounted (faults_of S.Source K.Sink R.Keeper source.old sink.old keeper.old) (faults_of S.Source K.Sink R.Keeper source.new sink.new keeper.new) result }
     ensures stop { (r : Repository) → R.left keeper.new r → R.left keeper.old r ⊎ Spells (S.left source.old) (S.left source.new) (R.content keeper.old) r }
 {
     match command {
@@ -57,6 +58,7 @@ pub(crate) fn command<S: Source, K: Sink, R: Keeper>(
 ) -> Result<Done, Refusal>
     ensures ends { Ends (map string_bytes words.now) (scene_of S.Source K.Sink R.Keeper source.old sink.old keeper.old) (scene_of S.Source K.Sink R.Keeper source.new sink.new keeper.new) result }
     ensures counts { Counts (scene_of S.Source K.Sink R.Keeper source.old sink.old keeper.old) (scene_of S.Source K.Sink R.Keeper source.new sink.new keeper.new) }
+    ensures counted { IsCounted (faults_of S.Source K.Sink R.Keeper source.old sink.old keeper.old) (faults_of S.Source K.Sink R.Keeper source.new sink.new keeper.new) result }
     ensures stop { (r : Repository) → R.left keeper.new r → R.left keeper.old r ⊎ Spells (S.left source.old) (S.left source.new) (R.content keeper.old) r }
     ensures untouched { IsNoCommand (map string_bytes words.now) → (source.new ≡ source.old) × (sink.new ≡ sink.old) × (keeper.new ≡ keeper.old) }
 {

@@ -1,10 +1,9 @@
 //! Taking a stream into the keeper.
 
-ghost use Rattle.std.specs.Prelude.{◌≡◌, ◌≤◌, ◌⊎◌, IfErr, IsErrOf, OnOk};
-ghost use Rattle.octets.specs.Causes.{Rose};
+ghost use Rattle.std.specs.Prelude.{◌≡◌, ◌≤◌, ◌⊎◌, ℕ, IfErr, OnOk};
 ghost use Rattle.git_object.specs.Repository.{Repository};
 ghost use Rattle.clone_stream.specs.Taking.{Spells};
-ghost use Rattle.gittuf_cli.specs.Scenes.{DeclinesOpening, DeclinesTaking, Opens, TakesStream, inside_of};
+ghost use Rattle.gittuf_cli.specs.Scenes.{DeclinesOpening, DeclinesTaking, IsCounted, Opens, TakesStream, inside_of};
 
 use crate::refusals::{Refusal, of_stream};
 use clone_stream::read_stream;
@@ -20,7 +19,7 @@ pub(crate) fn take<S: Source, R: Keeper>(
 ) -> Result<(), Refusal>
     ensures took { OnOk result (TakesStream (inside_of S.Source R.Keeper source.old keeper.old) (inside_of S.Source R.Keeper source.new keeper.new)) }
     ensures declines { IfErr result (DeclinesTaking (inside_of S.Source R.Keeper source.old keeper.old) (inside_of S.Source R.Keeper source.new keeper.new)) }
-    ensures fault { IsErrOf result Refusal.Fault → Rose (S.faults source.old) (S.faults source.new) ⊎ Rose (R.faults keeper.old) (R.faults keeper.new) }
+    ensures counted { (sink : ℕ) → IsCounted (record { source = S.faults source.old; sink = sink; keeper = R.faults keeper.old }) (record { source = S.faults source.new; sink = sink; keeper = R.faults keeper.new }) result }
     ensures source_later { S.faults source.old ≤ S.faults source.new }
     ensures keeper_later { R.faults keeper.old ≤ R.faults keeper.new }
     ensures reads { R.reads keeper.new ≡ R.reads keeper.old }
@@ -41,7 +40,7 @@ pub(crate) fn open<S: Source, R: Keeper>(
 ) -> Result<(), Refusal>
     ensures opens { OnOk result (Opens stdin (inside_of S.Source R.Keeper source.old keeper.old) (inside_of S.Source R.Keeper source.new keeper.new)) }
     ensures declines { IfErr result (DeclinesOpening stdin (inside_of S.Source R.Keeper source.old keeper.old) (inside_of S.Source R.Keeper source.new keeper.new)) }
-    ensures fault { IsErrOf result Refusal.Fault → Rose (S.faults source.old) (S.faults source.new) ⊎ Rose (R.faults keeper.old) (R.faults keeper.new) }
+    ensures counted { (sink : ℕ) → IsCounted (record { source = S.faults source.old; sink = sink; keeper = R.faults keeper.old }) (record { source = S.faults source.new; sink = sink; keeper = R.faults keeper.new }) result }
     ensures source_later { S.faults source.old ≤ S.faults source.new }
     ensures keeper_later { R.faults keeper.old ≤ R.faults keeper.new }
     ensures reads { R.reads keeper.new ≡ R.reads keeper.old }

@@ -42,9 +42,10 @@ fn say<F: Sink>(outcome: &Result<Done, Refusal>, faults_out: &mut F)
 /// Runs the command of the words over the objects outside, and answers the status of the program: 0 where the
 /// verdict is `accepted`, or the stream was printed or taken; 1 where the verdict is `tip-differs`; 2 where the
 /// words are outside the grammar; 3 where the stream is refused, the repository has a log, or cannot be written
-/// as a stream; 4 only where the source, the sink or the keeper counted a fault; 5 for want of memory. At 0 and 1
-/// the sink gains the whole answer, at the others `faults_out` gains the line of the refusal. At 5 `verify-ref`
-/// and `import` have printed nothing, and `import` has taken nothing.
+/// as a stream; 4 exactly where the source, the sink or the keeper counted a fault, and then one of them counted
+/// one; 5 for want of memory, and only where the first word is the name of a command. At 0 and 1 the sink gains
+/// the whole answer, at the others `faults_out` gains the line of the refusal, or a front of it where it counted
+/// a fault. At 5 `verify-ref` and `import` have printed nothing, and `import` has taken nothing.
 pub fn run<S: Source, K: Sink, F: Sink, R: Keeper>(
     alloc: Global,
     words: &[String],

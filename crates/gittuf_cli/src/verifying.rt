@@ -1,12 +1,12 @@
 //! The command `verify-ref`.
 
-ghost use Rattle.std.specs.Prelude.{◌≡◌, ◌≤◌, ◌⊎◌, IfOk, IfErr, IsErrOf, OnOk, OnErr};
-ghost use Rattle.octets.specs.Causes.{IsCaused, Rose};
+ghost use Rattle.std.specs.Prelude.{◌≡◌, ◌≤◌, ◌⊎◌, ℕ, IfOk, IfErr, IsErrOf, OnOk, OnErr};
+ghost use Rattle.octets.specs.Causes.{IsCaused};
 ghost use Rattle.octets.specs.Content.{GainsPart, with_end};
 ghost use Rattle.git_object.specs.Repository.{Repository};
 ghost use Rattle.clone_stream.specs.Taking.{Spells};
 ghost use Rattle.gittuf_cli.specs.Runs.{Answers, DeclinesLook, DeclinesVerdict, FindsVerdict};
-ghost use Rattle.gittuf_cli.specs.Scenes.{Counts, MayOpen, Opens, inside_of, scene_of};
+ghost use Rattle.gittuf_cli.specs.Scenes.{Counts, IsCounted, faults_of, MayOpen, Opens, inside_of, scene_of};
 ghost use Rattle.gittuf_cli.specs.Verdicts.{line};
 
 use crate::judging::judge;
@@ -29,7 +29,7 @@ fn look<S: Source, R: Keeper>(
 ) -> Result<Verdict, Refusal>
     ensures found { IfOk result (FindsVerdict name.now stdin (inside_of S.Source R.Keeper source.old keeper.old) (inside_of S.Source R.Keeper source.new keeper.new)) }
     ensures declines { IfErr result (DeclinesLook stdin (inside_of S.Source R.Keeper source.old keeper.old) (inside_of S.Source R.Keeper source.new keeper.new)) }
-    ensures fault { IsErrOf result Refusal.Fault → Rose (S.faults source.old) (S.faults source.new) ⊎ Rose (R.faults keeper.old) (R.faults keeper.new) }
+    ensures counted { (sink : ℕ) → IsCounted (record { source = S.faults source.old; sink = sink; keeper = R.faults keeper.old }) (record { source = S.faults source.new; sink = sink; keeper = R.faults keeper.new }) result }
     ensures source_later { S.faults source.old ≤ S.faults source.new }
     ensures keeper_later { R.faults keeper.old ≤ R.faults keeper.new }
     ensures reads { R.reads keeper.new ≡ R.reads keeper.old }
@@ -72,6 +72,7 @@ pub(crate) fn verify_ref<S: Source, K: Sink, R: Keeper>(
     ensures answers { IfOk result (Answers name.now stdin (scene_of S.Source K.Sink R.Keeper source.old sink.old keeper.old) (scene_of S.Source K.Sink R.Keeper source.new sink.new keeper.new)) }
     ensures declines { IfErr result (DeclinesVerdict name.now stdin (scene_of S.Source K.Sink R.Keeper source.old sink.old keeper.old) (scene_of S.Source K.Sink R.Keeper source.new sink.new keeper.new)) }
     ensures counts { Counts (scene_of S.Source K.Sink R.Keeper source.old sink.old keeper.old) (scene_of S.Source K.Sink R.Keeper source.new sink.new keeper.new) }
+    ensures counted { IsCounted (faults_of S.Source K.Sink R.Keeper source.old sink.old keeper.old) (faults_of S.Source K.Sink R.Keeper source.new sink.new keeper.new) result }
     ensures reads { R.reads keeper.new ≡ R.reads keeper.old }
     ensures stop { (r : Repository) → R.left keeper.new r → R.left keeper.old r ⊎ Spells (S.left source.old) (S.left source.new) (R.content keeper.old) r }
 {

@@ -4,7 +4,7 @@ use Rattle.std.specs.Coded.{Coded, code_by, coded×, coded_list, coded_ℕ}
 use Rattle.std.specs.FinMap.{code}
 use Rattle.std.specs.List.{list_any}
 use Rattle.octets.specs.BytesMap.{BytesMap}
-use Rattle.octets.specs.Calls.{Calls}
+use Rattle.octets.specs.Calls.{Calls, after_call, after_other}
 use Rattle.octets.specs.Causes.{one_more}
 use Rattle.git_object.specs.Objects.{Pair}
 use Rattle.git_object.specs.Repository.{Repository}
@@ -30,6 +30,12 @@ abbrev pub held_after : Store → Change → {T : Type 0} → Result T KeeperFau
 held_after store change (Ok _) = changed change store.held
 held_after store change (Err Failed) = (if keeps_next store then changed change store.held else store.held)
 held_after store change (Err Memory) = store.held
+
+-- the calls after a commit: want of memory is no fault, also of one that is listed
+abbrev pub calls_after : Calls → {T : Type 0} → Result T KeeperFault → Calls
+calls_after calls (Ok _) = after_call calls
+calls_after calls (Err Failed) = after_call calls
+calls_after calls (Err Memory) = after_other calls
 
 -- a repository is told apart as the pair of its maps
 abbrev pub repository_coded : Coded Repository

@@ -9,7 +9,7 @@ use std::alloc::{AllocError, AllocFailed};
 /// Why a keeper refused a call.
 #[derive(Clone, Copy, Debug, PartialEq, Eq, Drop)]
 pub enum KeeperFault {
-    /// The store failed. It comes only where the keeper's count of faults rose.
+    /// The store failed. It comes exactly where the keeper counted a fault.
     Failed,
     Memory,
 }

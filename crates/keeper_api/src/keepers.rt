@@ -14,8 +14,8 @@ use crate::{Change, KeeperFault, RefValue};
 use git_object::{Object, ObjectId, RefName};
 use std::alloc::Global;
 
-/// A store that holds a repository. A call that the store refuses answers `Failed`, and then the count of
-/// faults rose in it; want of memory is `Memory`. No call but `commit` changes what is held.
+/// A store that holds a repository. A call that the store refuses answers `Failed` and counts one fault, and no
+/// other call counts any; want of memory is `Memory`. No call but `commit` changes what is held.
 pub trait Keeper {
     /// The repository that is held, where the keeper tells it. Telling may end, and never begins.
     ghost content: { Self → Option Repository };

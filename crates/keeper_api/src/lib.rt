@@ -2,8 +2,8 @@
 //!
 //! This crate stands on `octets` and `git_object`. A crate above may rely on the trait `Keeper`: a keeper
 //! holds a repository, two finite maps, which it tells or not; a commit makes a change of it whole or not at
-//! all, and every other call leaves it; a fault is answered only where the keeper's count of faults rose. It
-//! may rely on `MemKeeper`, which tells its repository at every moment, fails exactly at the calls that it
+//! all, and every other call leaves it; a call that answers that the store failed counts one fault, and no other
+//! call counts any. It may rely on `MemKeeper`, which tells its repository at every moment, fails exactly at the calls that it
 //! was given, and takes for a commit time in proportion to the change. The definitions are in `specs/`.
 
 #![tactic(auto)]

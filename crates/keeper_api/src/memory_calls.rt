@@ -1,6 +1,6 @@
 //! The calls of the keeper in memory.
 
-ghost use Rattle.std.specs.Prelude.{◌≡◌, ◌↔◌, Some, IfOk, IsErrOf, IsOk, IsTrue, false};
+ghost use Rattle.std.specs.Prelude.{◌≡◌, ◌↔◌, Some, IfOk, IsErrOf, IsOk, IsTrue, None, false};
 ghost use Rattle.std.specs.Option.{option_map, option_copied};
 ghost use Rattle.std.specs.FinMap.{get};
 ghost use Rattle.octets.specs.BytesMap.{entry_after};
@@ -9,13 +9,14 @@ ghost use Rattle.octets.specs.Causes.{IsCaused, one_more};
 ghost use Rattle.octets.specs.Content.{Told};
 ghost use Rattle.keeper_api.specs.Changes.{ref_value};
 ghost use Rattle.keeper_api.specs.Keepers.{Commits};
-ghost use Rattle.keeper_api.specs.Stores.{held_after};
+ghost use Rattle.keeper_api.specs.Stores.{calls_after, held_after, keeps_next};
 
 use crate::{Change, Keeper, KeeperFault, MemKeeper, RefValue};
 use git_object::{Object, ObjectId, RefName};
 use std::alloc::Global;
 
-/// A call fails exactly where its number is listed. Every call is counted, `faults` aside.
+/// A call fails exactly where its number is listed, a commit that is to be kept and finds no memory aside. Every
+/// call is counted, `faults` aside. Of what is not there no call answers want of memory.
 impl Keeper for MemKeeper {
     ghost content = { λ k. Some k.held };
 
@@ -27,6 +28,7 @@ impl Keeper for MemKeeper {
 
     fn read_object(&mut self, _alloc: Global, id: &ObjectId) -> Result<Option<Object>, KeeperFault>
         ensures found { IfOk result (λ found. found ≡ get self.old.held.objects id.now) }
+        ensures none { get self.old.held.objects id.now ≡ None → fails_next self.old.calls ≡ false → IsOk result }
         ensures listed { IsErrOf result KeeperFault.Failed ↔ IsTrue (fails_next self.old.calls) }
         ensures after { self.new ≡ record self.old { calls = after_call self.old.calls; reads = one_more self.old.reads } }
         ensures cause { IsCaused KeeperFault.Failed self.old.calls.faults self.new.calls.faults result }
@@ -40,6 +42,7 @@ impl Keeper for MemKeeper {
 
     fn read_ref(&mut self, _alloc: Global, name: &RefName) -> Result<Option<ObjectId>, KeeperFault>
         ensures found { IfOk result (λ found. found ≡ get self.old.held.refs name.now) }
+        ensures free { IsErrOf result KeeperFault.Memory → ⊥ }
         ensures listed { IsErrOf result KeeperFault.Failed ↔ IsTrue (fails_next self.old.calls) }
         ensures after { self.new ≡ record self.old { calls = after_call self.old.calls } }
         ensures cause { IsCaused KeeperFault.Failed self.old.calls.faults self.new.calls.faults result }
@@ -56,6 +59,7 @@ impl Keeper for MemKeeper {
         after: Option<&ObjectId>,
     ) -> Result<Option<ObjectId>, KeeperFault>
         ensures found { IfOk result (λ found. found ≡ option_map (λ e. e.0) (entry_after self.old.held.objects (option_copied after.entry))) }
+        ensures free { IsErrOf result KeeperFault.Memory → ⊥ }
         ensures listed { IsErrOf result KeeperFault.Failed ↔ IsTrue (fails_next self.old.calls) }
         ensures after { self.new ≡ record self.old { calls = after_call self.old.calls } }
         ensures cause { IsCaused KeeperFault.Failed self.old.calls.faults self.new.calls.faults result }
@@ -72,6 +76,7 @@ impl Keeper for MemKeeper {
         after: Option<&RefName>,
     ) -> Result<Option<RefValue>, KeeperFault>
         ensures found { IfOk result (λ found. found ≡ option_map ref_value (entry_after self.old.held.refs (option_copied after.entry))) }
+        ensures none { entry_after self.old.held.refs (option_copied after.entry) ≡ None → fails_next self.old.calls ≡ false → IsOk result }
         ensures listed { IsErrOf result KeeperFault.Failed ↔ IsTrue (fails_next self.old.calls) }
         ensures after { self.new ≡ record self.old { calls = after_call self.old.calls } }
         ensures cause { IsCaused KeeperFault.Failed self.old.calls.faults self.new.calls.faults result }
@@ -86,7 +91,8 @@ impl Keeper for MemKeeper {
         ensures content { Told (Commits change.now result) (Some self.old.held) (Some self.new.held) }
         ensures answered { IsOk result → fails_next self.old.calls ≡ false }
         ensures listed { IsErrOf result KeeperFault.Failed → IsTrue (fails_next self.old.calls) }
-        ensures after { self.new ≡ record self.old { held = held_after self.old change.now result; calls = after_call self.old.calls } }
+        ensures dropped { IsTrue (fails_next self.old.calls) → keeps_next self.old ≡ false → IsErrOf result KeeperFault.Failed }
+        ensures after { self.new ≡ record self.old { held = held_after self.old change.now result; calls = calls_after self.old.calls result } }
         ensures cause { IsCaused KeeperFault.Failed self.old.calls.faults self.new.calls.faults result }
     {
         self.try_commit(alloc, change)

@@ -1,15 +1,14 @@
 //! The keeper in memory.
 
-ghost use Rattle.std.specs.Prelude.{◌≡◌, ◌==◌, ◌≤◌, [], IfOk, IsErrOf, IsOk, IsTrue, false, OnOk, OnErr};
-ghost use Rattle.std.specs.List.{list_any};
+ghost use Rattle.std.specs.Prelude.{◌≡◌, ◌≤◌, [], IfOk, IsErrOf, IsOk, IsTrue, None, false, OnOk, OnErr};
 ghost use Rattle.std.specs.Option.{option_map, option_copied};
 ghost use Rattle.std.specs.FinMap.{get};
 ghost use Rattle.octets.specs.BytesMap.{entry_after};
 ghost use Rattle.octets.specs.Calls.{after_call, fails_next};
-ghost use Rattle.octets.specs.Causes.{IsCaused, Rose, one_more};
+ghost use Rattle.octets.specs.Causes.{IsCaused, one_more};
 ghost use Rattle.git_object.specs.Repository.{empty_repository};
 ghost use Rattle.keeper_api.specs.Changes.{changed, ref_value};
-ghost use Rattle.keeper_api.specs.Stores.{held_after};
+ghost use Rattle.keeper_api.specs.Stores.{calls_after, held_after, keeps_next};
 
 use crate::memory_trees::{ObjectTree, RefTree, apply, first_after};
 use crate::{Change, KeeperFault, RefValue};
@@ -96,16 +95,17 @@ impl MemKeeper {
         ensures answer { result ≡ fails_next self.old.calls }
         ensures counted { self.new ≡ record self.old { calls = after_call self.old.calls } }
         ensures later { self.old.calls.faults ≤ self.new.calls.faults }
-        ensures risen { IsTrue result → Rose self.old.calls.faults self.new.calls.faults }
+        ensures quiet { result ≡ false → self.new.calls.faults ≡ self.old.calls.faults }
+        ensures risen { IsTrue result → self.new.calls.faults ≡ one_more self.old.calls.faults }
     {
         self.calls.fails()
     }
 
-    // Whether the last call, where it is a commit that fails, is kept.
-    pub(crate) fn keeps(&self) -> bool
-        ensures { result ≡ list_any (λ number. number == self.now.calls.made) self.now.kept }
+    // Whether the next call, where it is a commit that fails, is kept.
+    fn keeps_next(&self) -> bool
+        ensures { result ≡ keeps_next self.now }
     {
-        self.kept.contains(&self.calls.made())
+        self.kept.contains(&self.calls.made().saturating_add(1))
     }
 
     pub(crate) fn count_read(&mut self)
@@ -121,7 +121,8 @@ impl MemKeeper {
     }
 
     pub(crate) fn object_at(&self, id: &ObjectId) -> Result<Option<Object>, Memory>
-        ensures { IfOk result (λ found. found ≡ get self.now.held.objects id.now) }
+        ensures found { IfOk result (λ found. found ≡ get self.now.held.objects id.now) }
+        ensures none { get self.now.held.objects id.now ≡ None → IsOk result }
     {
         match self.objects.get(id) {
             Some(object) => Ok(Some(object.copied()?)),
@@ -145,7 +146,8 @@ impl MemKeeper {
     }
 
     pub(crate) fn ref_after(&self, after: Option<&RefName>) -> Result<Option<RefValue>, Memory>
-        ensures { IfOk result (λ found. found ≡ option_map ref_value (entry_after self.now.held.refs (option_copied after.entry))) }
+        ensures found { IfOk result (λ found. found ≡ option_map ref_value (entry_after self.now.held.refs (option_copied after.entry))) }
+        ensures none { entry_after self.now.held.refs (option_copied after.entry) ≡ None → IsOk result }
     {
         match first_after(&self.refs, after) {
             Some((name, id)) => Ok(Some(RefValue {
@@ -164,18 +166,19 @@ impl MemKeeper {
         apply(alloc, &mut self.objects, &mut self.refs, change)
     }
 
-    // A commit: a failing one is kept where its number is listed for that.
+    // A commit: a failing one is kept where its number is listed for that. Want of memory is no fault.
     pub(crate) fn try_commit(&mut self, alloc: Global, change: &Change) -> Result<(), KeeperFault>
         ensures answered { IsOk result → fails_next self.old.calls ≡ false }
         ensures listed { IsErrOf result KeeperFault.Failed → IsTrue (fails_next self.old.calls) }
-        ensures after { self.new ≡ record self.old { held = held_after self.old change.now result; calls = after_call self.old.calls } }
+        ensures dropped { IsTrue (fails_next self.old.calls) → keeps_next self.old ≡ false → IsErrOf result KeeperFault.Failed }
+        ensures after { self.new ≡ record self.old { held = held_after self.old change.now result; calls = calls_after self.old.calls result } }
         ensures cause { IsCaused KeeperFault.Failed self.old.calls.faults self.new.calls.faults result }
     {
-        let fails = self.fails();
-        if !fails || self.keeps() {
-            self.apply(alloc, change)?;
+        if (!self.calls.fails_next() || self.keeps_next()) && self.apply(alloc, change).is_err() {
+            self.calls.count_other();
+            return Err(KeeperFault::Memory);
         }
-        if fails {
+        if self.fails() {
             return Err(KeeperFault::Failed);
         }
         Ok(())

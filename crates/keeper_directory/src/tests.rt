@@ -86,27 +86,87 @@ fn ref_of<R: Keeper>(alloc: Global, keeper: &mut R, text: &[u8]) -> Result<Optio
 
 const MAIN: &[u8] = b"refs/heads/main";
 
-#[test]
-fn a_change_is_read_back(rt: HostRuntime) -> Result<(), Fail> {
+// A keeper with two blobs and two references at the first, of which the second blob is long.
+fn filled(rt: &HostRuntime, folder: &str) -> Result<DirKeeper, Fail> {
     let alloc = rt.alloc();
-    let folder = fresh_folder(&rt, "back")?;
-    let mut keeper = open(&rt, folder.as_str())?;
-    assert_eq!(rt; counts(alloc, &mut keeper)?, (0, 0));
+    let mut keeper = open(rt, folder)?;
     let id = id_of(Kind::Blob, b"one");
     let refs = [(MAIN, Some(id)), (b"refs/tags/a/b".as_slice(), Some(id))];
     let long = vec![in alloc; b'x'; 10000]?;
     let bodies = [b"one".as_slice(), long.as_slice()];
-    assert_eq!(rt; commit(alloc, &mut keeper, &bodies, &refs)?, None);
+    match commit(alloc, &mut keeper, &bodies, &refs)? {
+        Some(_) => Err(Fail::from("a commit")),
+        None => Ok(keeper),
+    }
+}
+
+// The body of an object.
+fn body_of<R: Keeper>(alloc: Global, keeper: &mut R, id: &ObjectId) -> Result<Octets, Fail> {
+    let object = keeper.read_object(alloc, id)?.ok_or("an object")?;
+    Ok(Octets::from_slice(alloc, object.body())?)
+}
+
+#[test]
+fn a_change_is_read_back(rt: HostRuntime) -> Result<(), Fail> {
+    let alloc = rt.alloc();
+    let folder = fresh_folder(&rt, "back")?;
+    let mut keeper = filled(&rt, folder.as_str())?;
     assert_eq!(rt; counts(alloc, &mut keeper)?, (2, 2));
-    let kept = keeper.read_object(alloc, &id_of(Kind::Blob, long.as_slice()))?;
-    assert_eq!(rt; kept.ok_or("a blob")?.body(), long.as_slice());
-    let mut other = open(&rt, format!(in alloc; "{folder}/")?.as_str())?;
-    assert_eq!(rt; counts(alloc, &mut other)?, (2, 2));
-    assert_eq!(rt; ref_of(alloc, &mut other, MAIN)?, Some(id));
-    assert_eq!(rt; ref_of(alloc, &mut other, b"refs/tags/a")?, None);
-    assert_eq!(rt; ref_of(alloc, &mut other, b"refs/heads/main/a")?, None);
-    assert!(rt; other.read_object(alloc, &ObjectId::zeros())?.is_none());
-    assert_eq!(rt; keeper.faults().max(other.faults()), 0);
+    let long = vec![in alloc; b'x'; 10000]?;
+    let id = id_of(Kind::Blob, long.as_slice());
+    assert!(rt; body_of(alloc, &mut keeper, &id)?.as_slice() == long.as_slice());
+    assert_eq!(rt; keeper.faults(), 0);
+    Ok(fs::remove_dir_all(&rt, folder.as_str())?)
+}
+
+#[test]
+fn another_keeper_reads_the_same(rt: HostRuntime) -> Result<(), Fail> {
+    let alloc = rt.alloc();
+    let folder = fresh_folder(&rt, "same")?;
+    let _ = filled(&rt, folder.as_str())?;
+    let mut keeper = open(&rt, format!(in alloc; "{folder}/")?.as_str())?;
+    assert_eq!(rt; counts(alloc, &mut keeper)?, (2, 2));
+    let id = id_of(Kind::Blob, b"one");
+    assert_eq!(rt; ref_of(alloc, &mut keeper, MAIN)?, Some(id));
+    assert_eq!(rt; ref_of(alloc, &mut keeper, b"refs/tags/a")?, None);
+    assert_eq!(rt; ref_of(alloc, &mut keeper, b"refs/heads/main/a")?, None);
+    assert!(rt; keeper.read_object(alloc, &ObjectId::zeros())?.is_none());
+    assert_eq!(rt; keeper.faults(), 0);
+    Ok(fs::remove_dir_all(&rt, folder.as_str())?)
+}
+
+const BELOW: &[u8] = b"refs/heads/a/b/c";
+
+const ABOVE: &[u8] = b"refs/heads/a";
+
+// How a commit of these reference changes to the id of zeros fails.
+fn commit_refs<R: Keeper>(
+    alloc: Global,
+    keeper: &mut R,
+    refs: &[(&[u8], bool)],
+) -> Result<Option<KeeperFault>, Fail> {
+    let mut change = Change {
+        objects: Objects::new(alloc),
+        refs: RefChanges::new(alloc),
+    };
+    for (text, put) in refs {
+        let name = name_of(alloc, *text)?;
+        let to = put.then_some(ObjectId::zeros());
+        change.refs.push(RefChange { name, to })?;
+    }
+    Ok(keeper.commit(alloc, &change).err())
+}
+
+#[test]
+fn a_name_keeps_its_folder_out(rt: HostRuntime) -> Result<(), Fail> {
+    let alloc = rt.alloc();
+    let folder = fresh_folder(&rt, "out")?;
+    let mut keeper = open(&rt, folder.as_str())?;
+    assert_eq!(rt; commit_refs(alloc, &mut keeper, &[(BELOW, true)])?, None);
+    let fault = commit_refs(alloc, &mut keeper, &[(ABOVE, true)])?;
+    assert_eq!(rt; fault, Some(KeeperFault::Failed));
+    assert_eq!(rt; keeper.faults(), 1);
+    assert_eq!(rt; ref_of(alloc, &mut keeper, ABOVE)?, None);
     Ok(fs::remove_dir_all(&rt, folder.as_str())?)
 }
 
@@ -115,32 +175,22 @@ fn a_name_and_its_folder_take_turns(rt: HostRuntime) -> Result<(), Fail> {
     let alloc = rt.alloc();
     let folder = fresh_folder(&rt, "turns")?;
     let mut keeper = open(&rt, folder.as_str())?;
-    let id = Some(ObjectId::zeros());
-    let below = b"refs/heads/a/b/c".as_slice();
-    let above = b"refs/heads/a".as_slice();
-    assert_eq!(rt; commit(alloc, &mut keeper, &[], &[(below, id)])?, None);
-    let fault = commit(alloc, &mut keeper, &[], &[(above, id)])?;
-    assert_eq!(rt; fault, Some(KeeperFault::Failed));
-    assert_eq!(rt; keeper.faults(), 1);
-    assert_eq!(rt; ref_of(alloc, &mut keeper, above)?, None);
-    let turn = [(below, None), (above, id), (MAIN, None)];
-    assert_eq!(rt; commit(alloc, &mut keeper, &[], &turn)?, None);
-    assert_eq!(rt; ref_of(alloc, &mut keeper, above)?, id);
-    let fault = commit(alloc, &mut keeper, &[], &[(below, id)])?;
+    assert_eq!(rt; commit_refs(alloc, &mut keeper, &[(BELOW, true)])?, None);
+    let turn = [(BELOW, false), (ABOVE, true), (MAIN, false)];
+    assert_eq!(rt; commit_refs(alloc, &mut keeper, &turn)?, None);
+    let fault = commit_refs(alloc, &mut keeper, &[(BELOW, true)])?;
     assert_eq!(rt; fault, Some(KeeperFault::Failed));
     assert_eq!(rt; counts(alloc, &mut keeper)?, (0, 1));
-    assert_eq!(rt; commit(alloc, &mut keeper, &[], &[(above, None)])?, None);
+    assert_eq!(rt; commit_refs(alloc, &mut keeper, &[(ABOVE, false)])?, None);
     assert_eq!(rt; counts(alloc, &mut keeper)?, (0, 0));
     Ok(fs::remove_dir_all(&rt, folder.as_str())?)
 }
 
 #[test]
-fn other_files_are_passed_over_and_other_forms_are_faults(rt: HostRuntime) -> Result<(), Fail> {
+fn other_files_are_passed_over(rt: HostRuntime) -> Result<(), Fail> {
     let alloc = rt.alloc();
-    let folder = fresh_folder(&rt, "forms")?;
-    let mut keeper = open(&rt, folder.as_str())?;
-    let refs = [(MAIN, Some(ObjectId::zeros()))];
-    assert_eq!(rt; commit(alloc, &mut keeper, &[b"one"], &refs)?, None);
+    let folder = fresh_folder(&rt, "files")?;
+    let _ = filled(&rt, folder.as_str())?;
     for name in [
         "objects/readme",
         "objects/0000.lock",
@@ -151,33 +201,46 @@ fn other_files_are_passed_over_and_other_forms_are_faults(rt: HostRuntime) -> Re
         put(&rt, folder.as_str(), name, b"x")?;
     }
     let mut keeper = open(&rt, folder.as_str())?;
-    assert_eq!(rt; counts(alloc, &mut keeper)?, (1, 1));
-    let zeros = "objects/0000000000000000000000000000000000000000000000000000000000000000";
-    put(&rt, folder.as_str(), zeros, b"blob 0\0")?;
-    let empty = keeper
-        .read_object(alloc, &ObjectId::zeros())?
-        .ok_or("a blob")?;
-    assert!(rt; empty.kind() == Kind::Blob && empty.body().is_empty());
-    for (number, text) in [
+    assert_eq!(rt; counts(alloc, &mut keeper)?, (2, 2));
+    Ok(fs::remove_dir_all(&rt, folder.as_str())?)
+}
+
+const ZEROS: &str = "objects/0000000000000000000000000000000000000000000000000000000000000000";
+
+// How the reading of an object's file with this text fails, where it does.
+fn fault_of(rt: &HostRuntime, folder: &str, text: &[u8]) -> Result<Option<KeeperFault>, Fail> {
+    put(rt, folder, ZEROS, text)?;
+    let mut keeper = open(rt, folder)?;
+    Ok(keeper.read_object(rt.alloc(), &ObjectId::zeros()).err())
+}
+
+#[test]
+fn another_form_of_an_object_is_a_fault(rt: HostRuntime) -> Result<(), Fail> {
+    let folder = fresh_folder(&rt, "forms")?;
+    let _ = filled(&rt, folder.as_str())?;
+    assert_eq!(rt; fault_of(&rt, folder.as_str(), b"blob 0\0")?, None);
+    for text in [
         b"blob 1\0".as_slice(),
         b"blob 0\0x",
         b"blob 00\0",
         b"blob 0",
         b"file 0\0",
         b"",
-    ]
-    .iter()
-    .enumerate()
-    {
-        put(&rt, folder.as_str(), zeros, *text)?;
-        let fault = keeper.read_object(alloc, &ObjectId::zeros()).err();
+    ] {
+        let fault = fault_of(&rt, folder.as_str(), text)?;
         assert_eq!(rt; fault, Some(KeeperFault::Failed));
-        assert_eq!(rt; keeper.faults(), (number as u64).saturating_add(1));
     }
+    Ok(fs::remove_dir_all(&rt, folder.as_str())?)
+}
+
+#[test]
+fn another_form_of_a_reference_is_a_fault(rt: HostRuntime) -> Result<(), Fail> {
+    let folder = fresh_folder(&rt, "refs")?;
+    let mut keeper = filled(&rt, folder.as_str())?;
     put(&rt, folder.as_str(), "refs/heads/main", &[b'0'; 64])?;
-    let fault = keeper.next_ref_after(alloc, None).err();
+    let fault = keeper.next_ref_after(rt.alloc(), None).err();
     assert_eq!(rt; fault, Some(KeeperFault::Failed));
-    assert_eq!(rt; keeper.faults(), 7);
+    assert_eq!(rt; keeper.faults(), 1);
     Ok(fs::remove_dir_all(&rt, folder.as_str())?)
 }
 
@@ -192,15 +255,10 @@ fn a_half_made_change_is_not_opened(rt: HostRuntime) -> Result<(), Fail> {
     let alloc = rt.alloc();
     let folder = fresh_folder(&rt, "half")?;
     let mut keeper = open(&rt, folder.as_str())?;
-    let id = Some(ObjectId::zeros());
-    let both = [
-        (b"refs/heads/a".as_slice(), id),
-        (b"refs/heads/a/b".as_slice(), id),
-    ];
-    let fault = commit(alloc, &mut keeper, &[b"one"], &both)?;
+    let fault = commit_refs(alloc, &mut keeper, &[(ABOVE, true), (BELOW, true)])?;
     assert_eq!(rt; fault, Some(KeeperFault::Failed));
     assert!(rt; is_refused(&rt, folder.as_str()));
-    let fault = commit(alloc, &mut keeper, &[], &[(MAIN, id)])?;
+    let fault = commit_refs(alloc, &mut keeper, &[(MAIN, true)])?;
     assert_eq!(rt; fault, Some(KeeperFault::Failed));
     Ok(fs::remove_dir_all(&rt, folder.as_str())?)
 }
@@ -213,11 +271,24 @@ fn a_folder_of_something_else_is_not_opened(rt: HostRuntime) -> Result<(), Fail>
     assert!(rt; !is_refused(&rt, folder.as_str()));
     put(&rt, folder.as_str(), "HEAD", b"ref: refs/heads/main\n")?;
     assert!(rt; is_refused(&rt, folder.as_str()));
-    fs::create_dir_all(&rt, format!(in rt.alloc(); "{folder}/refs")?.as_str())?;
+    Ok(fs::remove_dir_all(&rt, folder.as_str())?)
+}
+
+#[test]
+fn a_git_directory_is_not_opened(rt: HostRuntime) -> Result<(), Fail> {
+    let folder = fresh_folder(&rt, "git")?;
+    let refs = format!(in rt.alloc(); "{folder}/refs")?;
+    fs::create_dir_all(&rt, refs.as_str())?;
+    put(&rt, folder.as_str(), "HEAD", b"ref: refs/heads/main\n")?;
     assert!(rt; !is_refused(&rt, folder.as_str()));
     put(&rt, folder.as_str(), "config", b"")?;
     assert!(rt; is_refused(&rt, folder.as_str()));
-    fs::remove_dir_all(&rt, folder.as_str())?;
+    Ok(fs::remove_dir_all(&rt, folder.as_str())?)
+}
+
+#[test]
+fn a_file_in_place_of_a_folder_is_not_opened(rt: HostRuntime) -> Result<(), Fail> {
+    let folder = fresh_folder(&rt, "file")?;
     fs::create_dir_all(&rt, folder.as_str())?;
     put(&rt, folder.as_str(), "refs", b"")?;
     assert!(rt; is_refused(&rt, folder.as_str()));

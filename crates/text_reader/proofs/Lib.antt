@@ -1,4 +1,5 @@
 pub mod LowerHexadecimal
 pub mod Matched
 pub mod Numbers
+pub mod Spellings
 pub mod Unique

@@ -115,10 +115,6 @@ is_read n text is =
 pub not_read : (n : ℕ) (text : List ℕ) (e : FromHexError) → Err e ≡ decode_sized text n → IsLowerHexadecimal n text → ⊥
 not_read n text e err is = let r = is_read n text is in let same : Err e ≡ Ok r.0 = err ∙ r.1 in cc
 
--- a text that reads as bytes has two digits for each
-pub is_lower : (n : ℕ) (text bytes : List ℕ) → AllPass is_lower_digit text → decode_sized text n ≡ Ok bytes → IsLowerHexadecimal n text
-is_lower n text bytes digits reads = (decode_sized-ok text n bytes reads, digits)
-
 -- the digit of a number below sixteen is a lower-case one
 abbrev writes_lower : ℕ → Bool
 writes_lower n = is_lower_digit (slice_index lower_digits n)

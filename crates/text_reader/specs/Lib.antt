@@ -1,3 +1,4 @@
 pub mod Hexadecimal
+pub mod Laws
 pub mod Line
 pub mod Number

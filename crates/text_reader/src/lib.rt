@@ -9,6 +9,7 @@
 mod decimal_number;
 mod front;
 mod hexadecimal;
+pub mod laws;
 mod number;
 #[cfg(test)]
 mod tests;

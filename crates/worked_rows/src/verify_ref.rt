@@ -5,6 +5,7 @@ use crate::streams;
 use edge_io::{MemSink, MemSource};
 use keeper_api::MemKeeper;
 use octets::Octets;
+use std::alloc::Global;
 use std::test::Fail;
 
 #[test]
@@ -30,6 +31,30 @@ fn words_outside_the_grammar_touch_nothing(rt: HostRuntime) -> Result<(), Fail> 
             false,
         )?;
     }
+    Ok(())
+}
+
+// A name of so many bytes.
+fn name_of(alloc: Global, len: usize) -> Result<String, Fail> {
+    let mut name = String::from_str(alloc, "refs/heads/")?;
+    while name.len() < len {
+        name.push_str("x")?;
+    }
+    Ok(name)
+}
+
+#[test]
+fn the_longest_name_is_judged(rt: HostRuntime) -> Result<(), Fail> {
+    let alloc = rt.alloc();
+    let mut outside = over(alloc, b"")?;
+    let name = name_of(alloc, 255)?;
+    let status = run_words(alloc, &["verify-ref", name.as_str()], &mut outside)?;
+    assert_eq!(rt; status, 0);
+    let line = format!(in alloc; "accepted {name} 0 entries\n")?;
+    assert!(rt; outside.sink.contents() == line.as_bytes());
+    let name = name_of(alloc, 256)?;
+    let status = run_words(alloc, &["verify-ref", name.as_str()], &mut outside)?;
+    assert_eq!(rt; status, 2);
     Ok(())
 }
 

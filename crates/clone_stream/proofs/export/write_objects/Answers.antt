@@ -8,8 +8,8 @@ pub objects-preserved : goal.objects-preserved
 objects-preserved g c = record {
   so = one_more object_record IsOwn IsDamaged objects_in _ _ _ _ _ _ _ _ c.objects.invariant.so c.write_object.ensures.same.content c.in-Ok-Some.id c.in-Ok-Some.now (rw c.in-Ok-Some.field-0-is at c.in-Ok-Some.ensures.steps);
   same = search rules;
-  keeper_later = search rules;
-  sink_later = search rules;
+  keeper_quiet = search rules;
+  sink_quiet = search rules;
 }
 
 pub returns-in-Ok-None-clause-runs : goal.returns-in-Ok-None-clause-runs

@@ -1,4 +1,4 @@
-use Rattle.std.proofs.Common.{◌≤◌, ◌-◌}
+use Rattle.std.proofs.Common.{◌≡◌, ◌≤◌, ◌-◌}
 use Rattle.keeper_api.specs.Undisturbed.{Undisturbed}
 use Rattle.clone_stream.specs.Exports.{refs_in}
 use Rattle.clone_stream.specs.Streams.{IsRef, ref_record, largest_stream}
@@ -9,8 +9,8 @@ abbrev pub invariant-refs : goal.invariant-refs
 invariant-refs g l = record {
   so : IsSoFar ref_record IsRef refs_in (g.R.Keeper.content l.keeper) l.start (g.K.Sink.contents l.fn.sink) (g.K.Sink.contents l.sink) l.last l.written;
   same : Undisturbed g.R.Keeper l.fn.keeper l.keeper;
-  keeper_later : g.R.Keeper.faults l.fn.keeper ≤ g.R.Keeper.faults l.keeper;
-  sink_later : g.K.Sink.faults l.fn.sink ≤ g.K.Sink.faults l.sink;
+  keeper_quiet : g.R.Keeper.faults l.keeper ≡ g.R.Keeper.faults l.fn.keeper;
+  sink_quiet : g.K.Sink.faults l.sink ≡ g.K.Sink.faults l.fn.sink;
 }
 
 abbrev pub decreases-refs : goal.decreases-refs

@@ -9,7 +9,7 @@ records-init g c = record {
   read = rw (c.new-objects.ensures, c.new-refs.ensures) (at_first (ahead c.args.reader.now (g.S.Source.left c.args.source.now)) c.args.reader.now.taken);
   past = refl;
   limit = refl;
-  later = search rules;
+  quiet = search rules;
 }
 
 pub records-preserved-in-Continue-1 : goal.records-preserved-in-Continue-1
@@ -22,7 +22,7 @@ records-preserved-in-Continue-1 g c = record {
       (rw c.in-Ok-Object.field-0-is at c.in-Ok-Object.ensures.ahead) (rw c.in-Ok-Object.field-0-is at c.in-Ok-Object.ensures.taken));
   past = search rules;
   limit = search rules;
-  later = search rules;
+  quiet = search rules;
 }
 
 pub records-preserved : goal.records-preserved
@@ -35,7 +35,7 @@ records-preserved g c = record {
       (rw c.in-Ok-Ref.field-0-is at c.in-Ok-Ref.ensures.ahead) (rw c.in-Ok-Ref.field-0-is at c.in-Ok-Ref.ensures.taken));
   past = search rules;
   limit = search rules;
-  later = search rules;
+  quiet = search rules;
 }
 
 pub returns-in-Err-clause-bad : goal.returns-in-Err-clause-bad

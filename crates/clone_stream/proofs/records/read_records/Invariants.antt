@@ -8,7 +8,7 @@ invariant-records g l = record {
   read : ReadSoFar l.objects l.refs (ahead l.fn.reader (g.S.Source.left l.fn.source)) (ahead l.reader (g.S.Source.left l.source)) l.fn.reader.taken l.reader.taken;
   past : past l.reader (g.S.Source.left l.source) ≡ past l.fn.reader (g.S.Source.left l.fn.source);
   limit : l.reader.limit ≡ l.fn.reader.limit;
-  later : g.S.Source.faults l.fn.source ≤ g.S.Source.faults l.source;
+  quiet : g.S.Source.faults l.source ≡ g.S.Source.faults l.fn.source;
 }
 
 abbrev pub decreases-records : goal.decreases-records

@@ -1,4 +1,4 @@
-use Rattle.std.proofs.Common.{◌≡◌, subst}
+use Rattle.std.proofs.Common.{◌≡◌, rules, subst}
 use Rattle.clone_stream.specs.Taking.{IsOfSource}
 use Rattle.clone_stream.specs.declared.stream_faults.StreamFault.TheVariants.{KeeperFailed, NotEmpty}
 use Rattle.clone_stream.proofs.streams.read_stream.Goals as goal
@@ -16,6 +16,7 @@ returns-in-Err-clause-unread g c = λ full.
 pub returns-in-Err-clause-keeper_cause : goal.returns-in-Err-clause-keeper_cause
 returns-in-Err-clause-keeper_cause g c = record {
   later = c.is_empty.ensures.cause.later;
+  quiet = λ _. search rules;
   failed = λ failed.
       let same : c.in-Err.fault ≡ KeeperFailed = cc in
       absurd (subst IsOfSource same c.in-Err.ensures.no_keeper);
