@@ -1,13 +1,14 @@
 -- A body begins in one way with the lines of a tree and of parents.
-use Rattle.std.proofs.Common.{◌≡◌, ◌≢◌, ℕ, List, [], ◌∷◌, ◌++◌, length, sym, ◌∙◌, append_assoc, inl, inr}
+use Rattle.std.proofs.Common.{◌≡◌, ◌≢◌, ℕ, ◌-◌, List, [], ◌∷◌, ◌++◌, length, sym, ap, ◌∙◌, append_assoc, arith, length-append, inl, inr}
 use Rattle.std.specs.Prelude.{codes}
 use Rattle.std.specs.List.{AllByRecursion, flat_map}
 use Rattle.hex.specs.Hex.{encode_lower}
+use Rattle.text_reader.specs.Line.{Begins}
 use Rattle.git_object.specs.Ids.{IsId}
-use Rattle.git_object.specs.Commits.{IsCommitFront, IsCommitText, IsCommitFault, HasNoTree, HasBadParent, commit_lines, parent_line, tree_line}
+use Rattle.git_object.specs.Commits.{HasBadParent, HasNoTree, HasParents, IsCommit, IsCommitFault, IsCommitFront, IsCommitText, commit_lines, parent_line, tree_line}
 use Rattle.git_object.specs.declared.commits.Commit.{Commit}
 use Rattle.git_object.proofs.LineLemmas.{id_line_then, same_id_line}
-use Rattle.git_object.proofs.Runs.{all_front, all_last, one_run}
+use Rattle.git_object.proofs.Runs.{all_front, all_last, all_push, flat_push, one_run}
 
 same_parent : (xs : List (List ℕ)) (e f x y : List ℕ) → AllByRecursion IsId (xs ++ e ∷ []) → AllByRecursion IsId (xs ++ f ∷ [])
     → parent_line e ++ x ≡ parent_line f ++ y → (e ≡ f) × (x ≡ y)
@@ -67,3 +68,51 @@ one_place text m n f g = elim f [
   | inl a ↦ elim g [ inl b ↦ a.place ∙ sym b.place | inr d ↦ absurd (tree_there d.tree d.parents text d.rest m d.lines a) ]
   | inr b ↦ elim g [ inl a ↦ absurd (tree_there b.tree b.parents text b.rest n b.lines a) | inr d ↦ same_bad text m n b d ]
 ]
+
+-- ---- parents in front of a text
+
+pub parents_push : (text rest id more : List ℕ) → HasParents text rest → IsId id → rest ≡ parent_line id ++ more → HasParents text more
+parents_push text rest id more had is next = record {
+  parents = had.parents ++ id ∷ [];
+  parents_are = all_push IsId had.parents id had.parents_are is;
+  front = had.front ∙ ap (λ (r : List ℕ). flat_map parent_line had.parents ++ r) next ∙ sym (append_assoc (flat_map parent_line had.parents) (parent_line id) more)
+      ∙ ap (λ (r : List ℕ). r ++ more) (sym (flat_push parent_line had.parents id));
+}
+
+-- the line of a tree before them
+pub front_of : (tree body text rest : List ℕ) → IsId tree → body ≡ tree_line tree ++ text → (had : HasParents text rest) → IsCommitFront tree had.parents body rest
+front_of tree body text rest is first had = record {
+  tree_is = is;
+  parents_are = had.parents_are;
+  front = first ∙ ap (λ (r : List ℕ). tree_line tree ++ r) had.front ∙ sym (append_assoc (tree_line tree) (flat_map parent_line had.parents) rest);
+}
+
+-- where no `parent ` follows them, the body is that of a commit
+pub commit_there : (tree body text end : List ℕ) → IsId tree → body ≡ tree_line tree ++ text → HasParents text end → ((more : List ℕ) → end ≢ codes "parent " ++ more) → IsCommit body
+commit_there tree body text end is first had none = record {
+  commit = record { tree = tree; parents = had.parents; rest = end };
+  text = record { lines = front_of tree body text end is first had; no_parent = none };
+}
+
+-- and what was read a second time is that commit
+pub commit_read : (tree : List ℕ) (parents : List (List ℕ)) (body text rest end : List ℕ) → IsId tree → body ≡ tree_line tree ++ text → HasParents text end
+    → ((more : List ℕ) → end ≢ codes "parent " ++ more) → IsCommitFront tree parents body rest → EndsParents rest
+    → IsCommitText (record { tree = tree; parents = parents; rest = rest }) body
+commit_read tree parents body text rest end is first had none lines ends =
+    let same = same_lines tree tree parents had.parents body rest end lines (front_of tree body text end is first had) ends (no_parent_here end none) in
+    record { lines = lines; no_parent = λ more begins. none more (sym same.after ∙ begins) }
+
+-- where `parent ` follows them, the body is refused there
+pub bad_parent_there : (tree body text end : List ℕ) → IsId tree → body ≡ tree_line tree ++ text → HasParents text end → Begins (codes "parent ") end → EndsParents end
+    → HasBadParent body (length body - length end)
+bad_parent_there tree body text end is first had begins ends =
+    let lines = front_of tree body text end is first had in
+    record {
+      tree = tree;
+      parents = had.parents;
+      rest = end;
+      lines = lines;
+      place = omega (arith, ap length lines.front, length-append (commit_lines tree had.parents) end);
+      begins = begins;
+      no_parent = ends;
+    }

@@ -27,6 +27,17 @@ pub record IsCommitText (commit : Commit) (body : List ℕ) : Type 0 where
   pub lines : IsCommitFront commit.tree commit.parents body commit.rest
   pub no_parent : (more : List ℕ) → commit.rest ≢ codes "parent " ++ more
 
+-- the body is that of a commit
+pub record IsCommit (body : List ℕ) : Type 0 where
+  pub commit : Commit
+  pub text : IsCommitText commit body
+
+-- lines of parents stand in front of the text, and the rest follows
+pub record HasParents (text rest : List ℕ) : Type 0 where
+  pub parents : List (List ℕ)
+  pub parents_are : AllByRecursion IsId parents
+  pub front : text ≡ flat_map parent_line parents ++ rest
+
 -- the body does not begin with the line of a tree
 pub record HasNoTree (body : List ℕ) (at : ℕ) : Type 0 where
   pub place : at ≡ 0

@@ -1,6 +1,8 @@
 //! Git's commit object.
 
-ghost use Rattle.std.specs.Prelude.{◌≡◌, ◌≢◌, ◌++◌, ℕ, List, codes, IfOk, IfErr};
+ghost use Rattle.std.specs.Prelude.{◌≡◌, ◌≢◌, ◌++◌, ℕ, List, codes, IfOk, IfErr, IsErrOf};
+ghost use Rattle.git_object.specs.Ids.{IsId};
+ghost use Rattle.git_object.specs.Commits.{HasParents, parent_line};
 
 use crate::header_lines::{append_id_line, append_id_lines, split_id_line};
 use crate::{Ids, ObjectFault, ObjectId};
@@ -19,27 +21,30 @@ pub struct Commit {
 
 impl Commit {
     ghost use Rattle.git_object.specs.Faults.{Refuses};
-    ghost use Rattle.git_object.specs.Commits.{IsCommitFault, IsCommitText};
+    ghost use Rattle.git_object.specs.Commits.{IsCommit, IsCommitFault, IsCommitText};
 
     /// The commit of a body: `tree <id>` LF, any number of `parent <id>` LF, then any bytes (Git's commit
     /// object). `Malformed` where the first line is no tree's (at 0), or where directly after the lines of the
     /// tree and of parents a line begins with `parent ` and is no parent's (at that line).
+    /// Memory is taken only for a commit, so no other body is answered for want of it.
     pub fn read(alloc: Global, body: &[u8]) -> Result<Commit, ObjectFault>
         ensures found { IfOk result (λ commit. IsCommitText commit body.now) }
         ensures bad { IfErr result (Refuses IsCommitFault body.now) }
+        ensures formed { IsErrOf result ObjectFault.Memory → IsCommit body.now }
     {
         let Some(first) = split_id_line(body, b"tree ") else {
             return Err(ObjectFault::Malformed { at: 0 });
         };
         let tree = first.0;
+        let end = after_parents(first.1);
+        if begins_with(end, b"parent ") {
+            return Err(ObjectFault::Malformed {
+                at: body.len() - end.len(),
+            });
+        }
         let mut parents = Ids::new(alloc);
         let mut rest = first.1;
-        'parents: while begins_with(rest, b"parent ") {
-            let Some(line) = split_id_line(rest, b"parent ") else {
-                return Err(ObjectFault::Malformed {
-                    at: body.len() - rest.len(),
-                });
-            };
+        'parents: while let Some(line) = split_id_line(rest, b"parent ") {
             parents.push(line.0)?;
             rest = line.1;
         }
@@ -62,4 +67,16 @@ impl Commit {
         text.append(self.rest.as_slice())?;
         Ok(text)
     }
+}
+
+// What follows the lines of parents that stand in front of the text.
+fn after_parents(text: &[u8]) -> &[u8]
+    ensures lines { HasParents text.now result.now }
+    ensures last { (id more : List ℕ) → IsId id → result.now ≢ parent_line id ++ more }
+{
+    let mut rest = text;
+    'parents: while let Some(line) = split_id_line(rest, b"parent ") {
+        rest = line.1;
+    }
+    rest
 }
