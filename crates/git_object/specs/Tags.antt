@@ -13,6 +13,11 @@ pub record IsTagText (tag : Tag) (body : List ℕ) : Type 0 where
   pub object_is : IsId tag.object
   pub text : body ≡ object_line tag.object ++ (type_line tag.kind ++ tag.rest)
 
+-- the body is that of a tag
+pub record IsTag (body : List ℕ) : Type 0 where
+  pub tag : Tag
+  pub text : IsTagText tag body
+
 -- the body does not begin with the line of an object
 pub record HasNoObject (body : List ℕ) (at : ℕ) : Type 0 where
   pub place : at ≡ 0

@@ -1,6 +1,6 @@
 //! Git's tag object.
 
-ghost use Rattle.std.specs.Prelude.{IfOk, IfErr};
+ghost use Rattle.std.specs.Prelude.{IfOk, IfErr, IsErrOf};
 
 use crate::header_lines::{append_id_line, append_type_line, split_id_line, split_type_line};
 use crate::{Kind, ObjectFault, ObjectId};
@@ -17,13 +17,15 @@ pub struct Tag {
 
 impl Tag {
     ghost use Rattle.git_object.specs.Faults.{Refuses};
-    ghost use Rattle.git_object.specs.Tags.{IsTagFault, IsTagText};
+    ghost use Rattle.git_object.specs.Tags.{IsTag, IsTagFault, IsTagText};
 
     /// The tag of a body: `object <id>` LF, `type <kind>` LF, then any bytes (Git's tag object). `Malformed`
     /// where the first line is no object's (at 0), or where the second is no kind's (at that line).
+    /// Memory is taken only for a tag, so no other body is answered for want of it.
     pub fn read(alloc: Global, body: &[u8]) -> Result<Tag, ObjectFault>
         ensures found { IfOk result (λ tag. IsTagText tag body.now) }
         ensures bad { IfErr result (Refuses IsTagFault body.now) }
+        ensures formed { IsErrOf result ObjectFault.Memory → IsTag body.now }
     {
         let Some(first) = split_id_line(body, b"object ") else {
             return Err(ObjectFault::Malformed { at: 0 });
