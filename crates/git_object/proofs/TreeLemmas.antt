@@ -11,13 +11,17 @@ use Rattle.text_reader.specs.Line.{has_byte}
 use Rattle.text_reader.proofs.Unique.{same_fronts, same_until}
 use Rattle.git_object.specs.Ids.{IsId}
 use Rattle.git_object.specs.Modes.{mode_text}
-use Rattle.git_object.specs.Trees.{AreEntries, AreInOrder, IsEntryName, IsTreeFault, IsTreeFront, IsTreeText, Precedes, entries_text, entry_text, sort_key}
+use Rattle.git_object.specs.Trees.{AreEntries, AreInOrder, HasFirstEntry, IsEntryName, IsTreeFault, IsTreeFront, IsTreeText, Precedes, entries_text, entry_text, sort_key}
 use Rattle.git_object.specs.EntryParts.{AllLess, AllPrecede}
 use Rattle.git_object.specs.declared.modes.Mode.{Mode}
 use Rattle.git_object.specs.declared.modes.Mode.TheVariants.{Dir, File, Exec, Link, Module}
 use Rattle.git_object.specs.declared.trees.Tree.{Tree}
 use Rattle.git_object.specs.declared.trees.TreeEntry.{TreeEntry}
 use Rattle.git_object.proofs.Runs.{all_front, all_last, all_push, flat_push, one_run}
+
+no_more : (xs : List ℕ) → xs ++ [] ≡ xs
+no_more [] = refl
+no_more (x ∷ xs) = ap (λ (rest : List ℕ). x ∷ rest) (no_more xs)
 
 -- ---- one entry
 
@@ -149,6 +153,23 @@ entries_push es e body rest more f name id all next = record {
   front = f.front ∙ ap (λ (r : List ℕ). entries_text es ++ r) next ∙ sym (append_assoc (entries_text es) (entry_text e) more) ∙ ap (λ (r : List ℕ). r ++ more) (sym (flat_push entry_text es e));
 }
 
+-- the first of some entries, and what follows it
+first_of : (e : TreeEntry) (es : List TreeEntry) (body rest : List ℕ) → IsTreeFront (e ∷ es) body rest → HasFirstEntry body
+first_of e es body rest f = record {
+  first = e;
+  rest = entries_text es ++ rest;
+  front = record {
+    entries_are = entries_front (e ∷ []) es f.entries_are;
+    front = f.front ∙ append_assoc (entry_text e) (entries_text es) rest ∙ ap (λ (text : List ℕ). text ++ (entries_text es ++ rest)) (sym (no_more (entry_text e)));
+  };
+}
+
+-- where one more entry is read, there is a first
+pub first_there : (es : List TreeEntry) (e : TreeEntry) (body rest more : List ℕ) → IsTreeFront es body rest → IsEntryName e.name → IsId e.id
+    → AllPrecede es e → rest ≡ entry_text e ++ more → HasFirstEntry body
+first_there [] e body rest more f name id all next = first_of e [] body more (entries_push [] e body rest more f name id all next)
+first_there (x ∷ es) e body rest more f name id all next = first_of x es body rest f
+
 -- an entry that may not stand after those before it is no further one
 pub not_next : (es : List TreeEntry) (e : TreeEntry) (rest more : List ℕ) → IsEntryName e.name → IsId e.id → rest ≡ entry_text e ++ more → (AllPrecede es e → ⊥)
     → (f : TreeEntry) (after : List ℕ) → AreEntries (es ++ f ∷ []) → rest ≢ entry_text f ++ after
@@ -176,10 +197,6 @@ fault_of_order es e body rest more f name id there late = record {
 
 pub one_text : (v : Tree) (a b : List ℕ) → IsTreeText v a → IsTreeText v b → a ≡ b
 one_text v a b ia ib = ia.text ∙ sym ib.text
-
-no_more : (xs : List ℕ) → xs ++ [] ≡ xs
-no_more [] = refl
-no_more (x ∷ xs) = ap (λ (rest : List ℕ). x ∷ rest) (no_more xs)
 
 pub one_value : (v w : Tree) (text : List ℕ) → IsTreeText v text → IsTreeText w text → v ≡ w
 one_value v w text iv iw =

@@ -59,6 +59,12 @@ pub record IsTreeFront (entries : List TreeEntry) (body rest : List ℕ) : Type 
   pub entries_are : AreEntries entries
   pub front : body ≡ entries_text entries ++ rest
 
+-- an entry that may stand alone begins the body
+pub record HasFirstEntry (body : List ℕ) : Type 0 where
+  pub first : TreeEntry
+  pub rest : List ℕ
+  pub front : IsTreeFront (first ∷ []) body rest
+
 -- after the longest front of entries something is left at this place that is no further entry
 pub record IsTreeFault (body : List ℕ) (at : ℕ) : Type 0 where
   pub entries : List TreeEntry

@@ -1,6 +1,6 @@
 //! The entries of a tree in front of a text, and their order.
 
-ghost use Rattle.std.specs.Prelude.{◌≡◌, ◌≢◌, ◌++◌, ◌↔◌, ℕ, List, false, length, IfSome, IfNone, IsTrue, OnOk};
+ghost use Rattle.std.specs.Prelude.{◌≡◌, ◌≢◌, ◌++◌, ◌↔◌, ℕ, List, false, length, IfSome, IfNone, IsOk, IsTrue, OnOk};
 ghost use Rattle.std.specs.List.{AllByRecursion};
 ghost use Rattle.octets.specs.BytesMap.{by_bytes};
 ghost use Rattle.text_reader.specs.Line.{has_byte};
@@ -164,6 +164,7 @@ fn append_entry(text: &mut Octets, entry: &TreeEntry) -> Result<(), Memory>
 pub fn append_entries(text: &mut Octets, entries: &[TreeEntry]) -> Result<(), Memory>
     ensures added { OnOk result (text.new ≡ text.old ++ entries_text entries.now) }
     ensures valid { OnOk result (AllByRecursion (λ entry. IsId entry.id) entries.now) }
+    ensures free { length entries.now ≡ 0 → IsOk result }
 {
     'entries: for entry in entries {
         append_entry(text, entry)?;

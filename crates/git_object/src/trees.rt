@@ -1,6 +1,6 @@
 //! Git's tree object.
 
-ghost use Rattle.std.specs.Prelude.{IfOk, IfErr};
+ghost use Rattle.std.specs.Prelude.{◌≡◌, length, IfOk, IfErr, IsErrOf, IsOk};
 
 use crate::tree_entries::{append_entries, comes_next, split_entry};
 use crate::{Mode, ObjectFault, ObjectId};
@@ -26,15 +26,17 @@ pub struct Tree {
 
 impl Tree {
     ghost use Rattle.git_object.specs.Faults.{Refuses};
-    ghost use Rattle.git_object.specs.Trees.{AreWellFormed, IsTreeFault, IsTreeText};
+    ghost use Rattle.git_object.specs.Trees.{AreWellFormed, HasFirstEntry, IsTreeFault, IsTreeText};
 
     /// The tree of a body: entries of mode, space, name, zero byte and 32 bytes of an id, sorted by name, a
     /// directory's compared as if it ended in `/` (Git's tree object). A name is not empty, stands once, holds no
     /// `/` and no zero byte, and is not `.`, `..` or `.git`. `Malformed` at the first byte of the first entry that
-    /// breaks a rule or is cut.
+    /// breaks a rule or is cut. Memory is taken only once a first entry is read, so an empty body is always
+    /// read, and one whose first entry is refused is never answered for want of memory.
     pub fn read(alloc: Global, body: &[u8]) -> Result<Tree, ObjectFault>
         ensures found { IfOk result (λ tree. IsTreeText tree body.now) }
         ensures bad { IfErr result (Refuses IsTreeFault body.now) }
+        ensures begun { IsErrOf result ObjectFault.Memory → HasFirstEntry body.now }
     {
         let mut entries = TreeEntries::new(alloc);
         let mut rest = body;
@@ -61,10 +63,11 @@ impl Tree {
         Ok(Tree { entries })
     }
 
-    /// The body of the tree, whose entries must be well named, sorted and of distinct names.
+    /// The body of the tree, whose entries must be well named, sorted and of distinct names. An empty tree's takes no memory.
     pub fn write(&self, alloc: Global) -> Result<Octets, Memory>
         requires { AreWellFormed self.now.entries }
-        ensures { IfOk result (IsTreeText self.now) }
+        ensures found { IfOk result (IsTreeText self.now) }
+        ensures free { length self.now.entries ≡ 0 → IsOk result }
     {
         let mut text = Octets::new(alloc);
         append_entries(&mut text, self.entries.as_slice())?;

@@ -3,7 +3,7 @@ use Rattle.std.proofs.lemmas.Bool.{false≢true}
 use Rattle.git_object.specs.Trees.{IsTreeFront}
 use Rattle.git_object.specs.EntryParts.{AllPrecede, entry_of}
 use Rattle.git_object.specs.declared.trees.TreeEntry.{TreeEntry}
-use Rattle.git_object.proofs.TreeLemmas.{entries_push, entry_shorter, fault_of_order}
+use Rattle.git_object.proofs.TreeLemmas.{entries_push, entry_shorter, fault_of_order, first_there}
 use Rattle.git_object.proofs.trees.Tree.read.Goals as goal
 
 pub returns-then-not-comes_next-clause-bad : goal.returns-then-not-comes_next-clause-bad
@@ -27,3 +27,17 @@ entries-preserved c =
     subst (λ es. IsTreeFront es c.args.body.now found.1.now) (sym pushed)
     (entries_push c.entries.entries entry c.args.body.now c.entries.rest.now found.1.now c.entries.invariant c.in-Some.ensures.named c.in-Some.ensures.valid
     (subst (λ es. AllPrecede es entry) c.as_slice.ensures (c.comes_next.ensures.0 c.if-not-comes_next.false)) c.in-Some.ensures.found)
+
+pub returns-in_err-name-clause-begun : goal.returns-in_err-name-clause-begun
+returns-in_err-name-clause-begun c _ =
+    let found = c.in-Some.found in
+    let entry : TreeEntry = entry_of found.0.mode found.0.name.now found.0.id in
+    first_there c.entries.entries entry c.args.body.now c.entries.rest.now found.1.now c.entries.invariant c.in-Some.ensures.named c.in-Some.ensures.valid
+    (subst (λ es. AllPrecede es entry) c.as_slice.ensures (c.comes_next.ensures.0 c.if-not-comes_next.false)) c.in-Some.ensures.found
+
+pub returns-in_err-push-clause-begun : goal.returns-in_err-push-clause-begun
+returns-in_err-push-clause-begun c _ =
+    let found = c.in-Some.found in
+    let entry : TreeEntry = entry_of found.0.mode found.0.name.now found.0.id in
+    first_there c.entries.entries entry c.args.body.now c.entries.rest.now found.1.now c.entries.invariant c.in-Some.ensures.named c.in-Some.ensures.valid
+    (subst (λ es. AllPrecede es entry) c.as_slice.ensures (c.comes_next.ensures.0 c.if-not-comes_next.false)) c.in-Some.ensures.found
