@@ -1,6 +1,6 @@
 //! Ids of keys.
 
-ghost use Rattle.std.specs.Prelude.{◌≡◌, ◌↔◌, IfSome, IsSome};
+ghost use Rattle.std.specs.Prelude.{◌≡◌, ◌↔◌, IfOk, IfSome, IsOk, IsSome};
 ghost use Rattle.hex.specs.Hex.{encode_lower};
 ghost use Rattle.text_reader.specs.Hexadecimal.{IsLowerHexadecimal};
 
@@ -31,13 +31,19 @@ impl Model for KeyId {
 impl Clone for KeyId {
     ghost is_clone = { λ a b. b ≡ a };
 
+    ghost is_infallible = { λ _. Unit {0} };
+
     fn clone(&self) -> Result<KeyId, AllocError> {
         Ok(*self)
     }
 }
 
 impl Copied for KeyId {
-    fn copied(&self) -> Result<KeyId, Memory> {
+    /// The same id. It takes no memory and is never refused.
+    fn copied(&self) -> Result<KeyId, Memory>
+        ensures copy { IfOk result (λ copy. copy ≡ self.now) }
+        ensures free { IsOk result }
+    {
         Ok(*self)
     }
 }

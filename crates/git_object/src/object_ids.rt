@@ -1,6 +1,6 @@
 //! Object ids in the object format SHA-256.
 
-ghost use Rattle.std.specs.Prelude.{◌≡◌, ◌≢◌, ◌↔◌, ◌++◌, ℕ, List, IfSome, IfNone, IsSome, replicate};
+ghost use Rattle.std.specs.Prelude.{◌≡◌, ◌≢◌, ◌↔◌, ◌++◌, ℕ, List, IfSome, IfNone, IfOk, IsOk, IsSome, replicate};
 ghost use Rattle.hex.specs.Hex.{encode_lower};
 ghost use Rattle.text_reader.specs.Hexadecimal.{IsLowerHexadecimal};
 ghost use Rattle.git_object.specs.Objects.{object_id};
@@ -35,13 +35,19 @@ impl Model for ObjectId {
 impl Clone for ObjectId {
     ghost is_clone = { λ a b. b ≡ a };
 
+    ghost is_infallible = { λ _. Unit {0} };
+
     fn clone(&self) -> Result<ObjectId, AllocError> {
         Ok(*self)
     }
 }
 
 impl Copied for ObjectId {
-    fn copied(&self) -> Result<ObjectId, Memory> {
+    /// The same id. It takes no memory and is never refused.
+    fn copied(&self) -> Result<ObjectId, Memory>
+        ensures copy { IfOk result (λ copy. copy ≡ self.now) }
+        ensures free { IsOk result }
+    {
         Ok(*self)
     }
 }
