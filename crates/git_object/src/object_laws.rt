@@ -1,9 +1,13 @@
-//! Laws over the formats of objects.
+//! Laws over the formats of objects and their limit.
 
+ghost use Rattle.std.specs.Prelude.{◌≡◌};
 ghost use Rattle.git_object.specs.Grammars.{IsGrammar};
 ghost use Rattle.git_object.specs.Commits.{IsCommitFault, IsCommitText};
 ghost use Rattle.git_object.specs.Tags.{IsTagFault, IsTagText};
 ghost use Rattle.git_object.specs.Trees.{IsTreeFault, IsTreeText};
+ghost use Rattle.git_object.specs.Repository.{largest_body};
+
+use crate::LARGEST_BODY;
 
 /// A commit has one text and a text at most one commit; a text that is refused is no commit's, and is refused
 /// at one place.
@@ -19,4 +23,9 @@ pub fn tags()
 /// A tree has one text and a text at most one tree; a text that is refused is no tree's, and is refused at one place.
 pub fn trees()
     ensures { IsGrammar IsTreeText IsTreeFault }
+{}
+
+/// The limit of a body that the code names is the one that the definitions name.
+pub fn limit()
+    ensures { LARGEST_BODY ≡ largest_body }
 {}
