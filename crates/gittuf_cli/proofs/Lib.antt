@@ -1,3 +1,4 @@
+pub mod Counted
 pub mod LogName
 pub mod SameOutcome
 pub mod Steps

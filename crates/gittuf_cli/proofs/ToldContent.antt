@@ -100,7 +100,7 @@ module _ (was now : Repository) (bytes : List ℕ) (before after : Scene) (left 
 pub told_outcome : TellsOutcome
 told_outcome words before after outcome was now bytes left held holds (inl none) = elim none.why [
   | inl refused ↦ inl (inl refused)
-  | inr wanting ↦ inr (inr wanting)
+  | inr wanting ↦ inr (inr wanting.0)
 ]
 told_outcome words before after outcome was now bytes left held holds (inr ran) =
     elim (told_command was now bytes before after left held holds ran.command outcome ran.ends) [
