@@ -5,3 +5,4 @@ mod Rotations
 mod Sixteen
 mod Walking
 mod Progress
+mod Steps

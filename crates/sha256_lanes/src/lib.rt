@@ -9,6 +9,7 @@
 
 mod chains;
 mod constants;
+pub mod laws;
 mod message;
 mod rounds;
 mod schedule;
