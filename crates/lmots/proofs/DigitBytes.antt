@@ -2,25 +2,25 @@
 use Rattle.std.proofs.Common.{◌≡◌, ℕ, ◌+◌, ◌-◌, ◌*◌, ◌/◌, ◌%◌, ◌^◌, ◌<◌, List, slice_index, arith, lit<, sym, ◌∙◌}
 use Rattle.lmots.specs.Digits.{coef}
 
-coef_W1 : (s : List ℕ) (i j : ℕ) → j < 8 → coef s (8 * i + j) 1 ≡ slice_index s i / 2 ^ (8 - (1 * j + 1)) % 2
+pub coef_W1 : (s : List ℕ) (i j : ℕ) → j < 8 → coef s (8 * i + j) 1 ≡ slice_index s i / 2 ^ (8 - (1 * j + 1)) % 2
 coef_W1 s i j low =
     let place : (8 * i + j) * 1 / 8 ≡ i = omega arith in
     let within : (8 * i + j) % 8 ≡ j = omega arith in
     λ t. slice_index s (place t) / 2 ^ (8 - (1 * within t + 1)) % 2
 
-coef_W2 : (s : List ℕ) (i j : ℕ) → j < 4 → coef s (4 * i + j) 2 ≡ slice_index s i / 2 ^ (8 - (2 * j + 2)) % 4
+pub coef_W2 : (s : List ℕ) (i j : ℕ) → j < 4 → coef s (4 * i + j) 2 ≡ slice_index s i / 2 ^ (8 - (2 * j + 2)) % 4
 coef_W2 s i j low =
     let place : (4 * i + j) * 2 / 8 ≡ i = omega arith in
     let within : (4 * i + j) % 4 ≡ j = omega arith in
     λ t. slice_index s (place t) / 2 ^ (8 - (2 * within t + 2)) % 4
 
-coef_W4 : (s : List ℕ) (i j : ℕ) → j < 2 → coef s (2 * i + j) 4 ≡ slice_index s i / 2 ^ (8 - (4 * j + 4)) % 16
+pub coef_W4 : (s : List ℕ) (i j : ℕ) → j < 2 → coef s (2 * i + j) 4 ≡ slice_index s i / 2 ^ (8 - (4 * j + 4)) % 16
 coef_W4 s i j low =
     let place : (2 * i + j) * 4 / 8 ≡ i = omega arith in
     let within : (2 * i + j) % 2 ≡ j = omega arith in
     λ t. slice_index s (place t) / 2 ^ (8 - (4 * within t + 4)) % 16
 
-coef_W8 : (s : List ℕ) (i j : ℕ) → j < 1 → coef s (1 * i + j) 8 ≡ slice_index s i / 2 ^ (8 - (8 * j + 8)) % 256
+pub coef_W8 : (s : List ℕ) (i j : ℕ) → j < 1 → coef s (1 * i + j) 8 ≡ slice_index s i / 2 ^ (8 - (8 * j + 8)) % 256
 coef_W8 s i j low =
     let place : (1 * i + j) * 8 / 8 ≡ i = omega arith in
     let within : (1 * i + j) % 1 ≡ j = omega arith in

@@ -10,3 +10,7 @@ pub mod DigitBytes
 pub mod LesserDigit
 pub mod Blocks
 pub mod Signed
+pub mod Numbers
+pub mod HashBytes
+pub mod LastStep
+pub mod SpelledBytes

@@ -1,6 +1,6 @@
 -- The hash chains of a one-time key, each by the key's identifier i, its leaf q and a chain's
 -- number.
-use Rattle.std.specs.Prelude.{ℕ, suc, ◌+◌, List, [], ◌∷◌, ◌++◌}
+use Rattle.std.specs.Prelude.{◌≡◌, ℕ, suc, ◌+◌, List, [], ◌∷◌, ◌++◌}
 use Rattle.std.specs.Int.{w16, w32, to_be_bytes}
 use Rattle.sha2.specs.Sha256.{sha256}
 use Prim.Native.Nat as Nat
@@ -9,14 +9,24 @@ use Prim.Native.Nat as Nat
 abbrev pub head : List ℕ → ℕ → ℕ → List ℕ
 head i q chain = i ++ to_be_bytes w32 q ++ to_be_bytes w16 chain
 
--- step j of a chain: H(I || u32str(q) || u16str(chain) || u8str(j) || x) (RFC 8554, section 4.3)
+-- I || u32str(q) || u16str(chain) || u8str(j) || x
+abbrev pub step_text : List ℕ → ℕ → ℕ → ℕ → List ℕ → List ℕ
+step_text i q chain j x = head i q chain ++ j ∷ [] ++ x
+
+-- step j of a chain: the hash of these (RFC 8554, section 4.3)
 abbrev pub step : List ℕ → ℕ → ℕ → ℕ → List ℕ → List ℕ
-step i q chain j x = sha256 (head i q chain ++ j ∷ [] ++ x)
+step i q chain j x = sha256 (step_text i q chain j x)
 
 -- x after n steps, of which step j is the first (RFC 8554, sections 4.3, 4.5 and 4.6)
 unfoldable pub steps : List ℕ → ℕ → ℕ → ℕ → ℕ → List ℕ → List ℕ
 steps i q chain j Nat.zero x = x
 steps i q chain j (suc n) x = steps i q chain (j + 1) n (step i q chain j x)
+
+-- no steps change nothing, and the last of more is taken from what those before it reached
+pub record StepByStep : Type 0 where
+  pub none : (i : List ℕ) (q chain j : ℕ) (x : List ℕ) → steps i q chain j 0 x ≡ x
+  pub last : (i : List ℕ) (q chain j n : ℕ) (x : List ℕ)
+      → steps i q chain j (n + 1) x ≡ step i q chain (j + n) (steps i q chain j n x)
 
 -- the start of a chain, from the seed (RFC 8554, appendix A)
 abbrev pub private_element : List ℕ → ℕ → ℕ → List ℕ → List ℕ

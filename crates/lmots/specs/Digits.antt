@@ -1,6 +1,7 @@
 -- A string of bytes as digits, and the checksum of a digest.
-use Rattle.std.specs.Prelude.{ℕ, ◌+◌, ◌-◌, ◌*◌, ◌/◌, ◌%◌, ◌^◌, ◌<◌, List, ◌++◌, length, map, slice_index}
+use Rattle.std.specs.Prelude.{ℕ, suc, ◌+◌, ◌-◌, ◌*◌, ◌/◌, ◌%◌, ◌^◌, ◌<◌, List, ◌++◌, length, map, slice_index}
 use Rattle.std.specs.List.{range_with_len, sum_by}
+use Prim.Native.Nat as Nat
 use Rattle.std.specs.Int.{w16, to_be_bytes}
 use Rattle.lmots.specs.declared.ots_type.OtsType.{OtsType}
 use Rattle.lmots.specs.OtsType.{width, shift, chain_count}
@@ -8,6 +9,11 @@ use Rattle.lmots.specs.OtsType.{width, shift, chain_count}
 -- coef(S, i, w): digit i of a string, of w bits, from the high end (RFC 8554, section 3.1.3)
 abbrev pub coef : List ℕ → ℕ → ℕ → ℕ
 coef s i w = slice_index s (i * w / 8) / 2 ^ (8 - (w * (i % (8 / w)) + w)) % 2 ^ w
+
+-- the number that d 0, …, d (n - 1) spell in a base, the highest first
+unfoldable pub spelled : ℕ → (ℕ → ℕ) → ℕ → ℕ
+spelled base d Nat.zero = 0
+spelled base d (suc n) = spelled base d n * base + d n
 
 -- the first n digits of a string
 unfoldable pub digits : List ℕ → ℕ → ℕ → List ℕ

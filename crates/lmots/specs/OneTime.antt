@@ -7,10 +7,14 @@ use Rattle.lmots.specs.OtsType.{code, width, chain_count, signature_len}
 use Rattle.lmots.specs.Digits.{coef, with_checksum}
 use Rattle.lmots.specs.Chain.{steps, private_element, randomizer, joined}
 
--- H(I || u32str(q) || u16str(D_PBLC) || z[0] || … || z[p-1]) (RFC 8554, section 4.3)
+-- I || u32str(q) || u16str(D_PBLC) || z[0] || … || z[p-1]
+abbrev pub key_text : OtsType → List ℕ → ℕ → (ℕ → List ℕ) → List ℕ
+key_text kind i q z =
+    i ++ to_be_bytes w32 q ++ to_be_bytes w16 0x8080 ++ joined z (chain_count kind)
+
+-- the hash of these (RFC 8554, section 4.3)
 abbrev pub key_of : OtsType → List ℕ → ℕ → (ℕ → List ℕ) → List ℕ
-key_of kind i q z =
-    sha256 (i ++ to_be_bytes w32 q ++ to_be_bytes w16 0x8080 ++ joined z (chain_count kind))
+key_of kind i q z = sha256 (key_text kind i q z)
 
 -- y[chain] of a public key: a chain walked from its start to its end (RFC 8554, section 4.3)
 abbrev pub ended : OtsType → List ℕ → ℕ → List ℕ → ℕ → List ℕ
@@ -20,10 +24,13 @@ ended kind i q seed chain = steps i q chain 0 (2 ^ width kind - 1) (private_elem
 abbrev pub public_key : OtsType → List ℕ → ℕ → List ℕ → List ℕ
 public_key kind i q seed = key_of kind i q (ended kind i q seed)
 
--- Q = H(I || u32str(q) || u16str(D_MESG) || C || message) (RFC 8554, section 4.5)
+-- I || u32str(q) || u16str(D_MESG) || C || message
+abbrev pub message_text : List ℕ → ℕ → List ℕ → List ℕ → List ℕ
+message_text i q c message = i ++ to_be_bytes w32 q ++ to_be_bytes w16 0x8181 ++ c ++ message
+
+-- Q, the hash of these (RFC 8554, section 4.5)
 abbrev pub message_digest : List ℕ → ℕ → List ℕ → List ℕ → List ℕ
-message_digest i q c message =
-    sha256 (i ++ to_be_bytes w32 q ++ to_be_bytes w16 0x8181 ++ c ++ message)
+message_digest i q c message = sha256 (message_text i q c message)
 
 -- a = coef(Q || Cksm(Q), chain, w), how far a signature shows a chain (RFC 8554, section 4.5)
 abbrev pub digit_of : OtsType → List ℕ → ℕ → ℕ

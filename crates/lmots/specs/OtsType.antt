@@ -1,5 +1,5 @@
 -- The one-time types over SHA-256 with 32 bytes (RFC 8554, section 4.1, table 1).
-use Rattle.std.specs.Prelude.{ℕ, ◌+◌, ◌*◌}
+use Rattle.std.specs.Prelude.{◌≡◌, ℕ, ◌+◌, ◌-◌, ◌*◌, ◌^◌, ◌<◌, ◌≤◌}
 use Rattle.lmots.specs.declared.ots_type.OtsType.{OtsType}
 use Rattle.lmots.specs.declared.ots_type.OtsType.TheVariants.{W1, W2, W4, W8}
 
@@ -34,3 +34,15 @@ shift W8 = 0
 -- the bytes of a signature: the code, the randomizer, and 32 for each chain
 abbrev pub signature_len : OtsType → ℕ
 signature_len kind = 36 + 32 * chain_count kind
+
+-- p and ls as they follow from w (RFC 8554, appendix B): u digits spell the 256 bits of a digest, v
+-- digits and no fewer can spell the greatest sum of what u digits lack, and the shift brings these to
+-- the high end of 16 bits
+pub record FollowFromWidth (kind : OtsType) : Type 0 where
+  pub u : ℕ
+  pub v : ℕ
+  pub digest : width kind * u ≡ 256
+  pub enough : (2 ^ width kind - 1) * u < 2 ^ (width kind * v)
+  pub fewest : 2 ^ (width kind * (v - 1)) ≤ (2 ^ width kind - 1) * u
+  pub chains : chain_count kind ≡ u + v
+  pub shifted : width kind * v + shift kind ≡ 16

@@ -5,7 +5,9 @@
 //! whole chains, on `sha256_lanes`, and no call takes memory. The crate above may rely on this:
 //! `public_of`, `public_of_eight`, `sign_ots` and `candidate_key` give the RFC's values to the
 //! bit, each refusal of `candidate_key` comes exactly where its contract says, and no digest's
-//! digits with their checksum stand at or above another's in every place (`laws::winternitz`).
+//! digits with their checksum stand at or above another's in every place (`laws::winternitz`). The
+//! numbers of a type follow from the width of its digits (`laws::numbers`), and a string's digits
+//! spell its bytes (`laws::digits`).
 #![tactic(auto)]
 
 mod chain;
