@@ -5,3 +5,8 @@ pub mod SameKey
 pub mod Signing
 pub mod Written
 pub mod Filling
+pub mod Collisions
+pub mod OneWay
+pub mod OneChain
+pub mod SameLeaf
+pub mod Earlier

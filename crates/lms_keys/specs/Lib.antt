@@ -3,3 +3,4 @@ pub mod Tree
 pub mod PublicKey
 pub mod Signature
 pub mod Secret
+pub mod OneLeaf

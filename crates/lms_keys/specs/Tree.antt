@@ -7,14 +7,21 @@ use Rattle.sha2.specs.Sha256.{sha256}
 use Rattle.lmots.specs.declared.ots_type.OtsType.{OtsType}
 use Rattle.lmots.specs.OneTime as one_time
 
--- H(I || u32str(r) || u16str(D_LEAF) || K) (RFC 8554, section 5.3)
-abbrev pub leaf_value : List ℕ → ℕ → List ℕ → List ℕ
-leaf_value i r key = sha256 (i ++ to_be_bytes w32 r ++ to_be_bytes w16 0x8282 ++ key)
+-- I || u32str(r) || u16str(D_LEAF) || K
+abbrev pub leaf_text : List ℕ → ℕ → List ℕ → List ℕ
+leaf_text i r key = i ++ to_be_bytes w32 r ++ to_be_bytes w16 0x8282 ++ key
 
--- H(I || u32str(r) || u16str(D_INTR) || left || right) (RFC 8554, section 5.3)
+-- the value of a leaf: the hash of these (RFC 8554, section 5.3)
+abbrev pub leaf_value : List ℕ → ℕ → List ℕ → List ℕ
+leaf_value i r key = sha256 (leaf_text i r key)
+
+-- I || u32str(r) || u16str(D_INTR) || left || right
+abbrev pub inner_text : List ℕ → ℕ → List ℕ → List ℕ → List ℕ
+inner_text i r left right = i ++ to_be_bytes w32 r ++ to_be_bytes w16 0x8383 ++ left ++ right
+
+-- the value of an inner node: the hash of these (RFC 8554, section 5.3)
 abbrev pub inner_value : List ℕ → ℕ → List ℕ → List ℕ → List ℕ
-inner_value i r left right =
-    sha256 (i ++ to_be_bytes w32 r ++ to_be_bytes w16 0x8383 ++ left ++ right)
+inner_value i r left right = sha256 (inner_text i r left right)
 
 -- T[r] of a leaf of the tree of height h that grows from the seed (RFC 8554, section 5.3)
 abbrev pub leaf_of : OtsType → ℕ → List ℕ → List ℕ → ℕ → List ℕ
@@ -43,6 +50,11 @@ beside r = if r % 2 == 0 then r + 1 else r - 1
 abbrev pub above : List ℕ → ℕ → List ℕ → List ℕ → List ℕ
 above i r value sibling =
     if r % 2 == 0 then inner_value i (r / 2) value sibling else inner_value i (r / 2) sibling value
+
+-- what is hashed for the node above r
+abbrev pub above_text : List ℕ → ℕ → List ℕ → List ℕ → List ℕ
+above_text i r value sibling =
+    if r % 2 == 0 then inner_text i (r / 2) value sibling else inner_text i (r / 2) sibling value
 
 -- the value of the node n levels above r, from the siblings on the way up (RFC 8554, section
 -- 5.4.2, algorithm 6a, step 4)

@@ -2,6 +2,7 @@
 
 ghost use Rattle.std.specs.Prelude.{◌≡◌, ◌+◌, ◌*◌, ◌^◌, ◌<◌, ◌≤◌};
 ghost use Rattle.lms_keys.specs.LmsType.{height};
+ghost use Rattle.lms_keys.specs.OneLeaf.{OneLeaf, OtherMessage};
 ghost use Rattle.lms_keys.specs.PublicKey.{OneKey};
 ghost use Rattle.lms_keys.specs.Tree.{inner_value, leaf_of, tree_node};
 
@@ -23,4 +24,18 @@ pub fn tree(lms: LmsType, ots: OtsType, i: &[u8], seed: &[u8], node: u32)
 /// Two public keys that are written as the same bytes are one.
 pub fn one_key()
     ensures { OneKey }
+{}
+
+/// Two good signatures of a key with one leaf lead to the same ends of its chains and have the same
+/// path, or else in one step of both verdicts different strings are hashed, which have one SHA-256.
+pub fn one_leaf()
+    ensures { OneLeaf }
+{}
+
+/// Where two signatures of a key with one leaf are good for different messages, the second shows of
+/// some chain a value from further back, whose walk leads to the one that the first shows, or else
+/// two different strings that are hashed have one SHA-256: in one step of both verdicts, or on two
+/// walks along a chain.
+pub fn other_message()
+    ensures { OtherMessage }
 {}

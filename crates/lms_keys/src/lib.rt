@@ -6,7 +6,9 @@
 //! stands on `lmots` for the one-time keys and on `sha2`. The crate above may rely on this:
 //! `verify` is the RFC's equation and nothing less, what `SecretKey::sign_at` writes is a good
 //! signature for the key's public part with the leaf that was asked, a public key is read exactly
-//! from the bytes that it is written as, and no call but `SecretKey::of` takes memory.
+//! from the bytes that it is written as, and no call but `SecretKey::of` takes memory. Of two good
+//! signatures with one leaf for different messages, the second shows a value from further back in
+//! some chain, or strings that are hashed collide (`laws::other_message`).
 #![tactic(auto)]
 
 pub mod laws;

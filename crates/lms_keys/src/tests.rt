@@ -203,3 +203,11 @@ fn makes_no_taller_keys(rt: HostRuntime) {
         }
     }
 }
+
+// Want of memory is the one answer that no contract rules out.
+#[test]
+fn makes_a_key_of_ten_levels(rt: HostRuntime) -> Result<(), Fail> {
+    let secret = SecretKey::of(rt.alloc(), LmsType::H10, OtsType::W2, I, SEED)?;
+    assert_eq!(rt; secret.leaves(), 1024);
+    Ok(())
+}
