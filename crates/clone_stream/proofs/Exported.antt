@@ -79,7 +79,19 @@ module _ (r : Repository) (start : ℕ) (is_start : start ≡ length header) (te
       own = at.1.each;
       past = let both = length-append header (flat_map object_record at.1.first) in let past = at.1.past in omega arith;
     }),
-    objects_front at.2,
+    inl (record {
+      first = at.2.first;
+      next = at.2.next;
+      rest = at.2.rest;
+      whole = at.2.whole;
+      own = at.2.each;
+      is = ap (λ (t : List ℕ). header ++ t) at.2.is;
+      past =
+          let both = length-append (header ++ text) (object_record at.2.next) in
+          let parts = length-append header text in
+          let past = at.2.past in
+          omega arith;
+    }),
   )
   objects_told few KeeperFailed at = objects_front at
   objects_told few SinkFailed at = objects_front at
@@ -158,7 +170,21 @@ module _ (r : Repository) (own : AllByRecursion IsOwn (entries r.objects)) (a : 
           let past = at.1.past in
           omega arith;
     }),
-    refs_front at.2,
+    inr (inl (record {
+      own = own;
+      first = at.2.first;
+      next = at.2.next;
+      rest = at.2.rest;
+      whole = at.2.whole;
+      is =
+          let refs = flat_map ref_record at.2.first in
+          ap (λ (t : List ℕ). a ++ t) at.2.is ∙ ap (λ (t : List ℕ). t ++ refs) is ∙ append_assoc header (flat_map object_record (entries r.objects)) refs;
+      past =
+          let both = length-append (a ++ text) (ref_record at.2.next) in
+          let parts = length-append a text in
+          let past = at.2.past in
+          omega arith;
+    })),
   )
   refs_told KeeperFailed at = refs_front at
   refs_told SinkFailed at = refs_front at
@@ -246,7 +272,15 @@ module _ (content : Option Repository) (o m n : Option (List ℕ)) (written : �
             let whole = ap length (ends r told) in
             omega arith;
       }),
-      before_end r told,
+      inr (inr (record {
+        own = wrote.own r told;
+        is = ends r told;
+        past =
+            let past = put.past in
+            let long = wrote.put.long in
+            let both = length-append wrote.text end_line in
+            omega arith;
+      })),
     );
   }
   end_refused KeeperFailed put = absurd put

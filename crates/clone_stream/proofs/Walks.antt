@@ -1,5 +1,5 @@
 -- Records of a map's entries that are written one after the other.
-use Rattle.std.proofs.Common.{◌≡◌, ◌≤◌, ◌+◌, ℕ, List, [], ◌∷◌, ◌++◌, Option, Some, None, length, refl, sym, ap, subst, ◌∙◌, append_assoc, arith, length-append}
+use Rattle.std.proofs.Common.{◌≡◌, ◌≤◌, ◌<◌, ◌+◌, ℕ, List, [], ◌∷◌, ◌++◌, Option, Some, None, length, refl, sym, ap, subst, ◌∙◌, append_assoc, arith, length-append}
 use Rattle.std.specs.Prelude.{map, slice_get, Err}
 use Rattle.std.specs.List.{AllByRecursion, flat_map}
 use Rattle.std.specs.FinMap.{entries}
@@ -10,7 +10,7 @@ use Rattle.octets.specs.Content.{Stays, with_end}
 use Rattle.edge_io.proofs.Parts.{with_ends}
 use Rattle.git_object.specs.Repository.{Repository}
 use Rattle.git_object.proofs.Runs.{all_push, flat_push}
-use Rattle.clone_stream.specs.Exports.{Halts, HaltsAt, IsBadAfter, IsBadEntry, IsFrontOf, IsLastStep, IsPut, IsRun, IsStep, Steps}
+use Rattle.clone_stream.specs.Exports.{Halts, HaltsAt, IsBadAfter, IsBadEntry, IsFrontOf, IsLastStep, IsPastNext, IsPut, IsRun, IsStep, Steps}
 use Rattle.clone_stream.specs.Reading.{last_of}
 use Rattle.clone_stream.specs.Streams.{largest_stream}
 use Rattle.clone_stream.specs.declared.export_faults.ExportFault.{ExportFault}
@@ -103,6 +103,20 @@ module _ {X : Type 0} (record_of : List ℕ × X → List ℕ) (Is Bad : List �
         is = so.is;
       }
 
+  past_next : (m : BytesMap X) (last : Option (List ℕ)) (start : ℕ) (text : List ℕ) (e : List ℕ × X) → IsUpTo record_of Is (entries m) last text → entry_after m last ≡ Some e → Is e
+      → largest_stream < start + (length text + length (record_of e)) → IsPastNext record_of Is (entries m) start text
+  past_next m last start text e so next is past =
+      let tail = head_of so.rest e (sym (next_entry m last so.first so.rest so.whole so.last_is) ∙ next) in
+      record {
+        first = so.first;
+        next = e;
+        rest = tail.0;
+        whole = so.whole ∙ ap (λ (t : List (List ℕ × X)). so.first ++ t) tail.1;
+        each = all_push Is so.first e so.each is;
+        is = so.is;
+        past = past;
+      }
+
   module _ (map_in : Repository → BytesMap X) where
     -- nothing was written yet
     pub at_first : (content : Option Repository) (start : ℕ) (before : Option (List ℕ)) → start ≤ largest_stream → IsSoFar record_of Is map_in content start before before None start
@@ -150,8 +164,11 @@ module _ {X : Type 0} (record_of : List ℕ × X → List ℕ) (Is Bad : List �
           let long = ap length more.is in
           let both = length-append so.text (record_of step.entry) in
           let count = so.put.long in
-          let past = step.past.past in
-          (step.past.is_limit, record { first = more.first; rest = more.rest; whole = more.whole; each = more.each; past = omega arith }, same_front r told))
+          let past = step.past.past in (
+            step.past.is_limit,
+            record { first = more.first; rest = more.rest; whole = more.whole; each = more.each; past = omega arith },
+            past_next (map_in r) last start so.text step.entry (so.told r (stays r told)) (step.next.tells r told) step.next.is (omega arith),
+          ))
       halted KeeperFailed step = stopped KeeperFailed step same_front
       halted SinkFailed step =
           let part = step.put.part in

@@ -1,11 +1,11 @@
 -- The stream of a keeper's repository, written whole or up to a refusal.
-use Rattle.std.specs.Prelude.{◌≡◌, ◌<◌, ◌≤◌, ◌++◌, ◌∷◌, ◌⊎◌, ℕ, List, length, Option, Some}
+use Rattle.std.specs.Prelude.{◌≡◌, ◌<◌, ◌≤◌, ◌++◌, ◌∷◌, ◌⊎◌, [], ℕ, List, length, Option, Some}
 use Rattle.std.specs.List.{AllByRecursion, flat_map}
 use Rattle.std.specs.FinMap.{entries}
 use Rattle.octets.specs.Content.{with_end}
 use Rattle.git_object.specs.Objects.{Pair}
 use Rattle.git_object.specs.Repository.{IsObject, Repository}
-use Rattle.clone_stream.specs.Streams.{IsOwn, IsStreamText, header, largest_stream, object_record, ref_record, stream_text}
+use Rattle.clone_stream.specs.Streams.{IsOwn, IsStreamText, end_line, header, largest_stream, object_record, ref_record, stream_text}
 use Rattle.clone_stream.specs.declared.export_faults.ExportFault.{ExportFault}
 use Rattle.clone_stream.specs.declared.export_faults.ExportFault.TheVariants.{Damaged, TooLarge, KeeperFailed, SinkFailed, Memory}
 
@@ -77,10 +77,40 @@ pub record PassesAfterObjects (r : Repository) : Type 0 where
 abbrev pub PassesFirst : Repository → Type 0
 PassesFirst r = PassesInObjects r ⊎ PassesAfterObjects r
 
+-- the bytes are the text before the record of an object that would pass the limit; no object up to it is damaged
+pub record IsPastObject (r : Repository) (front : List ℕ) : Type 0 where
+  pub first : List (List ℕ × Pair)
+  pub next : List ℕ × Pair
+  pub rest : List (List ℕ × Pair)
+  pub whole : entries r.objects ≡ first ++ next ∷ rest
+  pub own : AllByRecursion IsOwn (first ++ next ∷ [])
+  pub is : front ≡ header ++ flat_map object_record first
+  pub past : largest_stream < length (front ++ object_record next)
+
+-- no object is kept damaged, and the bytes are the text before the record of a reference that would pass the limit
+pub record IsPastRef (r : Repository) (front : List ℕ) : Type 0 where
+  pub own : AllByRecursion IsOwn (entries r.objects)
+  pub first : List (List ℕ × List ℕ)
+  pub next : List ℕ × List ℕ
+  pub rest : List (List ℕ × List ℕ)
+  pub whole : entries r.refs ≡ first ++ next ∷ rest
+  pub is : front ≡ header ++ (flat_map object_record (entries r.objects) ++ flat_map ref_record first)
+  pub past : largest_stream < length (front ++ ref_record next)
+
+-- no object is kept damaged, and the bytes are the text before the last line, which would pass the limit
+pub record IsPastEnd (r : Repository) (front : List ℕ) : Type 0 where
+  pub own : AllByRecursion IsOwn (entries r.objects)
+  pub is : front ++ end_line ≡ stream_text r
+  pub past : largest_stream < length (front ++ end_line)
+
+-- the bytes are exactly the records before the first that would pass the limit
+abbrev pub IsBeforePast : Repository → List ℕ → Type 0
+IsBeforePast r front = IsPastObject r front ⊎ (IsPastRef r front ⊎ IsPastEnd r front)
+
 -- why the text of a repository was not written whole, where these bytes of it went out
 abbrev pub RefusesText : Repository → List ℕ → ExportFault → Type 0
 RefusesText r front (Damaged id) = IsDamagedAt r id front
-RefusesText r front (TooLarge limit) = (limit ≡ largest_stream) × PassesFirst r × IsFrontText r front
+RefusesText r front (TooLarge limit) = (limit ≡ largest_stream) × PassesFirst r × IsBeforePast r front
 RefusesText r front KeeperFailed = IsFrontText r front
 RefusesText r front SinkFailed = IsFrontText r front
 RefusesText r front Memory = IsFrontText r front

@@ -1,5 +1,5 @@
 -- What writing a stream does, part by part: a text, a record, a run of records.
-use Rattle.std.specs.Prelude.{◌≡◌, ◌<◌, ◌≤◌, ◌+◌, ◌++◌, ◌∷◌, ℕ, List, length, Option, Some, None, Result, Ok, Err}
+use Rattle.std.specs.Prelude.{◌≡◌, ◌<◌, ◌≤◌, ◌+◌, ◌++◌, ◌∷◌, [], ℕ, List, length, Option, Some, None, Result, Ok, Err}
 use Rattle.std.specs.List.{AllByRecursion, flat_map}
 use Rattle.std.specs.FinMap.{entries}
 use Rattle.octets.specs.BytesMap.{BytesMap, entry_after}
@@ -152,10 +152,20 @@ pub record IsPastAfter {X : Type 0} (record_of : List ℕ × X → List ℕ) (Is
   pub each : AllByRecursion Is first
   pub past : largest_stream < start + length (flat_map record_of first)
 
+-- a text is the records of the entries before the first whose record would pass the limit; none up to it is damaged
+pub record IsPastNext {X : Type 0} (record_of : List ℕ × X → List ℕ) (Is : List ℕ × X → Type 0) (es : List (List ℕ × X)) (start : ℕ) (text : List ℕ) : Type 0 where
+  pub first : List (List ℕ × X)
+  pub next : List ℕ × X
+  pub rest : List (List ℕ × X)
+  pub whole : es ≡ first ++ next ∷ rest
+  pub each : AllByRecursion Is (first ++ next ∷ [])
+  pub is : text ≡ flat_map record_of first
+  pub past : largest_stream < start + (length text + length (record_of next))
+
 -- why a run of records ended before its end, where a text of it went out
 abbrev pub HaltsAt : {X : Type 0} → (List ℕ × X → List ℕ) → (List ℕ × X → Type 0) → (List ℕ × X → Type 0) → List (List ℕ × X) → ℕ → List ℕ → ExportFault → Type 0
 HaltsAt record_of Is Bad es start text (Damaged id) = IsBadAfter record_of Is Bad es id text
-HaltsAt record_of Is Bad es start text (TooLarge limit) = (limit ≡ largest_stream) × IsPastAfter record_of Is es start × IsFrontOf record_of Is es start text
+HaltsAt record_of Is Bad es start text (TooLarge limit) = (limit ≡ largest_stream) × IsPastAfter record_of Is es start × IsPastNext record_of Is es start text
 HaltsAt record_of Is Bad es start text KeeperFailed = IsFrontOf record_of Is es start text
 HaltsAt record_of Is Bad es start text SinkFailed = IsFrontOf record_of Is es start text
 HaltsAt record_of Is Bad es start text Memory = IsFrontOf record_of Is es start text

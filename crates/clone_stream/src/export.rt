@@ -159,9 +159,9 @@ fn write_refs<K: Sink, R: Keeper>(
 
 /// Writes the stream of a keeper's repository: its one text. `Damaged` comes exactly where the object is the first
 /// that is kept damaged and what comes before its record is within 1 GiB, and `TooLarge` exactly where the text
-/// passes 1 GiB before that; nothing of a record goes out that would. `KeeperFailed` and `SinkFailed` come exactly
-/// where the keeper or the sink counted a fault. After a refusal a front of the text went out, which has no
-/// damaged object in it. The keeper is as before.
+/// passes 1 GiB before that; exactly the records before that one then went out. `KeeperFailed` and `SinkFailed`
+/// come exactly where the keeper or the sink counted a fault. After these and want of memory a front of the text
+/// went out, which has no damaged object in it. The keeper is as before.
 pub fn write_stream<K: Sink, R: Keeper>(
     alloc: Global,
     keeper: &mut R,

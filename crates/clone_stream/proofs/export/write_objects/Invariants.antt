@@ -1,4 +1,4 @@
-use Rattle.std.proofs.Common.{◌≡◌, ◌≤◌, ◌-◌}
+use Rattle.std.proofs.Common.{◌≡◌, ◌-◌}
 use Rattle.keeper_api.specs.Undisturbed.{Undisturbed}
 use Rattle.clone_stream.specs.Exports.{objects_in}
 use Rattle.clone_stream.specs.Streams.{IsOwn, object_record, largest_stream}

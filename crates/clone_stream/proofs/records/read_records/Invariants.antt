@@ -1,4 +1,4 @@
-use Rattle.std.proofs.Common.{◌≡◌, ◌≤◌, ◌-◌}
+use Rattle.std.proofs.Common.{◌≡◌, ◌-◌}
 use Rattle.buffered_reader.specs.Ahead.{ahead, past}
 use Rattle.clone_stream.specs.Fronts.{ReadSoFar}
 use Rattle.clone_stream.proofs.records.read_records.Given as goal
