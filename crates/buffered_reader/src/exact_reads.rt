@@ -4,7 +4,7 @@ ghost use Rattle.std.specs.Prelude.{◌≡◌, ◌≢◌, ◌≤◌, ◌<◌, �
 ghost use Rattle.octets.specs.Causes.{HasCause, IsCaused};
 ghost use Rattle.octets.specs.Content.{with_front};
 ghost use Rattle.edge_io.specs.Read.{IsAtEnd};
-ghost use Rattle.buffered_reader.specs.Stops.{EndsIn, IsShorter, StopsAfter};
+ghost use Rattle.buffered_reader.specs.Stops.{EndsIn, IsShorter, StopsAfter, TakesOne};
 
 use crate::BufferedReader;
 use edge_io::{Failed, Source};
@@ -40,6 +40,7 @@ impl BufferedReader {
         ensures taken { OnOk result (self.new.taken ≡ self.old.taken + length out.new) }
         ensures cut { IsErrOf result ExactFault.Cut → IfSome (ahead self.old (S.left source.old)) (EndsIn (IsShorter (length out.new)) self.old self.new) }
         ensures failed { IsErrOf result ExactFault.Failed → StopsAfter (IsShorter (length out.new)) self.old self.new (ahead self.old (S.left source.old)) (ahead self.new (S.left source.new)) }
+        ensures no_memory { IsErrOf result ExactFault.Memory → ⊥ }
         ensures past { past self.new (S.left source.new) ≡ past self.old (S.left source.old) }
         ensures limit { self.new.limit ≡ self.old.limit }
         ensures cause { IsCaused ExactFault.Failed (S.faults source.old) (S.faults source.new) result }
@@ -58,7 +59,7 @@ impl BufferedReader {
 
     /// Takes so many bytes, which go into a buffer of their own. `Cut` comes exactly where fewer are ahead, and
     /// then all of them were taken. `Failed` comes exactly where the source counted a fault, and then fewer were
-    /// taken, and nothing is buffered.
+    /// taken, and nothing is buffered. Where memory is wanting, nothing was taken.
     pub fn exact<S: Source>(
         &mut self,
         alloc: Global,
@@ -70,6 +71,7 @@ impl BufferedReader {
         ensures taken { OnOk result (self.new.taken ≡ self.old.taken + count) }
         ensures cut { IsErrOf result ExactFault.Cut → IfSome (ahead self.old (S.left source.old)) (EndsIn (IsShorter count) self.old self.new) }
         ensures failed { IsErrOf result ExactFault.Failed → StopsAfter (IsShorter count) self.old self.new (ahead self.old (S.left source.old)) (ahead self.new (S.left source.new)) }
+        ensures memory { IsErrOf result ExactFault.Memory → (self.new ≡ self.old) × (S.left source.new ≡ S.left source.old) }
         ensures past { past self.new (S.left source.new) ≡ past self.old (S.left source.old) }
         ensures limit { self.new.limit ≡ self.old.limit }
         ensures cause { IsCaused ExactFault.Failed (S.faults source.old) (S.faults source.new) result }
@@ -84,9 +86,10 @@ impl BufferedReader {
     }
 
     /// Whether the input goes on past the limit. It is for where nothing is ahead any more: then the source is
-    /// at its end where the answer is no. It takes a byte off the source where all up to the limit was taken.
+    /// at its end where the answer is no. It takes one byte off the source where the answer is yes, and else none.
     pub fn passes_limit<S: Source>(&mut self, source: &mut S) -> Result<bool, Failed>
         ensures more { IfOk result (λ more. IsTrue more → (self.old.taken ≡ self.old.limit) × IfSome (past self.old (S.left source.old)) (λ rest. rest ≢ [])) }
+        ensures one { IfOk result (λ more. IsTrue more → TakesOne (past self.old (S.left source.old)) (S.left source.new)) }
         ensures none { IfOk result (λ more. more ≡ false → (self.old.taken < self.old.limit) ⊎ IfSome (past self.old (S.left source.old)) (λ rest. rest ≡ [])) }
         ensures end { IfOk result (λ more. more ≡ false → self.old.buffered ≡ [] → IfSome (ahead self.old (S.left source.old)) (λ rest. rest ≡ []) → IsAtEnd (S.left source.new)) }
         ensures unread { IfOk result (λ more. more ≡ false → S.left source.new ≡ S.left source.old) }

@@ -4,7 +4,7 @@ ghost use Rattle.std.specs.Prelude.{◌≡◌, ◌≤◌, ◌+◌, ◌++◌, ◌
 ghost use Rattle.octets.specs.Causes.{IsCaused};
 ghost use Rattle.octets.specs.Content.{with_front};
 ghost use Rattle.buffered_reader.specs.Lines.{IsLine, IsLong};
-ghost use Rattle.buffered_reader.specs.Stops.{EndsIn, StopsAfter};
+ghost use Rattle.buffered_reader.specs.Stops.{EndsIn, StopsAfter, TakesLong};
 
 use crate::{BufferedReader, Line};
 use edge_io::{Failed, Source};
@@ -33,8 +33,8 @@ impl From<Failed> for LineFault {
 impl BufferedReader {
     ghost use Rattle.buffered_reader.specs.Ahead.{ahead, past};
 
-    /// Takes a line and its line feed. `Long` comes exactly where 400 bytes stand ahead without a line feed,
-    /// `Cut` exactly where fewer do, and then all of them were taken. `Failed` comes exactly where the
+    /// Takes a line and its line feed. `Long` comes exactly where 400 bytes stand ahead without a line feed, and
+    /// then these were taken; `Cut` exactly where fewer do, and then all of them were taken. `Failed` comes exactly where the
     /// source counted a fault, and then the front of a line was taken, and nothing is buffered. It takes no
     /// memory.
     pub fn line<S: Source>(&mut self, source: &mut S) -> Result<Line, LineFault>
@@ -43,6 +43,7 @@ impl BufferedReader {
         ensures taken { IfOk result (λ line. self.new.taken ≡ self.old.taken + length line + 1) }
         ensures limited { OnOk result (self.new.taken ≤ self.new.limit) }
         ensures long { IsErrOf result LineFault.Long → IfSome (ahead self.old (S.left source.old)) IsLong }
+        ensures long_taken { IsErrOf result LineFault.Long → TakesLong self.old self.new (ahead self.old (S.left source.old)) (ahead self.new (S.left source.new)) }
         ensures cut { IsErrOf result LineFault.Cut → IfSome (ahead self.old (S.left source.old)) (EndsIn IsLine self.old self.new) }
         ensures failed { IsErrOf result LineFault.Failed → StopsAfter IsLine self.old self.new (ahead self.old (S.left source.old)) (ahead self.new (S.left source.new)) }
         ensures past { past self.new (S.left source.new) ≡ past self.old (S.left source.old) }
