@@ -1,5 +1,5 @@
 -- What was told ahead of a reader, and what breaks there.
-use Rattle.std.proofs.Common.{◌≡◌, ◌≢◌, length, ℕ, List, [], ◌∷◌, ◌++◌, Option, Some, None, inr, refl, sym, subst, append_assoc}
+use Rattle.std.proofs.Common.{◌≡◌, ◌≢◌, length, ℕ, List, [], ◌∷◌, ◌++◌, Option, Some, None, inr, refl, sym, ap, ◌∙◌, subst, append_assoc}
 use Rattle.std.specs.Prelude.{IfErr, IfSome, Ok, Err, Result}
 use Rattle.octets.specs.Content.{with_front}
 use Rattle.buffered_reader.specs.Lines.{IsLine}
@@ -23,7 +23,7 @@ breaks_line at line more (Order p) is bad = bad
 breaks_line at line more (TooLarge limit) is bad = record { line = line; more = more; whole = append_assoc line (10 ∷ []) more; is_line = is; wrong = bad }
 breaks_line at line more (Cut p) is bad = absurd bad
 breaks_line at line more (Failed p) is bad = absurd bad
-breaks_line at line more Memory is bad = tt
+breaks_line at line more Memory is bad = record { name = bad.name; id = bad.id; more = more; whole = append_assoc line (10 ∷ []) more ∙ ap (λ (l : List ℕ). l ++ 10 ∷ more) bad.is; is_ref = bad.is_ref }
 
 pub wrong_line : {T : Type 0} (r : Result T Break) (o after : Option (List ℕ)) (at : ℕ) (line : List ℕ) → IsLine line → o ≡ with_front (line ++ 10 ∷ []) after → IfErr r (BreaksGrammar at line)
     → IfErr r (λ fault. IfSome o (λ rest. BreaksLine at rest fault))

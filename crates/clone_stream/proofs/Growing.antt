@@ -1,6 +1,6 @@
 -- Records that are read one after the other.
-use Rattle.std.proofs.Common.{◌≡◌, ℕ, ◌+◌, List, [], ◌∷◌, ◌++◌, Option, Some, None, length, refl, sym, ap, subst, ◌∙◌, append_assoc, arith, length-append}
-use Rattle.std.specs.Prelude.{map, IfSome, Err}
+use Rattle.std.proofs.Common.{◌≡◌, ℕ, ◌+◌, List, [], ◌∷◌, ◌++◌, Option, Some, None, inl, inr, length, refl, sym, ap, subst, ◌∙◌, append_assoc, arith, length-append}
+use Rattle.std.specs.Prelude.{decimal, map, IfSome, Err}
 use Rattle.std.specs.List.{AllByRecursion, flat_map}
 use Rattle.std.proofs.lemmas.List.{append-nil}
 use Rattle.octets.specs.Content.{with_front}
@@ -15,8 +15,9 @@ use Rattle.clone_stream.specs.Fronts.{AreRead, BreaksRecords, ReadSoFar, last_re
 use Rattle.clone_stream.specs.Reading.{Comes, last_of}
 use Rattle.clone_stream.specs.Records.{IsNextObject, IsNextRef, last_read}
 use Rattle.clone_stream.specs.Stopping.{StopsAt}
-use Rattle.clone_stream.specs.Streams.{IsOwn, IsRef, end_line, object_record, ref_record}
+use Rattle.clone_stream.specs.Streams.{IsOwn, IsRef, end_line, object_line, object_record, ref_line, ref_record}
 use Rattle.clone_stream.specs.declared.stream_faults.Break.{Break}
+use Rattle.clone_stream.specs.declared.stream_faults.Break.TheVariants.{Memory}
 use Rattle.clone_stream.proofs.Broken.{told}
 use Rattle.clone_stream.proofs.Lasts.{none_last, sorted_push}
 use Rattle.clone_stream.proofs.Placed.{stops_later}
@@ -144,6 +145,26 @@ module _ (objects : List Pair) (refs : List RefChange) (o m : Option (List ℕ))
         front = refl;
         breaks = subst (λ (l : Last). BreaksRecord l (was + length (records_text so_far.entries so_far.names)) more fault) lasts (subst (λ (k : ℕ). BreaksRecord (last_read objects refs) k more fault) so_far.taken here);
       })
+
+  -- the object that stands next takes memory
+  pub object_lacks : (x : Pair) (n : Option (List ℕ)) → IsNextObject (last_read objects refs) x → m ≡ with_front (object_record (pair_id x, x)) n → IfSome o (λ rest. BreaksRecords was rest Memory)
+  object_lacks x n next e =
+      let line = object_line (pair_id x) x.kind (decimal (length x.body)) in
+      next_breaks Memory (told (λ rest. BreaksRecord (last_read objects refs) at rest Memory) m n (object_record (pair_id x, x)) e (λ more _. inr (inr (record {
+        id = pair_id x;
+        kind = x.kind;
+        size = length x.body;
+        more = (x.body ++ 10 ∷ []) ++ more;
+        head = record { whole = append_assoc line (10 ∷ (x.body ++ 10 ∷ [])) more; is_id = next.own.id; small = next.own.is.small };
+        comes = next.comes;
+        breaks = tt;
+      }))))
+
+  -- the reference that stands next takes memory
+  pub ref_lacks : (name id : List ℕ) (n : Option (List ℕ)) → IsNextRef (last_read objects refs) name id → m ≡ with_front (ref_record (name, id)) n → IfSome o (λ rest. BreaksRecords was rest Memory)
+  ref_lacks name id n next e =
+      next_breaks Memory (told (λ rest. BreaksRecord (last_read objects refs) at rest Memory) m n (ref_record (name, id)) e
+      (λ more _. inl (record { name = name; id = id; more = more; whole = append_assoc (ref_line name id) (10 ∷ []) more; is_ref = next.is })))
 
   pub stops_after : (mid now : Reading) (first : Reading) (n : Option (List ℕ)) (fault : Break) → first.taken ≡ was → mid.taken ≡ at → StopsAt mid now m n fault → StopsAt first now o n fault
   stops_after mid now first n fault from place stops =

@@ -4,6 +4,7 @@ pub mod Decisions
 pub mod Entries
 pub mod Exported
 pub mod Growing
+pub mod Lacking
 pub mod Lasts
 pub mod Limits
 pub mod Lines

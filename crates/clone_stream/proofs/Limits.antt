@@ -286,7 +286,7 @@ module _ (limit : ℕ) (r : Reading) (left first now : Option (List ℕ)) (befor
             left = rejoin r left split.0 (drop limit input) st.drained split.1 f;
             unbroken = un.unbroken;
           }
-      at input break_.Memory e f uncut is st = tt
+      at input break_.Memory e f uncut is st = is
 
       go : (o : Option (List ℕ)) → before ≡ option_map (take limit) o → past r left ≡ option_map (drop limit) o → IfSome o (λ input. IsRefusedBy limit input left (from_break fault))
       go None e f = tt

@@ -27,7 +27,15 @@ pub record HasWrongLine (Wrong : List ℕ → Type 0) (rest : List ℕ) : Type 0
   pub is_line : IsLine line
   pub wrong : Wrong line
 
--- what breaks in the line that begins at this place
+-- the line of a reference stands in front
+pub record HasRef (rest : List ℕ) : Type 0 where
+  pub name : List ℕ
+  pub id : List ℕ
+  pub more : List ℕ
+  pub whole : rest ≡ ref_line name id ++ 10 ∷ more
+  pub is_ref : IsRef (name, id)
+
+-- what breaks in the line that begins at this place; memory is wanting at a reference's alone
 abbrev pub BreaksLine : ℕ → List ℕ → Break → Type 0
 BreaksLine at rest (BadLine p) = (p ≡ at) × (IsLong rest ⊎ HasWrongLine (λ line. BreaksGrammar at line (BadLine at)) rest)
 BreaksLine at rest (IdDiffers id found) = ⊥
@@ -35,7 +43,7 @@ BreaksLine at rest (Order p) = ⊥
 BreaksLine at rest (TooLarge limit) = HasWrongLine (λ line. BreaksGrammar at line (TooLarge limit)) rest
 BreaksLine at rest (Cut p) = (p ≡ at + length rest) × IsLine rest
 BreaksLine at rest (Failed p) = FailsIn IsLine at rest p
-BreaksLine at rest Memory = Unit {0}
+BreaksLine at rest Memory = HasRef rest
 
 -- after a body of so many bytes stands another byte than a line feed
 pub record HasBadEnd (size : ℕ) (rest : List ℕ) : Type 0 where
@@ -111,7 +119,7 @@ BreaksOrder last at rest (Order p) = (p ≡ at) × (HasLateObject last rest ⊎ 
 BreaksOrder last at rest (TooLarge limit) = ⊥
 BreaksOrder last at rest (Cut p) = ⊥
 BreaksOrder last at rest (Failed p) = ⊥
-BreaksOrder last at rest Memory = Unit {0}
+BreaksOrder last at rest Memory = ⊥
 
 -- what breaks after the line of an object that may come
 pub record BreaksObject (last : Last) (at : ℕ) (rest : List ℕ) (fault : Break) : Type 0 where
@@ -141,7 +149,7 @@ BreaksEnd at rest (Order p) = ⊥
 BreaksEnd at rest (TooLarge limit) = ⊥
 BreaksEnd at rest (Cut p) = ⊥
 BreaksEnd at rest (Failed p) = FailsIn (λ part. part ≡ codes "end" ++ 10 ∷ []) at rest p
-BreaksEnd at rest Memory = Unit {0}
+BreaksEnd at rest Memory = ⊥
 
 -- what breaks in the first line
 abbrev pub BreaksHeader : List ℕ → Break → Type 0
@@ -151,4 +159,4 @@ BreaksHeader text (Order p) = ⊥
 BreaksHeader text (TooLarge limit) = ⊥
 BreaksHeader text (Cut p) = (p ≡ length text) × IsLine text
 BreaksHeader text (Failed p) = FailsIn IsLine 0 text p
-BreaksHeader text Memory = Unit {0}
+BreaksHeader text Memory = ⊥

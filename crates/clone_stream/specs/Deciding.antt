@@ -39,7 +39,8 @@ pub record FailsUnbroken (input : List ℕ) (after : Option (List ℕ)) : Type 0
   pub left : after ≡ Some rest
   pub unbroken : IsUnbroken read
 
--- how reading of an input ended in a refusal; want of memory says nothing
+-- how reading of an input ended in a refusal; memory is wanting only at an object that may come or at a reference
+-- after the longest front
 abbrev pub IsRefusedBy : ℕ → List ℕ → Option (List ℕ) → StreamFault → Type 0
 IsRefusedBy limit input after (BadLine p) = DecidesWithin limit input (BadLine p)
 IsRefusedBy limit input after (IdDiffers id found) = DecidesWithin limit input (IdDiffers id found)
@@ -49,4 +50,4 @@ IsRefusedBy limit input after (Truncated p) = DecidesWithin limit input (Truncat
 IsRefusedBy limit input after SourceFailed = FailsUnbroken input after
 IsRefusedBy limit input after KeeperFailed = ⊥
 IsRefusedBy limit input after NotEmpty = ⊥
-IsRefusedBy limit input after Memory = Unit {0}
+IsRefusedBy limit input after Memory = FirstBreak (take limit input) break_.Memory

@@ -1,12 +1,14 @@
 -- A stream that is taken from a source into an empty keeper.
-use Rattle.std.specs.Prelude.{◌≡◌, ◌≤◌, ◌⊎◌, ℕ, List, length, Option, Some}
+use Rattle.std.specs.Prelude.{◌≡◌, ◌≤◌, ◌⊎◌, ℕ, List, length, take, Option, Some}
 use Rattle.octets.specs.Content.{Stays, with_front}
 use Rattle.edge_io.specs.Read.{IsAtEnd}
 use Rattle.git_object.specs.Repository.{Repository, empty_repository}
 use Rattle.keeper_api.specs.Changes.{changed}
 use Rattle.keeper_api.specs.declared.changes.Change.{Change}
 use Rattle.clone_stream.specs.Deciding.{Decides, FailsUnbroken}
+use Rattle.clone_stream.specs.Fronts.{FirstBreak}
 use Rattle.clone_stream.specs.Streams.{IsStreamText, largest_stream}
+use Rattle.clone_stream.specs.declared.stream_faults.Break.TheVariants as break_
 use Rattle.clone_stream.specs.declared.stream_faults.StreamFault.{StreamFault}
 use Rattle.clone_stream.specs.declared.stream_faults.StreamFault.TheVariants.{BadLine, IdDiffers, Order, TooLarge, Truncated, SourceFailed, KeeperFailed, NotEmpty, Memory}
 
@@ -35,7 +37,20 @@ pub record Takes (left left_now : Option (List ℕ)) (before after : Option Repo
   pub was_read : WasRead left left_now bytes
   pub held : (r : Repository) → after ≡ Some r → (before ≡ Some empty_repository) × IsStreamText r bytes
 
--- a refusal of the input is the one that its first wrong place decides; a failed source gave nothing that is refused
+-- the input was read to its end, and is a stream
+pub record IsWhole (input : List ℕ) (after : Option (List ℕ)) : Type 0 where
+  pub bytes : List ℕ
+  pub repository : Repository
+  pub was_read : WasRead (Some input) after bytes
+  pub text : IsStreamText repository bytes
+
+-- memory is wanting only where nothing was read, at a record that takes some after the longest front, or where the
+-- whole stream was read
+abbrev pub MayLack : List ℕ → Option (List ℕ) → Type 0
+MayLack input after = (after ≡ Some input) ⊎ (FirstBreak (take largest_stream input) break_.Memory ⊎ IsWhole input after)
+
+-- a refusal of the input is the one that its first wrong place decides; a failed source gave nothing that is refused,
+-- and want of memory hides no place where no memory is taken
 abbrev pub IsDecided : List ℕ → Option (List ℕ) → StreamFault → Type 0
 IsDecided input after (BadLine at) = Decides input (BadLine at)
 IsDecided input after (IdDiffers id found) = Decides input (IdDiffers id found)
@@ -45,7 +60,7 @@ IsDecided input after (Truncated at) = Decides input (Truncated at)
 IsDecided input after SourceFailed = FailsUnbroken input after
 IsDecided input after KeeperFailed = Unit {0}
 IsDecided input after NotEmpty = Unit {0}
-IsDecided input after Memory = Unit {0}
+IsDecided input after Memory = MayLack input after
 
 -- the refusals that come without a keeper
 abbrev pub IsOfSource : StreamFault → Type 0

@@ -1,6 +1,6 @@
 //! What the lines of a stream say.
 
-ghost use Rattle.std.specs.Prelude.{◌≡◌, ◌≢◌, ◌++◌, ◌∷◌, ℕ, List, false, codes, decimal, IfOk, IfErr, IfSome, IfNone, IsErrOf};
+ghost use Rattle.std.specs.Prelude.{◌≡◌, ◌≢◌, ◌++◌, ◌∷◌, ℕ, List, false, codes, decimal, IfOk, IfErr, IfSome, IfNone, IsErrOf, OnErr};
 ghost use Rattle.hex.specs.Hex.{encode_lower};
 ghost use Rattle.text_reader.specs.Line.{has_byte};
 ghost use Rattle.git_object.specs.Ids.{IsId};
@@ -117,6 +117,7 @@ fn split_ref(line: &[u8]) -> Option<(&[u8], ObjectId)>
 fn read_ref(alloc: Global, line: &[u8]) -> Result<Option<RefValue>, Memory>
     ensures found { IfOk result (λ found. IfSome found (λ value. IsRef (value.name, value.id) × (line.now ≡ ref_line value.name value.id))) }
     ensures none { IfOk result (λ found. IfNone found (IsRefLine line.now → ⊥)) }
+    ensures lacks { OnErr result (IsRefLine line.now) }
 {
     let Some(parts) = split_ref(line) else {
         return Ok(None);
@@ -145,7 +146,8 @@ fn other_words(alloc: Global, line: &[u8], at: u64) -> Result<Words, Break>
 }
 
 /// What a line says that begins at a place. `BadLine` comes exactly where it is none of the lines that may
-/// stand there, and `TooLarge` exactly where it is an object's with a size past 16 MiB.
+/// stand there, and `TooLarge` exactly where it is an object's with a size past 16 MiB. Only a reference's line
+/// takes memory.
 pub fn words_of(alloc: Global, line: &[u8], at: u64) -> Result<Words, Break>
     ensures valid { IfOk result AreWords }
     ensures found { IfOk result (λ words. line.now ≡ words_line words) }

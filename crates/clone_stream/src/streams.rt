@@ -12,8 +12,10 @@ use std::alloc::Global;
 
 /// Reads a stream to the end of its source and commits its repository at once into an empty keeper. `NotEmpty`
 /// is tried first, before a byte is read; of the other refusals of the input the first place decides. Where the
-/// source fails, nothing that was read before is refused. After `KeeperFailed` the keeper holds what it held
-/// or, where the commit failed, perhaps the spelled repository; after every other refusal it holds what it held.
+/// source fails, nothing that was read before is refused. Memory is wanting only before a byte was read, at an
+/// object that may come or a reference after the longest front, or where the whole stream was read. After
+/// `KeeperFailed` the keeper holds what it held or, where the commit failed, perhaps the spelled repository; after
+/// every other refusal it holds what it held.
 pub fn read_stream<S: Source, R: Keeper>(
     alloc: Global,
     source: &mut S,

@@ -1,7 +1,11 @@
 use Rattle.std.proofs.Common.{refl, rules}
 use Rattle.buffered_reader.specs.Ahead.{ahead}
+use Rattle.std.specs.Prelude.{IfSome}
+use Rattle.clone_stream.specs.Fronts.{BreaksRecords}
+use Rattle.clone_stream.specs.declared.stream_faults.Break.TheVariants.{Memory}
+use Rattle.clone_stream.proofs.Lacking.{gives}
 use Rattle.clone_stream.specs.Records.{IsNextObject, IsNextRef, last_read}
-use Rattle.clone_stream.proofs.Growing.{at_first, next_breaks, object_read, ref_read, stops_after}
+use Rattle.clone_stream.proofs.Growing.{at_first, next_breaks, object_lacks, object_read, ref_lacks, ref_read, stops_after}
 use Rattle.clone_stream.proofs.records.read_records.Goals as goal
 
 pub records-init : goal.records-init
@@ -43,3 +47,19 @@ returns-in-Err-clause-bad g c = next_breaks c.records.objects c.records.refs _ _
 
 pub returns-in-Err-clause-stops : goal.returns-in-Err-clause-stops
 returns-in-Err-clause-stops g c = stops_after c.records.objects c.records.refs _ _ _ _ c.records.invariant.read c.records.reader c.next_record.new.reader c.args.reader.now _ c.in-Err.fault refl refl c.in-Err.ensures.stops
+
+pub returns-in_err-push-in-Ok-Object-clause-bad : goal.returns-in_err-push-in-Ok-Object-clause-bad
+returns-in_err-push-in-Ok-Object-clause-bad g c =
+    let object = c.in-Ok-Object.object in
+    let found : IsNextObject (last_read c.as_slice.result.now c.as_slice-in-records.result.now) object = rw c.in-Ok-Object.field-0-is at c.in-Ok-Object.ensures.next in
+    let next : IsNextObject (last_read c.records.objects c.records.refs) object = rw (c.as_slice.ensures, c.as_slice-in-records.ensures) at found in
+    gives c.from_residual.result Memory (λ fault. IfSome (ahead c.args.reader.now (g.S.Source.left c.args.source.now)) (λ rest. BreaksRecords c.args.reader.now.taken rest fault)) c.from_residual.ensures.1
+    (object_lacks c.records.objects c.records.refs _ _ _ _ c.records.invariant.read object _ next (rw c.in-Ok-Object.field-0-is at c.in-Ok-Object.ensures.ahead))
+
+pub returns-in_err-push-in-Ok-Ref-clause-bad : goal.returns-in_err-push-in-Ok-Ref-clause-bad
+returns-in_err-push-in-Ok-Ref-clause-bad g c =
+    let value = c.in-Ok-Ref.value in
+    let found : IsNextRef (last_read c.as_slice.result.now c.as_slice-in-records.result.now) value.name value.id = rw c.in-Ok-Ref.field-0-is at c.in-Ok-Ref.ensures.next in
+    let next : IsNextRef (last_read c.records.objects c.records.refs) value.name value.id = rw (c.as_slice.ensures, c.as_slice-in-records.ensures) at found in
+    gives c.from_residual-in_err-push-in-Ok-Ref.result Memory (λ fault. IfSome (ahead c.args.reader.now (g.S.Source.left c.args.source.now)) (λ rest. BreaksRecords c.args.reader.now.taken rest fault)) c.from_residual-in_err-push-in-Ok-Ref.ensures.1
+    (ref_lacks c.records.objects c.records.refs _ _ _ _ c.records.invariant.read value.name value.id _ next (rw c.in-Ok-Ref.field-0-is at c.in-Ok-Ref.ensures.ahead))
