@@ -1,5 +1,5 @@
 -- A whole stream that is written part by part.
-use Rattle.std.proofs.Common.{◌≡◌, ◌≤◌, ◌+◌, ℕ, List, [], ◌∷◌, ◌++◌, Option, Some, inl, inr, length, refl, sym, ap, ◌∙◌, append_assoc, arith, length-append}
+use Rattle.std.proofs.Common.{◌≡◌, ◌≤◌, ◌<◌, ◌+◌, ℕ, List, [], ◌∷◌, ◌++◌, Option, Some, inl, inr, length, refl, sym, ap, ◌∙◌, append_assoc, arith, length-append}
 use Rattle.std.specs.Prelude.{Err}
 use Rattle.std.specs.List.{AllByRecursion, flat_map}
 use Rattle.std.specs.FinMap.{entries}
@@ -245,11 +245,12 @@ module _ (content : Option Repository) (o m n : Option (List ℕ)) (written : �
         within = let same = ap length none in let few = wrote.put.within in let long = wrote.put.long in omega arith;
       }))
 
-  in_end : (r : Repository) → content ≡ Some r → (a b : List ℕ) → written + length end_line ≤ largest_stream → end_line ≡ a ++ b → IsFrontText r (wrote.text ++ a)
-  in_end r told a b few e =
+  in_end : (r : Repository) → content ≡ Some r → (a b : List ℕ) → 0 < length b → written + length end_line ≤ largest_stream → end_line ≡ a ++ b → IsFrontText r (wrote.text ++ a)
+  in_end r told a b less few e =
       let is = append_assoc wrote.text a b ∙ ap (λ (t : List ℕ). wrote.text ++ t) (sym e) in
       inr (inr (record {
         more = b;
+        less = less;
         own = wrote.own r told;
         is = is ∙ ends r told;
         within = let same = ap length is in let both = length-append wrote.text end_line in let long = wrote.put.long in omega arith;
@@ -296,7 +297,7 @@ module _ (content : Option Repository) (o m n : Option (List ℕ)) (written : �
             let whole = ap length part.whole in
             let parts = length-append part.front part.rest in
             omega arith;
-        told = λ r told. in_end r told part.front part.rest put.within part.whole;
+        told = λ r told. in_end r told part.front part.rest part.less put.within part.whole;
       }
   end_refused Memory put = record {
     front = wrote.text;

@@ -36,9 +36,10 @@ pub record IsRefsFront (r : Repository) (front : List ℕ) : Type 0 where
   pub is : front ++ more ≡ header ++ (flat_map object_record (entries r.objects) ++ flat_map ref_record first)
   pub within : length (front ++ more) ≤ largest_stream
 
--- no object is kept damaged, the bytes are a front of the text, and it is within the limit
+-- no object is kept damaged, the bytes are a front of the text and not all of it, and it is within the limit
 pub record IsWholeFront (r : Repository) (front : List ℕ) : Type 0 where
   pub more : List ℕ
+  pub less : 0 < length more
   pub own : AllByRecursion IsOwn (entries r.objects)
   pub is : front ++ more ≡ stream_text r
   pub within : length (front ++ more) ≤ largest_stream
