@@ -37,7 +37,7 @@ fn words_outside_the_grammar_touch_nothing(rt: HostRuntime) -> Result<(), Fail> 
 // A name of so many bytes.
 fn name_of(alloc: Global, len: usize) -> Result<String, Fail> {
     let mut name = String::from_str(alloc, "refs/heads/")?;
-    while name.len() < len {
+    for _ in name.len()..len {
         name.push_str("x")?;
     }
     Ok(name)
