@@ -3,6 +3,7 @@
 use crate::scenes::{ask, over, run_words};
 use crate::streams;
 use edge_io::{MemSink, MemSource};
+use git_object::{Kind, id_of};
 use gittuf_cli::{Outside, run};
 use keeper_directory::DirKeeper;
 use octets::Octets;
@@ -19,7 +20,7 @@ fn exported(alloc: Global, stream: &[u8]) -> Result<Octets, Fail> {
     if outside.sink.contents() != b"imported\n".as_slice() {
         return Err("its line".into());
     }
-    outside.sink = MemSink::new(alloc, 10000)?;
+    outside.sink = MemSink::new(alloc, stream.len())?;
     if run_words(alloc, &["export"], &mut outside)? != 0 {
         return Err("an export".into());
     }
@@ -38,6 +39,25 @@ fn what_is_imported_is_exported(rt: HostRuntime) -> Result<(), Fail> {
         assert!(rt; exported(alloc, stream)?.as_slice() == stream);
     }
     assert_eq!(rt; streams::one_blob().len(), 100);
+    Ok(())
+}
+
+// A stream of one blob of two million bytes.
+fn large_stream(alloc: Global) -> Result<Octets, Fail> {
+    let body = vec![in alloc; b'x'; 2000000]?;
+    let mut stream = Octets::from_slice(alloc, b"gittuf-stream 1\nobject ")?;
+    stream.append(&id_of(Kind::Blob, body.as_slice()).to_hex())?;
+    stream.append(b" blob 2000000\n")?;
+    stream.append(body.as_slice())?;
+    stream.append(b"\nend\n")?;
+    Ok(stream)
+}
+
+#[test]
+fn a_large_body_goes_in_and_out(rt: HostRuntime) -> Result<(), Fail> {
+    let alloc = rt.alloc();
+    let stream = large_stream(alloc)?;
+    assert!(rt; exported(alloc, stream.as_slice())?.as_slice() == stream.as_slice());
     Ok(())
 }
 

@@ -40,6 +40,11 @@ pub fn one_line_feed_too_many() -> &'static [u8] {
     b"gittuf-stream 1\nobject 473a0f4c3be8a93681a267e3b1e9a7dcda1185436fe141f7749120a303721813 blob 0\n\nend\n\n"
 }
 
+/// A carriage return stands where the line feed behind a body is wanted.
+pub fn blob_with_a_wrong_end() -> &'static [u8] {
+    b"gittuf-stream 1\nobject 473a0f4c3be8a93681a267e3b1e9a7dcda1185436fe141f7749120a303721813 blob 0\n\rend\n"
+}
+
 pub fn blob_under_a_wrong_id() -> &'static [u8] {
     b"gittuf-stream 1\nobject 0000000000000000000000000000000000000000000000000000000000000000 blob 0\n\nend\n"
 }

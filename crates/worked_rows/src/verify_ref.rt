@@ -78,6 +78,7 @@ fn a_refused_stream_leaves_the_keeper(rt: HostRuntime) -> Result<(), Fail> {
         (streams::cut_after_the_header(), b"stream 5\n"),
         (streams::cut_in_the_end(), b"stream 5\n"),
         (streams::one_line_feed_too_many(), b"stream 1\n"),
+        (streams::blob_with_a_wrong_end(), b"stream 1\n"),
         (streams::blob_under_a_wrong_id(), b"stream 2\n"),
         (streams::objects_out_of_order(), b"stream 3\n"),
         (streams::blob_past_the_limit(), b"stream 4\n"),
