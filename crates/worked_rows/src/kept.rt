@@ -1,5 +1,6 @@
 //! `import` and `export`, over objects in memory and over a folder.
 
+use crate::proved_rows::empty_stream;
 use crate::scenes::{ask, over, run_words};
 use crate::streams;
 use edge_io::{MemSink, MemSource};
@@ -31,7 +32,7 @@ fn exported(alloc: Global, stream: &[u8]) -> Result<Octets, Fail> {
 fn what_is_imported_is_exported(rt: HostRuntime) -> Result<(), Fail> {
     let alloc = rt.alloc();
     for stream in [
-        streams::empty(),
+        empty_stream(),
         streams::one_blob(),
         streams::main_at_the_blob(),
         streams::tree_commit_and_tag(),

@@ -1,9 +1,5 @@
 //! Streams, each worked out by hand from the format.
 
-pub fn empty() -> &'static [u8] {
-    b"gittuf-stream 1\nend\n"
-}
-
 /// The branch `main` stands at the empty blob.
 pub fn main_at_the_blob() -> &'static [u8] {
     b"gittuf-stream 1\nref refs/heads/main 473a0f4c3be8a93681a267e3b1e9a7dcda1185436fe141f7749120a303721813\nend\n"

@@ -1,5 +1,6 @@
 //! `verify-ref` from words and bytes to the printed line, over objects in memory.
 
+use crate::proved_rows::empty_stream;
 use crate::scenes::{accepted, ask, expect, expect_of, over, refused, run_words, tip_differs};
 use crate::streams;
 use edge_io::{MemSink, MemSource};
@@ -61,7 +62,7 @@ fn the_longest_name_is_judged(rt: HostRuntime) -> Result<(), Fail> {
 #[test]
 fn a_stream_is_taken_and_judged(rt: HostRuntime) -> Result<(), Fail> {
     let alloc = rt.alloc();
-    expect_of(&rt, alloc, streams::empty(), accepted(), false)?;
+    expect_of(&rt, alloc, empty_stream(), accepted(), false)?;
     expect_of(&rt, alloc, streams::one_blob(), accepted(), true)?;
     expect_of(&rt, alloc, streams::main_at_zeros(), accepted(), true)?;
     expect_of(&rt, alloc, streams::main_at_the_blob(), tip_differs(), true)?;
@@ -114,7 +115,7 @@ fn a_keeper_that_holds_something_takes_no_stream(rt: HostRuntime) -> Result<(), 
     let mut outside = over(alloc, streams::one_blob())?;
     let status = ask(alloc, &mut outside)?;
     expect(&rt, alloc, status, &mut outside, accepted(), true)?;
-    outside.source = MemSource::new(Octets::from_slice(alloc, streams::empty())?);
+    outside.source = MemSource::new(Octets::from_slice(alloc, empty_stream())?);
     outside.sink = MemSink::new(alloc, 100)?;
     let status = ask(alloc, &mut outside)?;
     expect(
@@ -132,7 +133,7 @@ fn a_source_that_fails_is_a_fault(rt: HostRuntime) -> Result<(), Fail> {
     let alloc = rt.alloc();
     let mut outside = over(alloc, b"")?;
     outside.source = MemSource::failing(
-        Octets::from_slice(alloc, streams::empty())?,
+        Octets::from_slice(alloc, empty_stream())?,
         vec![in alloc; 1]?,
     );
     let status = ask(alloc, &mut outside)?;
