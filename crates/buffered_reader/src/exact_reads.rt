@@ -1,7 +1,8 @@
 //! Reading so many bytes into a buffer of their own.
 
 ghost use Rattle.std.specs.Prelude.{◌≡◌, ◌≢◌, ◌≤◌, ◌<◌, ◌+◌, ◌⊎◌, [], length, false, IfOk, IfSome, IsErrOf, IsTrue, OnOk, OnErr};
-ghost use Rattle.octets.specs.Causes.{HasCause, IsCaused};
+ghost use Rattle.octets.specs.Causes.{HasCause, each};
+ghost use Rattle.buffered_reader.specs.Faults.{exact_failed};
 ghost use Rattle.octets.specs.Content.{with_front};
 ghost use Rattle.edge_io.specs.Read.{IsAtEnd};
 ghost use Rattle.buffered_reader.specs.Stops.{EndsIn, IsShorter, StopsAfter, TakesOne};
@@ -43,7 +44,7 @@ impl BufferedReader {
         ensures no_memory { IsErrOf result ExactFault.Memory → ⊥ }
         ensures past { past self.new (S.left source.new) ≡ past self.old (S.left source.old) }
         ensures limit { self.new.limit ≡ self.old.limit }
-        ensures cause { IsCaused ExactFault.Failed (S.faults source.old) (S.faults source.new) result }
+        ensures cause { HasCause exact_failed (S.faults source.old) (S.faults source.new) result }
     {
         let mut at = 0;
         'pieces: while at < out.len() {
@@ -74,7 +75,7 @@ impl BufferedReader {
         ensures memory { IsErrOf result ExactFault.Memory → (self.new ≡ self.old) × (S.left source.new ≡ S.left source.old) }
         ensures past { past self.new (S.left source.new) ≡ past self.old (S.left source.old) }
         ensures limit { self.new.limit ≡ self.old.limit }
-        ensures cause { IsCaused ExactFault.Failed (S.faults source.old) (S.faults source.new) result }
+        ensures cause { HasCause exact_failed (S.faults source.old) (S.faults source.new) result }
     {
         let Ok(mut bytes) = vec![in alloc; 0u8; count] else {
             return Err(ExactFault::Memory);
@@ -97,7 +98,7 @@ impl BufferedReader {
         ensures limited { self.old.taken ≤ self.old.limit }
         ensures failed { OnErr result (S.left source.new ≡ past self.old (S.left source.old)) }
         ensures failed_full { OnErr result (self.old.taken ≡ self.old.limit) }
-        ensures cause { HasCause (S.faults source.old) (S.faults source.new) result }
+        ensures cause { HasCause each (S.faults source.old) (S.faults source.new) result }
     {
         if self.taken() < self.limit() {
             return Ok(false);

@@ -1,7 +1,8 @@
 //! Reading a line.
 
 ghost use Rattle.std.specs.Prelude.{◌≡◌, ◌≤◌, ◌+◌, ◌++◌, ◌∷◌, [], length, IfOk, IfSome, IsErrOf, OnOk};
-ghost use Rattle.octets.specs.Causes.{IsCaused};
+ghost use Rattle.octets.specs.Causes.{HasCause};
+ghost use Rattle.buffered_reader.specs.Faults.{line_failed};
 ghost use Rattle.octets.specs.Content.{with_front};
 ghost use Rattle.buffered_reader.specs.Lines.{IsLine, IsLong};
 ghost use Rattle.buffered_reader.specs.Stops.{EndsIn, StopsAfter, TakesLong};
@@ -48,7 +49,7 @@ impl BufferedReader {
         ensures failed { IsErrOf result LineFault.Failed → StopsAfter IsLine self.old self.new (ahead self.old (S.left source.old)) (ahead self.new (S.left source.new)) }
         ensures past { past self.new (S.left source.new) ≡ past self.old (S.left source.old) }
         ensures limit { self.new.limit ≡ self.old.limit }
-        ensures cause { IsCaused LineFault.Failed (S.faults source.old) (S.faults source.new) result }
+        ensures cause { HasCause line_failed (S.faults source.old) (S.faults source.new) result }
     {
         let mut line = Line::new();
         'bytes: loop {

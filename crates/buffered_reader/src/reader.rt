@@ -1,7 +1,7 @@
 //! The reader, and the calls that touch its buffer.
 
 ghost use Rattle.std.specs.Prelude.{◌≡◌, ◌≢◌, ◌≤◌, ◌<◌, ◌+◌, ◌-◌, ◌⊎◌, ◌↔◌, ◌++◌, ◌∷◌, [], ℕ, List, Option, length, take, drop, min, IfOk, IfSome, IfNone, IsTrue, OnErr, false};
-ghost use Rattle.octets.specs.Causes.{HasCause};
+ghost use Rattle.octets.specs.Causes.{HasCause, each};
 ghost use Rattle.octets.specs.Content.{with_front};
 
 use edge_io::{Failed, Source};
@@ -139,7 +139,7 @@ impl BufferedReader {
         ensures failed { OnErr result ((self.new ≡ self.old) × (S.left source.new ≡ S.left source.old)) }
         ensures taken { self.new.taken ≡ self.old.taken }
         ensures limit { self.new.limit ≡ self.old.limit }
-        ensures cause { HasCause (S.faults source.old) (S.faults source.new) result }
+        ensures cause { HasCause each (S.faults source.old) (S.faults source.new) result }
     {
         self.from = 0;
         self.to = 0;
@@ -160,7 +160,7 @@ impl BufferedReader {
         ensures limit { self.new.limit ≡ self.old.limit }
         ensures end_drained { IfOk result (λ ready. ready ≡ false → self.new.buffered ≡ []) }
         ensures drained { OnErr result (self.new.buffered ≡ []) }
-        ensures cause { HasCause (S.faults source.old) (S.faults source.new) result }
+        ensures cause { HasCause each (S.faults source.old) (S.faults source.new) result }
     {
         if !self.is_drained() {
             return Ok(true);
@@ -188,7 +188,7 @@ impl BufferedReader {
         ensures drained { OnErr result (self.new.buffered ≡ []) }
         ensures past { past self.new (S.left source.new) ≡ past self.old (S.left source.old) }
         ensures limit { self.new.limit ≡ self.old.limit }
-        ensures cause { HasCause (S.faults source.old) (S.faults source.new) result }
+        ensures cause { HasCause each (S.faults source.old) (S.faults source.new) result }
     {
         if !self.ready(source)? {
             return Ok(None);
@@ -211,7 +211,7 @@ impl BufferedReader {
         ensures drained { OnErr result (self.new.buffered ≡ []) }
         ensures past { past self.new (S.left source.new) ≡ past self.old (S.left source.old) }
         ensures limit { self.new.limit ≡ self.old.limit }
-        ensures cause { HasCause (S.faults source.old) (S.faults source.new) result }
+        ensures cause { HasCause each (S.faults source.old) (S.faults source.new) result }
     {
         if !self.is_drained() {
             let count = copy_front(self.buffered(), out);

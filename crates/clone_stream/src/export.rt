@@ -1,7 +1,8 @@
 //! A keeper's repository as a stream to a sink.
 
 ghost use Rattle.std.specs.Prelude.{◌≤◌, IfErr, OnOk};
-ghost use Rattle.octets.specs.Causes.{IsCaused};
+ghost use Rattle.octets.specs.Causes.{HasCause};
+ghost use Rattle.clone_stream.specs.Faults.{export_keeper_failed, export_sink_failed};
 ghost use Rattle.keeper_api.specs.Undisturbed.{Undisturbed};
 ghost use Rattle.clone_stream.specs.Exporting.{Exports, RefusesExport};
 ghost use Rattle.clone_stream.specs.Exports.{IsDamaged, IsNever, Looks, Runs, Steps, objects_in, refs_in};
@@ -22,7 +23,7 @@ fn next_object<R: Keeper>(
 ) -> Result<Option<(ObjectId, Object)>, ExportFault>
     ensures looks { Looks IsOwn IsDamaged objects_in (R.content keeper.new) last.now result }
     ensures same { Undisturbed R.Keeper keeper.old keeper.new }
-    ensures cause { IsCaused ExportFault.KeeperFailed (R.faults keeper.old) (R.faults keeper.new) result }
+    ensures cause { HasCause export_keeper_failed (R.faults keeper.old) (R.faults keeper.new) result }
 {
     let Some(id) = keeper.next_object_after(alloc, last.as_ref())? else {
         return Ok(None);
@@ -42,7 +43,7 @@ fn next_ref<R: Keeper>(
 ) -> Result<Option<(RefName, ObjectId)>, ExportFault>
     ensures looks { Looks IsRef IsNever refs_in (R.content keeper.new) last.now result }
     ensures same { Undisturbed R.Keeper keeper.old keeper.new }
-    ensures cause { IsCaused ExportFault.KeeperFailed (R.faults keeper.old) (R.faults keeper.new) result }
+    ensures cause { HasCause export_keeper_failed (R.faults keeper.old) (R.faults keeper.new) result }
 {
     let Some(value) = keeper.next_ref_after(alloc, last.as_ref())? else {
         return Ok(None);
@@ -63,8 +64,8 @@ fn write_object<K: Sink, R: Keeper>(
     requires { written ≤ largest_stream }
     ensures steps { Steps object_record IsOwn IsDamaged objects_in (R.content keeper.new) last.now written (K.contents sink.old) (K.contents sink.new) result }
     ensures same { Undisturbed R.Keeper keeper.old keeper.new }
-    ensures keeper_cause { IsCaused ExportFault.KeeperFailed (R.faults keeper.old) (R.faults keeper.new) result }
-    ensures sink_cause { IsCaused ExportFault.SinkFailed (K.faults sink.old) (K.faults sink.new) result }
+    ensures keeper_cause { HasCause export_keeper_failed (R.faults keeper.old) (R.faults keeper.new) result }
+    ensures sink_cause { HasCause export_sink_failed (K.faults sink.old) (K.faults sink.new) result }
 {
     let (id, object) = match next_object(alloc, keeper, last) {
         Ok(Some(entry)) => entry,
@@ -89,8 +90,8 @@ fn write_ref<K: Sink, R: Keeper>(
     requires { written ≤ largest_stream }
     ensures steps { Steps ref_record IsRef IsNever refs_in (R.content keeper.new) last.now written (K.contents sink.old) (K.contents sink.new) result }
     ensures same { Undisturbed R.Keeper keeper.old keeper.new }
-    ensures keeper_cause { IsCaused ExportFault.KeeperFailed (R.faults keeper.old) (R.faults keeper.new) result }
-    ensures sink_cause { IsCaused ExportFault.SinkFailed (K.faults sink.old) (K.faults sink.new) result }
+    ensures keeper_cause { HasCause export_keeper_failed (R.faults keeper.old) (R.faults keeper.new) result }
+    ensures sink_cause { HasCause export_sink_failed (K.faults sink.old) (K.faults sink.new) result }
 {
     let (name, id) = match next_ref(alloc, keeper, last) {
         Ok(Some(entry)) => entry,
@@ -113,8 +114,8 @@ fn write_objects<K: Sink, R: Keeper>(
     requires { start ≤ largest_stream }
     ensures runs { Runs object_record IsOwn IsDamaged objects_in (R.content keeper.new) start (K.contents sink.old) (K.contents sink.new) result }
     ensures same { Undisturbed R.Keeper keeper.old keeper.new }
-    ensures keeper_cause { IsCaused ExportFault.KeeperFailed (R.faults keeper.old) (R.faults keeper.new) result }
-    ensures sink_cause { IsCaused ExportFault.SinkFailed (K.faults sink.old) (K.faults sink.new) result }
+    ensures keeper_cause { HasCause export_keeper_failed (R.faults keeper.old) (R.faults keeper.new) result }
+    ensures sink_cause { HasCause export_sink_failed (K.faults sink.old) (K.faults sink.new) result }
 {
     let mut last = None;
     let mut written = start;
@@ -140,8 +141,8 @@ fn write_refs<K: Sink, R: Keeper>(
     requires { start ≤ largest_stream }
     ensures runs { Runs ref_record IsRef IsNever refs_in (R.content keeper.new) start (K.contents sink.old) (K.contents sink.new) result }
     ensures same { Undisturbed R.Keeper keeper.old keeper.new }
-    ensures keeper_cause { IsCaused ExportFault.KeeperFailed (R.faults keeper.old) (R.faults keeper.new) result }
-    ensures sink_cause { IsCaused ExportFault.SinkFailed (K.faults sink.old) (K.faults sink.new) result }
+    ensures keeper_cause { HasCause export_keeper_failed (R.faults keeper.old) (R.faults keeper.new) result }
+    ensures sink_cause { HasCause export_sink_failed (K.faults sink.old) (K.faults sink.new) result }
 {
     let mut last = None;
     let mut written = start;
@@ -170,8 +171,8 @@ pub fn write_stream<K: Sink, R: Keeper>(
     ensures ok { OnOk result (Exports (R.content keeper.new) (K.contents sink.old) (K.contents sink.new)) }
     ensures refused { IfErr result (RefusesExport (R.content keeper.new) (K.contents sink.old) (K.contents sink.new)) }
     ensures same { Undisturbed R.Keeper keeper.old keeper.new }
-    ensures keeper_cause { IsCaused ExportFault.KeeperFailed (R.faults keeper.old) (R.faults keeper.new) result }
-    ensures sink_cause { IsCaused ExportFault.SinkFailed (K.faults sink.old) (K.faults sink.new) result }
+    ensures keeper_cause { HasCause export_keeper_failed (R.faults keeper.old) (R.faults keeper.new) result }
+    ensures sink_cause { HasCause export_sink_failed (K.faults sink.old) (K.faults sink.new) result }
 {
     let written = match put(sink, b"gittuf-stream 1\n", 0) {
         Ok(now) => now,

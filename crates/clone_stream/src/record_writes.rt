@@ -1,7 +1,8 @@
 //! Writing one record of a stream within the limit.
 
 ghost use Rattle.std.specs.Prelude.{◌≡◌, ◌≤◌, ◌++◌, ◌∷◌, [], length, decimal, IfOk, OnOk, OnErr};
-ghost use Rattle.octets.specs.Causes.{HasCause, IsCaused};
+ghost use Rattle.octets.specs.Causes.{HasCause, each};
+ghost use Rattle.clone_stream.specs.Faults.{export_sink_failed};
 ghost use Rattle.octets.specs.Content.{GainsPart, with_end};
 ghost use Rattle.clone_stream.specs.Exports.{Puts};
 ghost use Rattle.clone_stream.specs.Streams.{largest_stream, object_line, object_record, ref_line, ref_record};
@@ -21,7 +22,7 @@ const LARGEST_COPIED: usize = 4096;
 pub fn put<K: Sink>(sink: &mut K, text: &[u8], written: u64) -> Result<u64, ExportFault>
     requires { written ≤ largest_stream }
     ensures puts { Puts text.now written (K.contents sink.old) (K.contents sink.new) result }
-    ensures cause { IsCaused ExportFault.SinkFailed (K.faults sink.old) (K.faults sink.new) result }
+    ensures cause { HasCause export_sink_failed (K.faults sink.old) (K.faults sink.new) result }
 {
     if text.len() as u64 > LARGEST_STREAM - written {
         return Err(ExportFault::TooLarge {
@@ -36,7 +37,7 @@ pub fn put<K: Sink>(sink: &mut K, text: &[u8], written: u64) -> Result<u64, Expo
 fn write_pieces<K: Sink>(sink: &mut K, line: &[u8], body: &[u8]) -> Result<(), Failed>
     ensures whole { OnOk result (K.contents sink.new ≡ with_end (K.contents sink.old) (line.now ++ (body.now ++ 10 ∷ []))) }
     ensures part { OnErr result (GainsPart (K.contents sink.old) (K.contents sink.new) (line.now ++ (body.now ++ 10 ∷ []))) }
-    ensures cause { HasCause (K.faults sink.old) (K.faults sink.new) result }
+    ensures cause { HasCause each (K.faults sink.old) (K.faults sink.new) result }
 {
     write_all(sink, line)?;
     write_all(sink, body)?;
@@ -52,7 +53,7 @@ fn put_pieces<K: Sink>(
 ) -> Result<u64, ExportFault>
     requires { written ≤ largest_stream }
     ensures puts { Puts (line.now ++ (body.now ++ 10 ∷ [])) written (K.contents sink.old) (K.contents sink.new) result }
-    ensures cause { IsCaused ExportFault.SinkFailed (K.faults sink.old) (K.faults sink.new) result }
+    ensures cause { HasCause export_sink_failed (K.faults sink.old) (K.faults sink.new) result }
 {
     let size = (line.len() as u64)
         .saturating_add(body.len() as u64)
@@ -103,7 +104,7 @@ pub fn put_object<K: Sink>(
 ) -> Result<u64, ExportFault>
     requires { written ≤ largest_stream }
     ensures puts { Puts (object_record (id.now, object.now)) written (K.contents sink.old) (K.contents sink.new) result }
-    ensures cause { IsCaused ExportFault.SinkFailed (K.faults sink.old) (K.faults sink.new) result }
+    ensures cause { HasCause export_sink_failed (K.faults sink.old) (K.faults sink.new) result }
 {
     let line = line_of(alloc, id, object)?;
     if object.body().len() > LARGEST_COPIED {
@@ -136,7 +137,7 @@ pub fn put_ref<K: Sink>(
 ) -> Result<u64, ExportFault>
     requires { written ≤ largest_stream }
     ensures puts { Puts (ref_record (name.now, id.now)) written (K.contents sink.old) (K.contents sink.new) result }
-    ensures cause { IsCaused ExportFault.SinkFailed (K.faults sink.old) (K.faults sink.new) result }
+    ensures cause { HasCause export_sink_failed (K.faults sink.old) (K.faults sink.new) result }
 {
     let text = ref_text(alloc, name, id)?;
     put(sink, text.as_slice(), written)

@@ -1,7 +1,8 @@
 //! Reading the parts of a stream, and what its end decides.
 
 ghost use Rattle.std.specs.Prelude.{◌≡◌, ◌≢◌, ◌≤◌, ◌<◌, ◌+◌, [], ℕ, List, length, IfOk, IfErr, IfSome, OnOk, OnErr};
-ghost use Rattle.octets.specs.Causes.{IsCaused};
+ghost use Rattle.octets.specs.Causes.{HasCause};
+ghost use Rattle.clone_stream.specs.Faults.{stream_source_failed};
 ghost use Rattle.octets.specs.Content.{with_front};
 ghost use Rattle.buffered_reader.specs.Ahead.{ahead, past};
 ghost use Rattle.clone_stream.specs.Breaks.{BreaksHeader};
@@ -102,7 +103,7 @@ fn end_within<S: Source>(reader: &mut BufferedReader, source: &mut S) -> Result<
     ensures within { OnOk result (EndsWithin reader.old (S.left source.old) (S.left source.new) (past reader.old (S.left source.old))) }
     ensures refused { IfErr result (PassesBy reader.old (S.left source.new) (past reader.old (S.left source.old))) }
     ensures no_keeper { IfErr result IsOfSource }
-    ensures cause { IsCaused StreamFault.SourceFailed (S.faults source.old) (S.faults source.new) result }
+    ensures cause { HasCause stream_source_failed (S.faults source.old) (S.faults source.new) result }
 {
     match reader.passes_limit(source) {
         Ok(true) => Err(StreamFault::TooLarge {
@@ -118,7 +119,7 @@ pub fn read_change<S: Source>(alloc: Global, source: &mut S) -> Result<Change, S
     ensures found { IfOk result (λ change. IsChangeRead change (S.left source.old) (S.left source.new)) }
     ensures refused { IfErr result (λ fault. IfSome (S.left source.old) (λ input. IsRefusedBy largest_stream input (S.left source.new) fault)) }
     ensures no_keeper { IfErr result IsOfSource }
-    ensures cause { IsCaused StreamFault.SourceFailed (S.faults source.old) (S.faults source.new) result }
+    ensures cause { HasCause stream_source_failed (S.faults source.old) (S.faults source.new) result }
 {
     let mut reader = BufferedReader::new(LARGEST_STREAM);
     let fault = match read_parts(alloc, &mut reader, source) {

@@ -1,7 +1,8 @@
 //! Streams from a source into an empty keeper.
 
 ghost use Rattle.std.specs.Prelude.{◌≡◌, ◌≢◌, ◌≤◌, ◌⊎◌, Some, IfErr, IfSome, IsErrOf, OnOk};
-ghost use Rattle.octets.specs.Causes.{IsCaused};
+ghost use Rattle.octets.specs.Causes.{HasCause};
+ghost use Rattle.clone_stream.specs.Faults.{stream_keeper_failed, stream_source_failed};
 ghost use Rattle.git_object.specs.Repository.{Repository, empty_repository};
 ghost use Rattle.clone_stream.specs.Taking.{HoldsAfter, IsDecided, IsOfInput, Spells, Takes};
 
@@ -32,8 +33,8 @@ pub fn read_stream<S: Source, R: Keeper>(
     ensures stop { (r : Repository) → R.left keeper.new r → R.left keeper.old r ⊎ Spells (S.left source.old) (S.left source.new) (R.content keeper.old) r }
 
     // Faults and counts.
-    ensures source_cause { IsCaused StreamFault.SourceFailed (S.faults source.old) (S.faults source.new) result }
-    ensures keeper_cause { IsCaused StreamFault.KeeperFailed (R.faults keeper.old) (R.faults keeper.new) result }
+    ensures source_cause { HasCause stream_source_failed (S.faults source.old) (S.faults source.new) result }
+    ensures keeper_cause { HasCause stream_keeper_failed (R.faults keeper.old) (R.faults keeper.new) result }
     ensures reads { R.reads keeper.new ≡ R.reads keeper.old }
 {
     if !is_empty(alloc, keeper)? {

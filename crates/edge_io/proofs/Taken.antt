@@ -18,14 +18,13 @@ len_of bytes buf count fits = length-append bytes (take count buf) ∙ ap (λ n.
 
 -- a piece that passes the maximum
 pub more_taken : (was mid now : Option (List ℕ)) (bytes buf : List ℕ) (count max : ℕ) → was ≡ with_front bytes mid → mid ≡ with_front (take count buf) now → length bytes ≤ max → count ≤ length buf
-    → count ≤ 4096 → max - length bytes < count → HasMore max was now
-more_taken was mid now bytes buf count max e f short fits small past =
+    → length buf ≤ max - length bytes + 1 → max - length bytes < count → HasMore max was now
+more_taken was mid now bytes buf count max e f short fits near past =
     let n : length (bytes ++ take count buf) ≡ length bytes + count = len_of bytes buf count fits in
     record {
       bytes = bytes ++ take count buf;
       read = taken_on was mid now bytes (take count buf) e f;
-      more = omega (arith, n, short, past);
-      near = omega (arith, n, short, small);
+      more = omega (arith, n, short, past, fits, near);
     }
 
 -- a piece that does not

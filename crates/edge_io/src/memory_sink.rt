@@ -1,7 +1,7 @@
 //! A sink in memory.
 
 ghost use Rattle.std.specs.Prelude.{◌≡◌, ◌≤◌, ◌<◌, ◌+◌, ◌++◌, ◌↔◌, ◌⊎◌, [], length, take, IfOk, OnErr, IsErr, IsTrue, Some};
-ghost use Rattle.octets.specs.Causes.{HasCause};
+ghost use Rattle.octets.specs.Causes.{HasCause, each};
 ghost use Rattle.octets.specs.Calls.{after_call, fails_next};
 ghost use Rattle.edge_io.specs.Told.{after_write};
 
@@ -72,7 +72,7 @@ impl Sink for MemSink {
         ensures whole { IfOk result (λ count. count ≡ length bytes.now) }
         ensures bytes { IfOk result (λ _. self.new.contents ≡ self.old.contents ++ bytes.now) }
         ensures failed { OnErr result (self.new.contents ≡ self.old.contents) }
-        ensures cause { HasCause self.old.calls.faults self.new.calls.faults result }
+        ensures cause { HasCause each self.old.calls.faults self.new.calls.faults result }
         ensures fails { IsErr result ↔ (IsTrue (fails_next self.old.calls) ⊎ self.old.room < length self.old.contents + length bytes.now) }
         ensures counted { self.new.calls ≡ after_write self.old bytes.now }
         ensures room { self.new.room ≡ self.old.room }

@@ -1,7 +1,7 @@
 //! A source in memory.
 
 ghost use Rattle.std.specs.Prelude.{◌≡◌, ◌≤◌, ◌<◌, ◌++◌, ◌↔◌, [], length, take, drop, min, IfOk, OnErr, IsErr, IsTrue, Some};
-ghost use Rattle.octets.specs.Causes.{HasCause};
+ghost use Rattle.octets.specs.Causes.{HasCause, each};
 ghost use Rattle.octets.specs.Calls.{after_call, fails_next};
 
 use crate::{Failed, Source};
@@ -79,7 +79,7 @@ impl Source for MemSource {
         ensures bytes { IfOk result (λ count. self.old.left ≡ take count buf.new ++ self.new.left) }
         ensures end { IfOk result (λ count. count ≡ 0 → 0 < length buf.new → self.old.left ≡ []) }
         ensures failed { OnErr result (self.new.left ≡ self.old.left) }
-        ensures cause { HasCause self.old.calls.faults self.new.calls.faults result }
+        ensures cause { HasCause each self.old.calls.faults self.new.calls.faults result }
         ensures full { IfOk result (λ count. count ≡ min (length self.old.left) (length buf.new)) }
         ensures rest { IfOk result (λ count. drop count buf.new ≡ drop count buf.old) }
         ensures untouched { OnErr result (buf.new ≡ buf.old) }

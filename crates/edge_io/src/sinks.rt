@@ -2,7 +2,7 @@
 
 ghost use Rattle.std.specs.Prelude.{◌≡◌, ◌≤◌, ◌<◌, ℕ, List, length, take, IfOk, OnOk, OnErr};
 ghost use Rattle.std.specs.declared.option.Option.{Option};
-ghost use Rattle.octets.specs.Causes.{HasCause};
+ghost use Rattle.octets.specs.Causes.{HasCause, each};
 ghost use Rattle.octets.specs.Content.{with_end, GainsPart};
 
 use crate::Failed;
@@ -22,7 +22,7 @@ pub trait Sink {
         ensures some { IfOk result (λ count. 0 < length bytes.now → 0 < count) }
         ensures bytes { IfOk result (λ count. contents self.new ≡ with_end (contents self.old) (take count bytes.now)) }
         ensures failed { OnErr result (contents self.new ≡ contents self.old) }
-        ensures cause { HasCause (faults self.old) (faults self.new) result };
+        ensures cause { HasCause each (faults self.old) (faults self.new) result };
 }
 
 /// Writes all bytes, in as many pieces as the sink takes. After `Failed`, which comes exactly where the sink
@@ -30,7 +30,7 @@ pub trait Sink {
 pub fn write_all<K: Sink>(sink: &mut K, bytes: &[u8]) -> Result<(), Failed>
     ensures whole { OnOk result (K.contents sink.new ≡ with_end (K.contents sink.old) bytes.now) }
     ensures part { OnErr result (GainsPart (K.contents sink.old) (K.contents sink.new) bytes.now) }
-    ensures cause { HasCause (K.faults sink.old) (K.faults sink.new) result }
+    ensures cause { HasCause each (K.faults sink.old) (K.faults sink.new) result }
 {
     let mut rest = bytes;
     'pieces: while !rest.is_empty() {

@@ -3,12 +3,16 @@
 
 ghost use Rattle.std.specs.Prelude.{◌≡◌, ◌≤◌, ◌<◌, length, IfOk, None};
 ghost use Rattle.std.specs.Io.KnownBytes.{ReadConsumes, WriteAppends};
-ghost use Rattle.octets.specs.Causes.{HasCause};
+ghost use Rattle.octets.specs.Causes.{HasCause, each};
 
 use crate::{Failed, Sink, Source};
 use std::io::{ErrorKind, Read, Write};
 
-/// A reader as a source. A read that the system interrupted is made again; any other error is a fault.
+// How often a call is made that the system interrupts each time, before it is a fault.
+const TRIES: u32 = 10_000;
+
+/// A reader as a source. A read that the system interrupted is made again, up to 10,000 times; any other error
+/// is a fault.
 #[derive(Drop)]
 pub struct StdSource<R> {
     reader: R,
@@ -32,9 +36,9 @@ impl<R: Read> Source for StdSource<R> {
     fn read(&mut self, buf: &mut [u8]) -> Result<usize, Failed>
         ensures bound { IfOk result (λ count. count ≤ length buf.new) }
         ensures known { ReadConsumes (R.remaining self.old.reader) (R.remaining self.new.reader) result buf.new }
-        ensures cause { HasCause self.old.faults self.new.faults result }
+        ensures cause { HasCause each self.old.faults self.new.faults result }
     {
-        for _ in 0..u64::MAX {
+        for _ in 0..TRIES {
             match self.reader.read(buf) {
                 Ok(count) => return Ok(count),
                 Err(error) => {
@@ -49,8 +53,8 @@ impl<R: Read> Source for StdSource<R> {
     }
 }
 
-/// A writer as a sink. A write that the system interrupted is made again; any other error, and a piece of
-/// which nothing was taken, is a fault.
+/// A writer as a sink. A write that the system interrupted is made again, up to 10,000 times; any other error,
+/// and a piece of which nothing was taken, is a fault at once.
 #[derive(Drop)]
 pub struct StdSink<W> {
     writer: W,
@@ -75,12 +79,12 @@ impl<W: Write> Sink for StdSink<W> {
         ensures bound { IfOk result (λ count. count ≤ length bytes.now) }
         ensures some { IfOk result (λ count. 0 < length bytes.now → 0 < count) }
         ensures known { WriteAppends (W.contents self.old.writer) (W.contents self.new.writer) result bytes.now }
-        ensures cause { HasCause self.old.faults self.new.faults result }
+        ensures cause { HasCause each self.old.faults self.new.faults result }
     {
         if bytes.is_empty() {
             return Ok(0);
         }
-        for _ in 0..u64::MAX {
+        for _ in 0..TRIES {
             match self.writer.write(bytes) {
                 Ok(0) => break,
                 Ok(count) => return Ok(count),

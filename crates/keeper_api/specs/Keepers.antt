@@ -1,5 +1,5 @@
 -- What the calls of a keeper do to what it holds and to what a stop may leave.
-use Rattle.std.specs.Prelude.{◌≡◌, ◌⊎◌, Option, Some, Result, Ok, Err}
+use Rattle.std.specs.Prelude.{◌≡◌, ◌⊎◌, ◌↔◌, Bool, true, Option, Some, Result, Ok, Err}
 use Rattle.octets.specs.Content.{Stays}
 use Rattle.git_object.specs.Repository.{Repository}
 use Rattle.keeper_api.specs.Changes.{changed}
@@ -7,10 +7,13 @@ use Rattle.keeper_api.specs.declared.changes.Change.{Change}
 use Rattle.keeper_api.specs.declared.keeper_faults.KeeperFault.{KeeperFault}
 use Rattle.keeper_api.specs.declared.keeper_faults.KeeperFault.TheVariants.{Failed, Memory}
 
--- a call that makes no commit: the same is held, and a stop leaves no more than it could
-pub record AsBefore (before after : Option Repository) (past now : Repository → Type 0) : Type 0 where
+-- a call that makes no commit: the same is held, and where the keeper tells it, a stop may leave exactly what it could
+-- leave before, of which what is held is one
+pub record AsBefore (before after : Option Repository) (told told_now : Bool) (past now : Repository → Type 0) : Type 0 where
   pub content : Stays before after
-  pub left : (r : Repository) → now r → past r
+  pub tells : told_now ≡ true → told ≡ true
+  pub left : told_now ≡ true → (r : Repository) → now r ↔ past r
+  pub held : told_now ≡ true → (r : Repository) → after ≡ Some r → now r
 
 -- what a commit makes of the repository that was held
 abbrev pub Commits : Change → {T : Type 0} → Result T KeeperFault → Repository → Repository → Type 0
@@ -22,8 +25,15 @@ Commits change (Err Memory) was now = now ≡ was
 abbrev pub IsChanged : Change → Option Repository → Repository → Type 0
 IsChanged change before r = (was : Repository) × (before ≡ Some was) × (r ≡ changed change was)
 
--- what a stop may leave after a commit
-abbrev pub Leaves : Change → {T : Type 0} → Result T KeeperFault → Option Repository → (Repository → Type 0) → (Repository → Type 0) → Type 0
-Leaves change (Ok _) before past now = (r : Repository) → now r → IsChanged change before r
-Leaves change (Err Failed) before past now = (r : Repository) → now r → past r ⊎ IsChanged change before r
-Leaves change (Err Memory) before past now = (r : Repository) → now r → past r
+-- what a stop may leave after a commit: the new repository alone; after a fault at most what it could leave before, and
+-- the new one; after want of memory exactly what it could leave before
+abbrev pub LeavesBy : Change → {T : Type 0} → Result T KeeperFault → Option Repository → (Repository → Type 0) → (Repository → Type 0) → Type 0
+LeavesBy change (Ok _) before past now = (was : Repository) → before ≡ Some was → (r : Repository) → now r ↔ (r ≡ changed change was)
+LeavesBy change (Err Failed) before past now = (r : Repository) → now r → past r ⊎ IsChanged change before r
+LeavesBy change (Err Memory) before past now = (r : Repository) → now r ↔ past r
+
+-- a commit, where the keeper tells what a stop may leave; what is held is one of these
+pub record Leaves (change : Change) {T : Type 0} (result : Result T KeeperFault) (before after : Option Repository) (told told_now : Bool) (past now : Repository → Type 0) : Type 0 where
+  pub tells : told_now ≡ true → told ≡ true
+  pub left : told_now ≡ true → LeavesBy change result before past now
+  pub held : told_now ≡ true → (r : Repository) → after ≡ Some r → now r

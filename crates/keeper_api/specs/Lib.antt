@@ -1,4 +1,5 @@
 pub mod Changes
+pub mod Faults
 pub mod Keepers
 pub mod RefPlans
 pub mod Stores

@@ -1,10 +1,11 @@
 //! The trait of a store of Git objects and references.
 
-ghost use Rattle.std.specs.Prelude.{◌≡◌, ℕ, Option, Some, IfOk};
+ghost use Rattle.std.specs.Prelude.{◌≡◌, ℕ, Bool, Option, Some, IfOk};
 ghost use Rattle.std.specs.Option.{option_map, option_copied};
 ghost use Rattle.std.specs.FinMap.{get};
 ghost use Rattle.octets.specs.BytesMap.{entry_after};
-ghost use Rattle.octets.specs.Causes.{IsCaused, one_more};
+ghost use Rattle.octets.specs.Causes.{HasCause, one_more};
+ghost use Rattle.keeper_api.specs.Faults.{keeper_failed};
 ghost use Rattle.octets.specs.Content.{Told};
 ghost use Rattle.git_object.specs.Repository.{Repository};
 ghost use Rattle.keeper_api.specs.Changes.{ref_value};
@@ -20,7 +21,10 @@ pub trait Keeper {
     /// The repository that is held, where the keeper tells it. Telling may end, and never begins.
     ghost content: { Self → Option Repository };
 
-    /// The repositories that a stop at this moment may leave. A keeper that tells none has none here.
+    /// Whether the keeper tells what a stop at this moment may leave. Telling may end, and never begins.
+    ghost tells_left: { Self → Bool };
+
+    /// The repositories that a stop at this moment may leave, where the keeper tells it.
     ghost left: { Self → Repository → Type 0 };
 
     /// How many faults were counted.
@@ -32,15 +36,15 @@ pub trait Keeper {
     /// The object that is kept at an id, as it is kept. It is the one call that raises the count of reads.
     fn read_object(&mut self, alloc: Global, id: &ObjectId) -> Result<Option<Object>, KeeperFault>
         ensures answer { IfOk result (λ found. (r : Repository) → content self.new ≡ Some r → found ≡ get r.objects id.now) }
-        ensures same { AsBefore (content self.old) (content self.new) (left self.old) (left self.new) }
-        ensures cause { IsCaused KeeperFault.Failed (faults self.old) (faults self.new) result }
+        ensures same { AsBefore (content self.old) (content self.new) (tells_left self.old) (tells_left self.new) (left self.old) (left self.new) }
+        ensures cause { HasCause keeper_failed (faults self.old) (faults self.new) result }
         ensures reads { reads self.new ≡ one_more (reads self.old) };
 
     /// The id that a reference name stands at.
     fn read_ref(&mut self, alloc: Global, name: &RefName) -> Result<Option<ObjectId>, KeeperFault>
         ensures answer { IfOk result (λ found. (r : Repository) → content self.new ≡ Some r → found ≡ get r.refs name.now) }
-        ensures same { AsBefore (content self.old) (content self.new) (left self.old) (left self.new) }
-        ensures cause { IsCaused KeeperFault.Failed (faults self.old) (faults self.new) result }
+        ensures same { AsBefore (content self.old) (content self.new) (tells_left self.old) (tells_left self.new) (left self.old) (left self.new) }
+        ensures cause { HasCause keeper_failed (faults self.old) (faults self.new) result }
         ensures reads { reads self.new ≡ reads self.old };
 
     /// The least id of a kept object that is greater than the one given, or the least of all.
@@ -51,8 +55,8 @@ pub trait Keeper {
     ) -> Result<Option<ObjectId>, KeeperFault>
         ensures answer { IfOk result (λ found. (r : Repository) → content self.new ≡ Some r
             → found ≡ option_map (λ e. e.0) (entry_after r.objects (option_copied after.entry))) }
-        ensures same { AsBefore (content self.old) (content self.new) (left self.old) (left self.new) }
-        ensures cause { IsCaused KeeperFault.Failed (faults self.old) (faults self.new) result }
+        ensures same { AsBefore (content self.old) (content self.new) (tells_left self.old) (tells_left self.new) (left self.old) (left self.new) }
+        ensures cause { HasCause keeper_failed (faults self.old) (faults self.new) result }
         ensures reads { reads self.new ≡ reads self.old };
 
     /// The least reference name that is greater than the one given, or the least of all, with its id.
@@ -63,16 +67,16 @@ pub trait Keeper {
     ) -> Result<Option<RefValue>, KeeperFault>
         ensures answer { IfOk result (λ found. (r : Repository) → content self.new ≡ Some r
             → found ≡ option_map ref_value (entry_after r.refs (option_copied after.entry))) }
-        ensures same { AsBefore (content self.old) (content self.new) (left self.old) (left self.new) }
-        ensures cause { IsCaused KeeperFault.Failed (faults self.old) (faults self.new) result }
+        ensures same { AsBefore (content self.old) (content self.new) (tells_left self.old) (tells_left self.new) (left self.old) (left self.new) }
+        ensures cause { HasCause keeper_failed (faults self.old) (faults self.new) result }
         ensures reads { reads self.new ≡ reads self.old };
 
     /// Keeps each object of the change under its own id and then makes the reference changes in order, all
     /// together. After `Failed` the old or the new repository is held, after `Memory` the old one.
     fn commit(&mut self, alloc: Global, change: &Change) -> Result<(), KeeperFault>
         ensures content { Told (Commits change.now result) (content self.old) (content self.new) }
-        ensures left { Leaves change.now result (content self.old) (left self.old) (left self.new) }
-        ensures cause { IsCaused KeeperFault.Failed (faults self.old) (faults self.new) result }
+        ensures left { Leaves change.now result (content self.old) (content self.new) (tells_left self.old) (tells_left self.new) (left self.old) (left self.new) }
+        ensures cause { HasCause keeper_failed (faults self.old) (faults self.new) result }
         ensures reads { reads self.new ≡ reads self.old };
 
     /// The count of faults. It takes no memory.

@@ -5,7 +5,8 @@ ghost use Rattle.std.specs.Option.{option_map, option_copied};
 ghost use Rattle.std.specs.FinMap.{get};
 ghost use Rattle.octets.specs.BytesMap.{entry_after};
 ghost use Rattle.octets.specs.Calls.{after_call, fails_next};
-ghost use Rattle.octets.specs.Causes.{IsCaused, one_more};
+ghost use Rattle.octets.specs.Causes.{HasCause, one_more};
+ghost use Rattle.keeper_api.specs.Faults.{keeper_failed};
 ghost use Rattle.octets.specs.Content.{Told};
 ghost use Rattle.keeper_api.specs.Changes.{ref_value};
 ghost use Rattle.keeper_api.specs.Keepers.{Commits};
@@ -20,6 +21,8 @@ use std::alloc::Global;
 impl Keeper for MemKeeper {
     ghost content = { λ k. Some k.held };
 
+    ghost tells_left = { λ k. false };
+
     ghost left = { λ k r. ⊥ };
 
     ghost faults = { λ k. k.calls.faults };
@@ -31,7 +34,7 @@ impl Keeper for MemKeeper {
         ensures none { get self.old.held.objects id.now ≡ None → fails_next self.old.calls ≡ false → IsOk result }
         ensures listed { IsErrOf result KeeperFault.Failed ↔ IsTrue (fails_next self.old.calls) }
         ensures after { self.new ≡ record self.old { calls = after_call self.old.calls; reads = one_more self.old.reads } }
-        ensures cause { IsCaused KeeperFault.Failed self.old.calls.faults self.new.calls.faults result }
+        ensures cause { HasCause keeper_failed self.old.calls.faults self.new.calls.faults result }
     {
         self.count_read();
         if self.fails() {
@@ -45,7 +48,7 @@ impl Keeper for MemKeeper {
         ensures free { IsErrOf result KeeperFault.Memory → ⊥ }
         ensures listed { IsErrOf result KeeperFault.Failed ↔ IsTrue (fails_next self.old.calls) }
         ensures after { self.new ≡ record self.old { calls = after_call self.old.calls } }
-        ensures cause { IsCaused KeeperFault.Failed self.old.calls.faults self.new.calls.faults result }
+        ensures cause { HasCause keeper_failed self.old.calls.faults self.new.calls.faults result }
     {
         if self.fails() {
             return Err(KeeperFault::Failed);
@@ -62,7 +65,7 @@ impl Keeper for MemKeeper {
         ensures free { IsErrOf result KeeperFault.Memory → ⊥ }
         ensures listed { IsErrOf result KeeperFault.Failed ↔ IsTrue (fails_next self.old.calls) }
         ensures after { self.new ≡ record self.old { calls = after_call self.old.calls } }
-        ensures cause { IsCaused KeeperFault.Failed self.old.calls.faults self.new.calls.faults result }
+        ensures cause { HasCause keeper_failed self.old.calls.faults self.new.calls.faults result }
     {
         if self.fails() {
             return Err(KeeperFault::Failed);
@@ -79,7 +82,7 @@ impl Keeper for MemKeeper {
         ensures none { entry_after self.old.held.refs (option_copied after.entry) ≡ None → fails_next self.old.calls ≡ false → IsOk result }
         ensures listed { IsErrOf result KeeperFault.Failed ↔ IsTrue (fails_next self.old.calls) }
         ensures after { self.new ≡ record self.old { calls = after_call self.old.calls } }
-        ensures cause { IsCaused KeeperFault.Failed self.old.calls.faults self.new.calls.faults result }
+        ensures cause { HasCause keeper_failed self.old.calls.faults self.new.calls.faults result }
     {
         if self.fails() {
             return Err(KeeperFault::Failed);
@@ -93,7 +96,7 @@ impl Keeper for MemKeeper {
         ensures listed { IsErrOf result KeeperFault.Failed → IsTrue (fails_next self.old.calls) }
         ensures dropped { IsTrue (fails_next self.old.calls) → keeps_next self.old ≡ false → IsErrOf result KeeperFault.Failed }
         ensures after { self.new ≡ record self.old { held = held_after self.old change.now result; calls = calls_after self.old.calls result } }
-        ensures cause { IsCaused KeeperFault.Failed self.old.calls.faults self.new.calls.faults result }
+        ensures cause { HasCause keeper_failed self.old.calls.faults self.new.calls.faults result }
     {
         self.try_commit(alloc, change)
     }

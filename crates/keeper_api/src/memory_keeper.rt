@@ -5,7 +5,8 @@ ghost use Rattle.std.specs.Option.{option_map, option_copied};
 ghost use Rattle.std.specs.FinMap.{get};
 ghost use Rattle.octets.specs.BytesMap.{entry_after};
 ghost use Rattle.octets.specs.Calls.{after_call, fails_next};
-ghost use Rattle.octets.specs.Causes.{IsCaused, one_more};
+ghost use Rattle.octets.specs.Causes.{HasCause, one_more};
+ghost use Rattle.keeper_api.specs.Faults.{keeper_failed};
 ghost use Rattle.git_object.specs.Repository.{empty_repository};
 ghost use Rattle.keeper_api.specs.Changes.{changed, ref_value};
 ghost use Rattle.keeper_api.specs.Stores.{calls_after, held_after, keeps_next};
@@ -172,7 +173,7 @@ impl MemKeeper {
         ensures listed { IsErrOf result KeeperFault.Failed → IsTrue (fails_next self.old.calls) }
         ensures dropped { IsTrue (fails_next self.old.calls) → keeps_next self.old ≡ false → IsErrOf result KeeperFault.Failed }
         ensures after { self.new ≡ record self.old { held = held_after self.old change.now result; calls = calls_after self.old.calls result } }
-        ensures cause { IsCaused KeeperFault.Failed self.old.calls.faults self.new.calls.faults result }
+        ensures cause { HasCause keeper_failed self.old.calls.faults self.new.calls.faults result }
     {
         if (!self.calls.fails_next() || self.keeps_next()) && self.apply(alloc, change).is_err() {
             self.calls.count_other();

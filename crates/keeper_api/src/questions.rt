@@ -1,7 +1,8 @@
 //! Questions to any keeper.
 
 ghost use Rattle.std.specs.Prelude.{◌≡◌, ◌↔◌, Some, IfOk, IfNone, IfSome, IsTrue};
-ghost use Rattle.octets.specs.Causes.{IsCaused, one_more};
+ghost use Rattle.octets.specs.Causes.{HasCause, one_more};
+ghost use Rattle.keeper_api.specs.Faults.{keeper_failed};
 ghost use Rattle.git_object.specs.Objects.{Pair};
 ghost use Rattle.git_object.specs.Repository.{HasObject, IsObject, Repository, empty_repository};
 ghost use Rattle.keeper_api.specs.Undisturbed.{Undisturbed};
@@ -14,7 +15,7 @@ use std::alloc::Global;
 pub fn is_empty<R: Keeper>(alloc: Global, keeper: &mut R) -> Result<bool, KeeperFault>
     ensures answer { IfOk result (λ empty. (r : Repository) → R.content keeper.new ≡ Some r → IsTrue empty ↔ (r ≡ empty_repository)) }
     ensures same { Undisturbed R.Keeper keeper.old keeper.new }
-    ensures cause { IsCaused KeeperFault.Failed (R.faults keeper.old) (R.faults keeper.new) result }
+    ensures cause { HasCause keeper_failed (R.faults keeper.old) (R.faults keeper.new) result }
     ensures reads { R.reads keeper.new ≡ R.reads keeper.old }
 {
     if keeper.next_object_after(alloc, None)?.is_some() {
@@ -34,7 +35,7 @@ pub fn load_object<R: Keeper>(
     ensures found { IfOk result (λ found. (r : Repository) → R.content keeper.new ≡ Some r → IfSome found (HasObject r id.now)) }
     ensures none { IfOk result (λ found. (r : Repository) → R.content keeper.new ≡ Some r → IfNone found ((pair : Pair) → HasObject r id.now pair → ⊥)) }
     ensures same { Undisturbed R.Keeper keeper.old keeper.new }
-    ensures cause { IsCaused KeeperFault.Failed (R.faults keeper.old) (R.faults keeper.new) result }
+    ensures cause { HasCause keeper_failed (R.faults keeper.old) (R.faults keeper.new) result }
     ensures reads { R.reads keeper.new ≡ one_more (R.reads keeper.old) }
 {
     let Some(object) = keeper.read_object(alloc, id)? else {

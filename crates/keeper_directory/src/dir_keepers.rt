@@ -4,7 +4,8 @@ ghost use Rattle.std.specs.Prelude.{◌≡◌, ◌≤◌, ◌↔◌, Ok, IfOk, I
 ghost use Rattle.octets.specs.Causes.{one_more};
 ghost use Rattle.keeper_directory.specs.declared.file_faults.FileFault.TheVariants as file;
 ghost use Rattle.keeper_directory.specs.declared.dir_keepers.OpenFault.TheVariants as open_fault;
-ghost use Rattle.keeper_directory.specs.Counting.{faults_after};
+ghost use Rattle.octets.specs.Causes.{count_after};
+ghost use Rattle.keeper_api.specs.Faults.{keeper_failed};
 
 use crate::file_calls::make_folders;
 use crate::file_faults::FileFault;
@@ -90,7 +91,7 @@ impl<R: Files> DirKeeper<R> {
 
     // Counts a fault where the answer is one.
     fn counted<T: Drop>(&mut self, answer: Result<T, FileFault>) -> Result<T, KeeperFault>
-        ensures faults { self.new.faults ≡ faults_after result self.old.faults }
+        ensures faults { self.new.faults ≡ count_after keeper_failed self.old.faults result }
         ensures later { self.old.faults ≤ self.new.faults }
         ensures reads { self.new.reads ≡ self.old.reads }
         ensures answer { IfOk answer (λ value. result ≡ Ok value) }
@@ -113,7 +114,7 @@ impl<R: Files> DirKeeper<R> {
         alloc: Global,
         id: &ObjectId,
     ) -> Result<Option<Object>, KeeperFault>
-        ensures faults { self.new.faults ≡ faults_after result self.old.faults }
+        ensures faults { self.new.faults ≡ count_after keeper_failed self.old.faults result }
         ensures later { self.old.faults ≤ self.new.faults }
         ensures reads { self.new.reads ≡ one_more self.old.reads }
     {
@@ -127,7 +128,7 @@ impl<R: Files> DirKeeper<R> {
         alloc: Global,
         name: &RefName,
     ) -> Result<Option<ObjectId>, KeeperFault>
-        ensures faults { self.new.faults ≡ faults_after result self.old.faults }
+        ensures faults { self.new.faults ≡ count_after keeper_failed self.old.faults result }
         ensures later { self.old.faults ≤ self.new.faults }
         ensures reads { self.new.reads ≡ self.old.reads }
     {
@@ -158,7 +159,7 @@ impl<R: Files> DirKeeper<R> {
         alloc: Global,
         after: Option<&ObjectId>,
     ) -> Result<Option<ObjectId>, KeeperFault>
-        ensures faults { self.new.faults ≡ faults_after result self.old.faults }
+        ensures faults { self.new.faults ≡ count_after keeper_failed self.old.faults result }
         ensures later { self.old.faults ≤ self.new.faults }
         ensures reads { self.new.reads ≡ self.old.reads }
     {
@@ -188,7 +189,7 @@ impl<R: Files> DirKeeper<R> {
         alloc: Global,
         after: Option<&RefName>,
     ) -> Result<Option<RefValue>, KeeperFault>
-        ensures faults { self.new.faults ≡ faults_after result self.old.faults }
+        ensures faults { self.new.faults ≡ count_after keeper_failed self.old.faults result }
         ensures later { self.old.faults ≤ self.new.faults }
         ensures reads { self.new.reads ≡ self.old.reads }
     {
@@ -198,7 +199,7 @@ impl<R: Files> DirKeeper<R> {
 
     // A list that the change makes untrue is dropped.
     pub(crate) fn make(&mut self, change: &Change) -> Result<(), KeeperFault>
-        ensures faults { self.new.faults ≡ faults_after result self.old.faults }
+        ensures faults { self.new.faults ≡ count_after keeper_failed self.old.faults result }
         ensures later { self.old.faults ≤ self.new.faults }
         ensures reads { self.new.reads ≡ self.old.reads }
     {

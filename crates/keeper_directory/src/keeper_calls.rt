@@ -1,8 +1,8 @@
 //! The calls of the keeper over a folder.
 
-ghost use Rattle.std.specs.Prelude.{◌≡◌, None};
-ghost use Rattle.octets.specs.Causes.{IsCaused, one_more};
-ghost use Rattle.keeper_directory.specs.Counting.{faults_after};
+ghost use Rattle.std.specs.Prelude.{◌≡◌, None, false};
+ghost use Rattle.octets.specs.Causes.{HasCause, one_more};
+ghost use Rattle.keeper_api.specs.Faults.{keeper_failed};
 
 use crate::DirKeeper;
 use git_object::{Object, ObjectId, RefName};
@@ -14,6 +14,8 @@ use std::rt::Files;
 impl<R: Files> Keeper for DirKeeper<R> {
     ghost content = { λ _. None };
 
+    ghost tells_left = { λ _. false };
+
     ghost left = { λ _ _. ⊥ };
 
     ghost faults = { λ k. k.faults };
@@ -21,17 +23,15 @@ impl<R: Files> Keeper for DirKeeper<R> {
     ghost reads = { λ k. k.reads };
 
     fn read_object(&mut self, alloc: Global, id: &ObjectId) -> Result<Option<Object>, KeeperFault>
-        ensures faults { self.new.faults ≡ faults_after result self.old.faults }
         ensures reads { self.new.reads ≡ one_more self.old.reads }
-        ensures cause { IsCaused KeeperFault.Failed self.old.faults self.new.faults result }
+        ensures cause { HasCause keeper_failed self.old.faults self.new.faults result }
     {
         self.object_of(alloc, id)
     }
 
     fn read_ref(&mut self, alloc: Global, name: &RefName) -> Result<Option<ObjectId>, KeeperFault>
-        ensures faults { self.new.faults ≡ faults_after result self.old.faults }
         ensures reads { self.new.reads ≡ self.old.reads }
-        ensures cause { IsCaused KeeperFault.Failed self.old.faults self.new.faults result }
+        ensures cause { HasCause keeper_failed self.old.faults self.new.faults result }
     {
         self.id_of_ref(alloc, name)
     }
@@ -41,9 +41,8 @@ impl<R: Files> Keeper for DirKeeper<R> {
         alloc: Global,
         after: Option<&ObjectId>,
     ) -> Result<Option<ObjectId>, KeeperFault>
-        ensures faults { self.new.faults ≡ faults_after result self.old.faults }
         ensures reads { self.new.reads ≡ self.old.reads }
-        ensures cause { IsCaused KeeperFault.Failed self.old.faults self.new.faults result }
+        ensures cause { HasCause keeper_failed self.old.faults self.new.faults result }
     {
         self.id_after(alloc, after)
     }
@@ -53,17 +52,15 @@ impl<R: Files> Keeper for DirKeeper<R> {
         alloc: Global,
         after: Option<&RefName>,
     ) -> Result<Option<RefValue>, KeeperFault>
-        ensures faults { self.new.faults ≡ faults_after result self.old.faults }
         ensures reads { self.new.reads ≡ self.old.reads }
-        ensures cause { IsCaused KeeperFault.Failed self.old.faults self.new.faults result }
+        ensures cause { HasCause keeper_failed self.old.faults self.new.faults result }
     {
         self.ref_after(alloc, after)
     }
 
     fn commit(&mut self, _alloc: Global, change: &Change) -> Result<(), KeeperFault>
-        ensures faults { self.new.faults ≡ faults_after result self.old.faults }
         ensures reads { self.new.reads ≡ self.old.reads }
-        ensures cause { IsCaused KeeperFault.Failed self.old.faults self.new.faults result }
+        ensures cause { HasCause keeper_failed self.old.faults self.new.faults result }
     {
         self.make(change)
     }

@@ -17,5 +17,5 @@ pieces-preserved g c =
         before.1 ∙ ap (λ (r : List ℕ). front ++ r) whole ∙ sym (append_assoc front (take count rest) c.split_at.result.1.now),
         c.in_ok-count.ensures.bytes ∙ ap (λ (told : _). with_end told (take count rest)) before.2 ∙ with_ends (g.K.Sink.contents c.args.sink.now) front (take count rest),
       );
-      quiet = c.in_ok-count.ensures.cause.quiet ∙ c.pieces.invariant.quiet;
+      quiet = c.in_ok-count.ensures.cause.is ∙ c.pieces.invariant.quiet;
     }
