@@ -24,3 +24,4 @@ pub mod SomeStep
 pub mod StreamParts
 pub mod Walks
 pub mod Wholes
+mod Storing

@@ -1,8 +1,9 @@
 -- Where reading stands after a break.
-use Rattle.std.specs.Prelude.{◌≡◌, ◌+◌, [], ℕ, List, length, Option}
-use Rattle.octets.specs.Causes.{one_more}
+use Rattle.std.specs.Prelude.{◌≡◌, ◌+◌, [], ℕ, List, length, Option, Result, IfErr}
+use Rattle.octets.specs.Causes.{HasCause}
 use Rattle.octets.specs.Content.{with_front}
-use Rattle.buffered_reader.specs.Ahead.{Reading}
+use Rattle.buffered_reader.specs.Ahead.{Reading, ahead, past}
+use Rattle.clone_stream.specs.Faults.{break_failed}
 use Rattle.clone_stream.specs.declared.stream_faults.Break.{Break}
 use Rattle.clone_stream.specs.declared.stream_faults.Break.TheVariants.{BadLine, IdDiffers, Order, TooLarge, Cut, Failed, Memory}
 
@@ -23,12 +24,10 @@ StopsAt was now before after (Cut p) = p ≡ now.taken
 StopsAt was now before after (Failed p) = FailsAt was now before after p
 StopsAt was now before after Memory = Unit {0}
 
--- one fault of the source was counted where it is answered, and none elsewhere
-abbrev pub IsCausedAt : ℕ → ℕ → Break → Type 0
-IsCausedAt before now (BadLine p) = now ≡ before
-IsCausedAt before now (IdDiffers id found) = now ≡ before
-IsCausedAt before now (Order p) = now ≡ before
-IsCausedAt before now (TooLarge limit) = now ≡ before
-IsCausedAt before now (Cut p) = now ≡ before
-IsCausedAt before now (Failed p) = now ≡ one_more before
-IsCausedAt before now Memory = now ≡ before
+-- what every step of reading does, however it ends: what lies past the limit is not touched, one fault of the source is
+-- counted exactly where it failed, and reading stands at the break
+pub record ReadsOn {T : Type 0} (was now : Reading) (left left_now : Option (List ℕ)) (faults faults_now : ℕ) (result : Result T Break) : Type 0 where
+  pub past : past now left_now ≡ past was left
+  pub limit : now.limit ≡ was.limit
+  pub cause : HasCause break_failed faults faults_now result
+  pub stops : IfErr result (StopsAt was now (ahead was left) (ahead now left_now))

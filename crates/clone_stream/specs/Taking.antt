@@ -1,10 +1,12 @@
 -- A stream that is taken from a source into an empty keeper.
-use Rattle.std.specs.Prelude.{◌≡◌, ◌≤◌, ◌⊎◌, ℕ, List, length, take, Option, Some}
-use Rattle.octets.specs.Content.{Stays, with_front}
+use Rattle.std.specs.Prelude.{◌≡◌, ◌≤◌, ◌⊎◌, ◌↔◌, ℕ, Bool, true, List, length, take, Option, Some}
+use Rattle.octets.specs.Content.{with_front}
 use Rattle.edge_io.specs.Read.{IsAtEnd}
 use Rattle.git_object.specs.Repository.{Repository, empty_repository}
 use Rattle.keeper_api.specs.Changes.{changed}
+use Rattle.keeper_api.specs.Undisturbed.{Undisturbed}
 use Rattle.keeper_api.specs.declared.changes.Change.{Change}
+use Rattle.keeper_api.specs.declared.keepers.Keeper.{Ghosts}
 use Rattle.clone_stream.specs.Deciding.{Decides, FailsUnbroken}
 use Rattle.clone_stream.specs.Fronts.{FirstBreak}
 use Rattle.clone_stream.specs.Streams.{IsStreamText, largest_stream}
@@ -31,11 +33,20 @@ pub record Spells (left left_now : Option (List ℕ)) (before : Option Repositor
   pub empty : before ≡ Some empty_repository
   pub text : IsStreamText r bytes
 
--- the source was read to its end, and what the keeper then tells is what the bytes spell
+-- the source was read to its end, its bytes are this repository's stream, and what the keeper then tells is this one; it
+-- was empty before
 pub record Takes (left left_now : Option (List ℕ)) (before after : Option Repository) : Type 0 where
   pub bytes : List ℕ
+  pub repository : Repository
   pub was_read : WasRead left left_now bytes
-  pub held : (r : Repository) → after ≡ Some r → (before ≡ Some empty_repository) × IsStreamText r bytes
+  pub text : IsStreamText repository bytes
+  pub held : (r : Repository) → after ≡ Some r → (before ≡ Some empty_repository) × (r ≡ repository)
+
+-- the same, and where the keeper tells it, a stop leaves the repository alone
+pub record TakesInto {S : Type 0} (keeper : Ghosts S) (left left_now : Option (List ℕ)) (old new : S) : Type 0 where
+  pub takes : Takes left left_now (keeper.content old) (keeper.content new)
+  pub tells : keeper.tells_left new ≡ true → keeper.tells_left old ≡ true
+  pub stop : keeper.tells_left new ≡ true → (now : Repository) → keeper.content new ≡ Some now → (r : Repository) → keeper.left new r ↔ (r ≡ takes.repository)
 
 -- the input was read to its end, and is a stream
 pub record IsWhole (input : List ℕ) (after : Option (List ℕ)) : Type 0 where
@@ -86,14 +97,20 @@ IsOfInput KeeperFailed = ⊥
 IsOfInput NotEmpty = ⊥
 IsOfInput Memory = ⊥
 
--- what the keeper holds after a refusal: the same, or, where the keeper failed, perhaps the spelled repository
-abbrev pub HoldsAfter : Option (List ℕ) → Option (List ℕ) → Option Repository → Option Repository → StreamFault → Type 0
-HoldsAfter left left_now before after (BadLine at) = Stays before after
-HoldsAfter left left_now before after (IdDiffers id found) = Stays before after
-HoldsAfter left left_now before after (Order at) = Stays before after
-HoldsAfter left left_now before after (TooLarge limit) = Stays before after
-HoldsAfter left left_now before after (Truncated at) = Stays before after
-HoldsAfter left left_now before after SourceFailed = Stays before after
-HoldsAfter left left_now before after KeeperFailed = (r : Repository) → after ≡ Some r → (before ≡ Some r) ⊎ Spells left left_now before r
-HoldsAfter left left_now before after NotEmpty = Stays before after
-HoldsAfter left left_now before after Memory = Stays before after
+-- the keeper failed: it holds what it held or, perhaps, the spelled repository, and a stop leaves no other than these
+pub record MayTake {S : Type 0} (keeper : Ghosts S) (left left_now : Option (List ℕ)) (old new : S) : Type 0 where
+  pub held : (r : Repository) → keeper.content new ≡ Some r → (keeper.content old ≡ Some r) ⊎ Spells left left_now (keeper.content old) r
+  pub tells : keeper.tells_left new ≡ true → keeper.tells_left old ≡ true
+  pub stop : keeper.tells_left new ≡ true → (r : Repository) → keeper.left new r → keeper.left old r ⊎ Spells left left_now (keeper.content old) r
+
+-- what a refusal leaves of the keeper: all as before, but where the keeper failed
+abbrev pub LeavesRefused : {S : Type 0} → Ghosts S → Option (List ℕ) → Option (List ℕ) → S → S → StreamFault → Type 0
+LeavesRefused keeper left left_now old new (BadLine at) = Undisturbed keeper old new
+LeavesRefused keeper left left_now old new (IdDiffers id found) = Undisturbed keeper old new
+LeavesRefused keeper left left_now old new (Order at) = Undisturbed keeper old new
+LeavesRefused keeper left left_now old new (TooLarge limit) = Undisturbed keeper old new
+LeavesRefused keeper left left_now old new (Truncated at) = Undisturbed keeper old new
+LeavesRefused keeper left left_now old new SourceFailed = Undisturbed keeper old new
+LeavesRefused keeper left left_now old new KeeperFailed = MayTake keeper left left_now old new
+LeavesRefused keeper left left_now old new NotEmpty = Undisturbed keeper old new
+LeavesRefused keeper left left_now old new Memory = Undisturbed keeper old new

@@ -5,7 +5,7 @@ ghost use Rattle.octets.specs.Content.{with_front};
 ghost use Rattle.buffered_reader.specs.Ahead.{ahead, past};
 ghost use Rattle.git_object.specs.Objects.{pair_id};
 ghost use Rattle.clone_stream.specs.Breaks.{BreaksBody, BreaksLine};
-ghost use Rattle.clone_stream.specs.Stopping.{IsCausedAt, StopsAt};
+ghost use Rattle.clone_stream.specs.Stopping.{ReadsOn};
 ghost use Rattle.clone_stream.specs.Words.{AreWords, words_line};
 
 use crate::line_words::{Head, Words, words_of};
@@ -27,12 +27,7 @@ pub fn next_words<S: Source>(
     ensures taken { IfOk result (λ words. reader.new.taken ≡ reader.old.taken + length (words_line words) + 1) }
     ensures limited { OnOk result (reader.new.taken ≤ reader.new.limit) }
     ensures bad { IfErr result (λ fault. IfSome (ahead reader.old (S.left source.old)) (λ rest. BreaksLine reader.old.taken rest fault)) }
-    ensures stops { IfErr result (StopsAt reader.old reader.new (ahead reader.old (S.left source.old)) (ahead reader.new (S.left source.new))) }
-    ensures past { past reader.new (S.left source.new) ≡ past reader.old (S.left source.old) }
-    ensures limit { reader.new.limit ≡ reader.old.limit }
-    ensures later { S.faults source.old ≤ S.faults source.new }
-    ensures quiet { OnOk result (S.faults source.new ≡ S.faults source.old) }
-    ensures cause { IfErr result (IsCausedAt (S.faults source.old) (S.faults source.new)) }
+    ensures reads { ReadsOn reader.old reader.new (S.left source.old) (S.left source.new) (S.faults source.old) (S.faults source.new) result }
 {
     let at = reader.taken();
     let line = match reader.line(source) {
@@ -55,12 +50,7 @@ fn next_body<S: Source>(
     ensures taken { OnOk result (reader.new.taken ≡ reader.old.taken + head.now.size + 1) }
     ensures limited { OnOk result (reader.new.taken ≤ reader.new.limit) }
     ensures bad { IfErr result (λ fault. IfSome (ahead reader.old (S.left source.old)) (λ rest. BreaksBody head.now.id head.now.kind head.now.size reader.old.taken rest fault)) }
-    ensures stops { IfErr result (StopsAt reader.old reader.new (ahead reader.old (S.left source.old)) (ahead reader.new (S.left source.new))) }
-    ensures past { past reader.new (S.left source.new) ≡ past reader.old (S.left source.old) }
-    ensures limit { reader.new.limit ≡ reader.old.limit }
-    ensures later { S.faults source.old ≤ S.faults source.new }
-    ensures quiet { OnOk result (S.faults source.new ≡ S.faults source.old) }
-    ensures cause { IfErr result (IsCausedAt (S.faults source.old) (S.faults source.new)) }
+    ensures reads { ReadsOn reader.old reader.new (S.left source.old) (S.left source.new) (S.faults source.old) (S.faults source.new) result }
 {
     let body = match reader.exact(alloc, source, head.size as usize) {
         Ok(body) => body,
@@ -96,12 +86,7 @@ pub fn next_object<S: Source>(
     ensures taken { OnOk result (reader.new.taken ≡ reader.old.taken + head.now.size + 1) }
     ensures limited { OnOk result (reader.new.taken ≤ reader.new.limit) }
     ensures bad { IfErr result (λ fault. IfSome (ahead reader.old (S.left source.old)) (λ rest. BreaksBody head.now.id head.now.kind head.now.size reader.old.taken rest fault)) }
-    ensures stops { IfErr result (StopsAt reader.old reader.new (ahead reader.old (S.left source.old)) (ahead reader.new (S.left source.new))) }
-    ensures past { past reader.new (S.left source.new) ≡ past reader.old (S.left source.old) }
-    ensures limit { reader.new.limit ≡ reader.old.limit }
-    ensures later { S.faults source.old ≤ S.faults source.new }
-    ensures quiet { OnOk result (S.faults source.new ≡ S.faults source.old) }
-    ensures cause { IfErr result (IsCausedAt (S.faults source.old) (S.faults source.new)) }
+    ensures reads { ReadsOn reader.old reader.new (S.left source.old) (S.left source.new) (S.faults source.old) (S.faults source.new) result }
 {
     let id = head.id;
     let body = match next_body(alloc, reader, source, head) {

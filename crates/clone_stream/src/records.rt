@@ -12,7 +12,7 @@ ghost use Rattle.clone_stream.specs.Fronts.{AreRead, BreaksRecords};
 ghost use Rattle.clone_stream.specs.Breaks.{BreaksRecord, ComesObject};
 ghost use Rattle.clone_stream.specs.Reading.{Comes, last_of};
 ghost use Rattle.clone_stream.specs.Records.{IsBroken, IsLate, IsNext, IsObjectOf, last_read, record_text};
-ghost use Rattle.clone_stream.specs.Stopping.{IsCausedAt, StopsAt};
+ghost use Rattle.clone_stream.specs.Stopping.{ReadsOn};
 ghost use Rattle.clone_stream.specs.Streams.{IsRef, object_record};
 ghost use Rattle.clone_stream.specs.Words.{IsHead};
 
@@ -92,12 +92,7 @@ fn object_after<S: Source>(
     ensures limited { OnOk result (reader.new.taken ≤ reader.new.limit) }
     ensures bad { IfErr result (λ fault. IsLate (last_read objects.now refs.now) at head.now.id fault
         ⊎ IfSome (ahead reader.old (S.left source.old)) (λ rest. IsBroken (last_read objects.now refs.now) head.now.id head.now.kind head.now.size reader.old.taken rest fault)) }
-    ensures stops { IfErr result (StopsAt reader.old reader.new (ahead reader.old (S.left source.old)) (ahead reader.new (S.left source.new))) }
-    ensures past { past reader.new (S.left source.new) ≡ past reader.old (S.left source.old) }
-    ensures limit { reader.new.limit ≡ reader.old.limit }
-    ensures later { S.faults source.old ≤ S.faults source.new }
-    ensures quiet { OnOk result (S.faults source.new ≡ S.faults source.old) }
-    ensures cause { IfErr result (IsCausedAt (S.faults source.old) (S.faults source.new)) }
+    ensures reads { ReadsOn reader.old reader.new (S.left source.old) (S.left source.new) (S.faults source.old) (S.faults source.new) result }
 {
     if !may_come(objects, refs, &head.id) {
         return Err(Break::Order { at });
@@ -133,12 +128,7 @@ pub fn next_record<S: Source>(
     ensures taken { IfOk result (λ found. reader.new.taken ≡ reader.old.taken + length (record_text found)) }
     ensures limited { OnOk result (reader.new.taken ≤ reader.new.limit) }
     ensures bad { IfErr result (λ fault. IfSome (ahead reader.old (S.left source.old)) (λ rest. BreaksRecord (last_read objects.now refs.now) reader.old.taken rest fault)) }
-    ensures stops { IfErr result (StopsAt reader.old reader.new (ahead reader.old (S.left source.old)) (ahead reader.new (S.left source.new))) }
-    ensures past { past reader.new (S.left source.new) ≡ past reader.old (S.left source.old) }
-    ensures limit { reader.new.limit ≡ reader.old.limit }
-    ensures later { S.faults source.old ≤ S.faults source.new }
-    ensures quiet { OnOk result (S.faults source.new ≡ S.faults source.old) }
-    ensures cause { IfErr result (IsCausedAt (S.faults source.old) (S.faults source.new)) }
+    ensures reads { ReadsOn reader.old reader.new (S.left source.old) (S.left source.new) (S.faults source.old) (S.faults source.new) result }
 {
     let at = reader.taken();
     match next_words(alloc, reader, source) {
@@ -167,12 +157,7 @@ pub fn read_records<S: Source>(
 ) -> Result<Change, Break>
     ensures found { IfOk result (λ change. AreRead change (ahead reader.old (S.left source.old)) (ahead reader.new (S.left source.new)) reader.old.taken reader.new.taken) }
     ensures bad { IfErr result (λ fault. IfSome (ahead reader.old (S.left source.old)) (λ rest. BreaksRecords reader.old.taken rest fault)) }
-    ensures stops { IfErr result (StopsAt reader.old reader.new (ahead reader.old (S.left source.old)) (ahead reader.new (S.left source.new))) }
-    ensures past { past reader.new (S.left source.new) ≡ past reader.old (S.left source.old) }
-    ensures limit { reader.new.limit ≡ reader.old.limit }
-    ensures later { S.faults source.old ≤ S.faults source.new }
-    ensures quiet { OnOk result (S.faults source.new ≡ S.faults source.old) }
-    ensures cause { IfErr result (IsCausedAt (S.faults source.old) (S.faults source.new)) }
+    ensures reads { ReadsOn reader.old reader.new (S.left source.old) (S.left source.new) (S.faults source.old) (S.faults source.new) result }
 {
     let mut objects = Objects::new(alloc);
     let mut refs = RefChanges::new(alloc);

@@ -9,7 +9,7 @@ ghost use Rattle.clone_stream.specs.Breaks.{BreaksHeader};
 ghost use Rattle.clone_stream.specs.Deciding.{IsRefusedBy};
 ghost use Rattle.clone_stream.specs.Fronts.{FirstBreak};
 ghost use Rattle.clone_stream.specs.Parts.{AreParts, EndsAt, EndsWithin, OverRuns, PassesBy};
-ghost use Rattle.clone_stream.specs.Stopping.{IsCausedAt, StopsAt};
+ghost use Rattle.clone_stream.specs.Stopping.{ReadsOn};
 ghost use Rattle.clone_stream.specs.Streams.{header, largest_stream};
 ghost use Rattle.clone_stream.specs.Taking.{IsChangeRead, IsOfSource};
 
@@ -30,12 +30,7 @@ fn read_header<S: Source>(reader: &mut BufferedReader, source: &mut S) -> Result
     ensures ahead { OnOk result (ahead reader.old (S.left source.old) ≡ with_front header (ahead reader.new (S.left source.new))) }
     ensures taken { OnOk result (reader.new.taken ≡ length header) }
     ensures bad { IfErr result (λ fault. IfSome (ahead reader.old (S.left source.old)) (λ text. BreaksHeader text fault)) }
-    ensures stops { IfErr result (StopsAt reader.old reader.new (ahead reader.old (S.left source.old)) (ahead reader.new (S.left source.new))) }
-    ensures past { past reader.new (S.left source.new) ≡ past reader.old (S.left source.old) }
-    ensures limit { reader.new.limit ≡ reader.old.limit }
-    ensures later { S.faults source.old ≤ S.faults source.new }
-    ensures quiet { OnOk result (S.faults source.new ≡ S.faults source.old) }
-    ensures cause { IfErr result (IsCausedAt (S.faults source.old) (S.faults source.new)) }
+    ensures reads { ReadsOn reader.old reader.new (S.left source.old) (S.left source.new) (S.faults source.old) (S.faults source.new) result }
 {
     let line = match reader.line(source) {
         Ok(line) => line,
@@ -51,12 +46,7 @@ fn read_header<S: Source>(reader: &mut BufferedReader, source: &mut S) -> Result
 fn read_end<S: Source>(reader: &mut BufferedReader, source: &mut S) -> Result<(), Break>
     ensures end { OnOk result (EndsAt reader.old reader.new (ahead reader.old (S.left source.old)) (ahead reader.new (S.left source.new))) }
     ensures bad { IfErr result (OverRuns reader.old.taken (ahead reader.old (S.left source.old))) }
-    ensures stops { IfErr result (StopsAt reader.old reader.new (ahead reader.old (S.left source.old)) (ahead reader.new (S.left source.new))) }
-    ensures past { past reader.new (S.left source.new) ≡ past reader.old (S.left source.old) }
-    ensures limit { reader.new.limit ≡ reader.old.limit }
-    ensures later { S.faults source.old ≤ S.faults source.new }
-    ensures quiet { OnOk result (S.faults source.new ≡ S.faults source.old) }
-    ensures cause { IfErr result (IsCausedAt (S.faults source.old) (S.faults source.new)) }
+    ensures reads { ReadsOn reader.old reader.new (S.left source.old) (S.left source.new) (S.faults source.old) (S.faults source.new) result }
 {
     match reader.byte(source) {
         Ok(None) => Ok(()),
@@ -76,12 +66,7 @@ fn read_parts<S: Source>(
     requires { reader.old.taken ≡ 0 }
     ensures found { IfOk result (λ change. AreParts change reader.new (ahead reader.old (S.left source.old)) (ahead reader.new (S.left source.new))) }
     ensures bad { IfErr result (λ fault. IfSome (ahead reader.old (S.left source.old)) (λ text. FirstBreak text fault)) }
-    ensures stops { IfErr result (StopsAt reader.old reader.new (ahead reader.old (S.left source.old)) (ahead reader.new (S.left source.new))) }
-    ensures past { past reader.new (S.left source.new) ≡ past reader.old (S.left source.old) }
-    ensures limit { reader.new.limit ≡ reader.old.limit }
-    ensures later { S.faults source.old ≤ S.faults source.new }
-    ensures quiet { OnOk result (S.faults source.new ≡ S.faults source.old) }
-    ensures cause { IfErr result (IsCausedAt (S.faults source.old) (S.faults source.new)) }
+    ensures reads { ReadsOn reader.old reader.new (S.left source.old) (S.left source.new) (S.faults source.old) (S.faults source.new) result }
 {
     match read_header(reader, source) {
         Ok(()) => {}

@@ -1,10 +1,10 @@
 //! Streams from a source into an empty keeper.
 
-ghost use Rattle.std.specs.Prelude.{◌≡◌, ◌≢◌, ◌≤◌, ◌⊎◌, Some, IfErr, IfSome, IsErrOf, OnOk};
+ghost use Rattle.std.specs.Prelude.{◌≡◌, ◌≢◌, ◌≤◌, Some, IfErr, IfSome, IsErrOf, OnOk};
 ghost use Rattle.octets.specs.Causes.{HasCause};
 ghost use Rattle.clone_stream.specs.Faults.{stream_keeper_failed, stream_source_failed};
 ghost use Rattle.git_object.specs.Repository.{Repository, empty_repository};
-ghost use Rattle.clone_stream.specs.Taking.{HoldsAfter, IsDecided, IsOfInput, Spells, Takes};
+ghost use Rattle.clone_stream.specs.Taking.{IsDecided, IsOfInput, LeavesRefused, TakesInto};
 
 use crate::{StreamFault, read_change};
 use edge_io::Source;
@@ -22,15 +22,14 @@ pub fn read_stream<S: Source, R: Keeper>(
     source: &mut S,
     keeper: &mut R,
 ) -> Result<(), StreamFault>
-    ensures ok { OnOk result (Takes (S.left source.old) (S.left source.new) (R.content keeper.old) (R.content keeper.new)) }
+    ensures ok { OnOk result (TakesInto R.Keeper (S.left source.old) (S.left source.new) keeper.old keeper.new) }
 
     // The refusals that are exact, and what a refusal leaves.
     ensures decided { IfErr result (λ fault. IfSome (S.left source.old) (λ input. IsDecided input (S.left source.new) fault)) }
     ensures was_empty { IfErr result (λ fault. IsOfInput fault → (r : Repository) → R.content keeper.new ≡ Some r → r ≡ empty_repository) }
     ensures not_empty { IsErrOf result StreamFault.NotEmpty → (r : Repository) → R.content keeper.new ≡ Some r → r ≢ empty_repository }
     ensures unread { IsErrOf result StreamFault.NotEmpty → S.left source.new ≡ S.left source.old }
-    ensures held { IfErr result (HoldsAfter (S.left source.old) (S.left source.new) (R.content keeper.old) (R.content keeper.new)) }
-    ensures stop { (r : Repository) → R.left keeper.new r → R.left keeper.old r ⊎ Spells (S.left source.old) (S.left source.new) (R.content keeper.old) r }
+    ensures held { IfErr result (LeavesRefused R.Keeper (S.left source.old) (S.left source.new) keeper.old keeper.new) }
 
     // Faults and counts.
     ensures source_cause { HasCause stream_source_failed (S.faults source.old) (S.faults source.new) result }

@@ -8,12 +8,11 @@ use Rattle.keeper_api.specs.declared.keeper_faults.KeeperFault.{KeeperFault}
 use Rattle.keeper_api.specs.declared.keeper_faults.KeeperFault.TheVariants.{Failed, Memory}
 
 -- a call that makes no commit: the same is held, and where the keeper tells it, a stop may leave exactly what it could
--- leave before, of which what is held is one
+-- leave before
 pub record AsBefore (before after : Option Repository) (told told_now : Bool) (past now : Repository → Type 0) : Type 0 where
   pub content : Stays before after
   pub tells : told_now ≡ true → told ≡ true
   pub left : told_now ≡ true → (r : Repository) → now r ↔ past r
-  pub held : told_now ≡ true → (r : Repository) → after ≡ Some r → now r
 
 -- what a commit makes of the repository that was held
 abbrev pub Commits : Change → {T : Type 0} → Result T KeeperFault → Repository → Repository → Type 0
@@ -32,8 +31,7 @@ LeavesBy change (Ok _) before past now = (was : Repository) → before ≡ Some 
 LeavesBy change (Err Failed) before past now = (r : Repository) → now r → past r ⊎ IsChanged change before r
 LeavesBy change (Err Memory) before past now = (r : Repository) → now r ↔ past r
 
--- a commit, where the keeper tells what a stop may leave; what is held is one of these
-pub record Leaves (change : Change) {T : Type 0} (result : Result T KeeperFault) (before after : Option Repository) (told told_now : Bool) (past now : Repository → Type 0) : Type 0 where
+-- a commit, where the keeper tells what a stop may leave
+pub record Leaves (change : Change) {T : Type 0} (result : Result T KeeperFault) (before : Option Repository) (told told_now : Bool) (past now : Repository → Type 0) : Type 0 where
   pub tells : told_now ≡ true → told ≡ true
   pub left : told_now ≡ true → LeavesBy change result before past now
-  pub held : told_now ≡ true → (r : Repository) → after ≡ Some r → now r

@@ -1,6 +1,6 @@
 //! The trait of a store of Git objects and references.
 
-ghost use Rattle.std.specs.Prelude.{◌≡◌, ℕ, Bool, Option, Some, IfOk};
+ghost use Rattle.std.specs.Prelude.{◌≡◌, ℕ, Bool, true, Option, Some, IfOk};
 ghost use Rattle.std.specs.Option.{option_map, option_copied};
 ghost use Rattle.std.specs.FinMap.{get};
 ghost use Rattle.octets.specs.BytesMap.{entry_after};
@@ -75,11 +75,14 @@ pub trait Keeper {
     /// together. After `Failed` the old or the new repository is held, after `Memory` the old one.
     fn commit(&mut self, alloc: Global, change: &Change) -> Result<(), KeeperFault>
         ensures content { Told (Commits change.now result) (content self.old) (content self.new) }
-        ensures left { Leaves change.now result (content self.old) (content self.new) (tells_left self.old) (tells_left self.new) (left self.old) (left self.new) }
+        ensures left { Leaves change.now result (content self.old) (tells_left self.old) (tells_left self.new) (left self.old) (left self.new) }
         ensures cause { HasCause keeper_failed (faults self.old) (faults self.new) result }
         ensures reads { reads self.new ≡ reads self.old };
 
     /// The count of faults. It takes no memory.
     fn faults(&self) -> u64
         ensures { result ≡ faults self.now };
+
+    /// Where the keeper tells what a stop may leave, what is held may be left.
+    ghost held_is_left: { (keeper : Self) (r : Repository) → tells_left keeper ≡ true → content keeper ≡ Some r → left keeper r };
 }

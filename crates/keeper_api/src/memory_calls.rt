@@ -3,6 +3,7 @@
 ghost use Rattle.std.specs.Prelude.{◌≡◌, ◌↔◌, Some, IfOk, IsErrOf, IsOk, IsTrue, None, false};
 ghost use Rattle.std.specs.Option.{option_map, option_copied};
 ghost use Rattle.std.specs.FinMap.{get};
+ghost use Rattle.std.proofs.lemmas.Bool.{false≢true};
 ghost use Rattle.octets.specs.BytesMap.{entry_after};
 ghost use Rattle.octets.specs.Calls.{after_call, fails_next};
 ghost use Rattle.octets.specs.Causes.{HasCause, one_more};
@@ -106,4 +107,6 @@ impl Keeper for MemKeeper {
     {
         self.fault_count()
     }
+
+    ghost held_is_left = { λ k r told. absurd (false≢true told) };
 }

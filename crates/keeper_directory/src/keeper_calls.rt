@@ -1,6 +1,7 @@
 //! The calls of the keeper over a folder.
 
 ghost use Rattle.std.specs.Prelude.{◌≡◌, None, false};
+ghost use Rattle.std.proofs.lemmas.Bool.{false≢true};
 ghost use Rattle.octets.specs.Causes.{HasCause, one_more};
 ghost use Rattle.keeper_api.specs.Faults.{keeper_failed};
 
@@ -70,4 +71,6 @@ impl<R: Files> Keeper for DirKeeper<R> {
     {
         self.fault_count()
     }
+
+    ghost held_is_left = { λ _ r told. absurd (false≢true told) };
 }

@@ -45,8 +45,13 @@ records-preserved g c = record {
 pub returns-in-Err-clause-bad : goal.returns-in-Err-clause-bad
 returns-in-Err-clause-bad g c = next_breaks c.records.objects c.records.refs _ _ _ _ c.records.invariant.read c.in-Err.fault (rw (c.as_slice.ensures, c.as_slice-in-records.ensures) at c.in-Err.ensures.bad)
 
-pub returns-in-Err-clause-stops : goal.returns-in-Err-clause-stops
-returns-in-Err-clause-stops g c = stops_after c.records.objects c.records.refs _ _ _ _ c.records.invariant.read c.records.reader c.next_record.new.reader c.args.reader.now _ c.in-Err.fault refl refl c.in-Err.ensures.stops
+pub returns-in-Err-clause-reads : goal.returns-in-Err-clause-reads
+returns-in-Err-clause-reads g c = record {
+  past = search rules;
+  limit = search rules;
+  cause = search rules;
+  stops = stops_after c.records.objects c.records.refs _ _ _ _ c.records.invariant.read c.records.reader c.next_record.new.reader c.args.reader.now _ c.in-Err.fault refl refl c.in-Err.ensures.reads.stops;
+}
 
 pub returns-in_err-push-in-Ok-Object-clause-bad : goal.returns-in_err-push-in-Ok-Object-clause-bad
 returns-in_err-push-in-Ok-Object-clause-bad g c =
