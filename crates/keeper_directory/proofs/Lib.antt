@@ -1,4 +1,3 @@
-mod Counting
 mod Digits
 mod Heads
 mod Ids

@@ -1,4 +1,3 @@
-pub mod Counting
 pub mod Files
 pub mod Sorted
 pub mod Stores
