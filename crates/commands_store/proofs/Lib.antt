@@ -1,0 +1,2 @@
+mod LogName
+mod StaysOpen

@@ -1,0 +1,5 @@
+pub mod Taking
+pub mod Verdicts
+pub mod Verifying
+pub mod Importing
+pub mod Exporting

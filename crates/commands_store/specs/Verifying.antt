@@ -1,0 +1,70 @@
+-- What each outcome of `verify-ref` means.
+use Rattle.std.specs.Prelude.{◌≡◌, ℕ, List, Option, Some, Result, Ok, Err, Bool, IsTrue}
+use Rattle.octets.specs.Content.{GainsPart, with_end}
+use Rattle.git_object.specs.Repository.{Repository}
+use Rattle.keeper_api.specs.declared.keepers.Keeper as keeper
+use Rattle.endings.specs.declared.ending.Ending.{Ending}
+use Rattle.endings.specs.declared.ending.Ending.TheVariants.{Done, Differs, Refused}
+use Rattle.endings.specs.declared.ending.Part.TheVariants as part
+use Rattle.endings.specs.declared.ending.Refusal.TheVariants as refusal
+use Rattle.commands_store.specs.Taking.{DeclinesTaking, Opens, take_refusal}
+use Rattle.commands_store.specs.Verdicts.{HasLog, IsVerdict, line}
+use Rattle.commands_store.specs.declared.verdicts.Verdict.{Verdict}
+use Rattle.commands_store.specs.declared.verdicts.Verdict.TheVariants.{Accepted, TipDiffers}
+use Rattle.commands_store.specs.declared.verifying.VerifyFault.{VerifyFault}
+use Rattle.commands_store.specs.declared.verifying.VerifyFault.TheVariants.{Unopened, Logged, KeeperFailed, SinkFailed, Memory}
+
+-- how the program ends
+abbrev pub verify_ending : Result Verdict VerifyFault → Ending
+verify_ending (Ok (Accepted count)) = Done
+verify_ending (Ok (TipDiffers kept recorded)) = Differs
+verify_ending (Err (Unopened fault)) = Refused (take_refusal fault)
+verify_ending (Err Logged) = Refused refusal.NotBuiltLog
+verify_ending (Err KeeperFailed) = Refused (refusal.Fault part.Keeper)
+verify_ending (Err SinkFailed) = Refused (refusal.Fault part.Sink)
+verify_ending (Err Memory) = Refused refusal.Memory
+
+module _ (name : List ℕ) (stdin : Bool) {R : Type 0} (keeper_of : keeper.Ghosts R) (left left_now : Option (List ℕ)) (old new : R) where
+  -- the repository is open, and this is the verdict on what the store then tells
+  pub record FindsVerdict (verdict : Verdict) : Type 0 where
+    pub opens : Opens stdin keeper_of left left_now old new
+    pub is : (r : Repository) → keeper_of.content new ≡ Some r → IsVerdict r name verdict
+
+  -- the repository is open, and has a log
+  pub record FindsLog : Type 0 where
+    pub opens : Opens stdin keeper_of left left_now old new
+    pub log : (r : Repository) → keeper_of.content new ≡ Some r → HasLog r
+
+  -- what looking for the verdict comes to, before anything is printed
+  abbrev pub LookEnds : Result Verdict VerifyFault → Type 0
+  LookEnds (Ok verdict) = FindsVerdict verdict
+  LookEnds (Err (Unopened fault)) = IsTrue stdin × DeclinesTaking keeper_of left left_now old new fault
+  LookEnds (Err Logged) = FindsLog
+  LookEnds (Err KeeperFailed) = Opens stdin keeper_of left left_now old new
+  LookEnds (Err SinkFailed) = ⊥
+  LookEnds (Err Memory) = Opens stdin keeper_of left left_now old new
+
+  module _ (printed printed_now : Option (List ℕ)) where
+    -- exactly the verdict's line was printed
+    pub record AnswersVerdict (verdict : Verdict) : Type 0 where
+      pub finds : FindsVerdict verdict
+      pub printed_is : printed_now ≡ with_end printed (line name verdict)
+
+    -- a verdict was found, and a front of its line was printed, and not all
+    pub record AnswersPart : Type 0 where
+      pub verdict : Verdict
+      pub finds : FindsVerdict verdict
+      pub part : GainsPart printed printed_now (line name verdict)
+
+    -- there is no verdict, and nothing was printed
+    pub record AnswersNothing (fault : VerifyFault) : Type 0 where
+      pub why : LookEnds (Err fault)
+      pub unprinted : printed_now ≡ printed
+
+    abbrev pub VerifyEnds : Result Verdict VerifyFault → Type 0
+    VerifyEnds (Ok verdict) = AnswersVerdict verdict
+    VerifyEnds (Err (Unopened fault)) = AnswersNothing (Unopened fault)
+    VerifyEnds (Err Logged) = AnswersNothing Logged
+    VerifyEnds (Err KeeperFailed) = AnswersNothing KeeperFailed
+    VerifyEnds (Err SinkFailed) = AnswersPart
+    VerifyEnds (Err Memory) = AnswersNothing Memory

@@ -1,0 +1,22 @@
+//! The commands that read or fill the store: `verify-ref`, `export` and `import`.
+//!
+//! This crate stands on `clone_stream`, `keeper_api`, `edge_io`, `endings` and `git_object`. Each command is a
+//! function over exactly the objects that it needs, with outcomes of its own. A crate above may rely on each
+//! outcome's meaning, which stands as one table a command in `specs/`, on the counts of faults that its ending
+//! says, and on `laws`: where the objects tell their content, a command comes to one outcome at most.
+
+#![tactic(auto)]
+
+mod exporting;
+mod importing;
+mod judging;
+mod opening;
+mod taking;
+mod verdicts;
+mod verifying;
+
+pub use exporting::{export, export_ending};
+pub use importing::{ImportFault, import, import_ending};
+pub use taking::{TakeFault, take_refusal};
+pub use verdicts::Verdict;
+pub use verifying::{VerifyFault, verify_ending, verify_ref};

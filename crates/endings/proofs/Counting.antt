@@ -1,0 +1,60 @@
+-- Counts of faults over the steps of a command.
+use Rattle.std.proofs.Common.{◌≡◌, ◌≤◌, ℕ, ap, ◌∙◌, subst, sym}
+use Rattle.std.specs.Prelude.{None}
+use Rattle.std.proofs.Math.Nat.{le_refl, le_trans}
+use Rattle.octets.specs.Causes.{one_more}
+use Rattle.endings.specs.Counts.{Faults, IsCounted, NoneFalls, with_fault}
+use Rattle.endings.specs.Endings.{part_of}
+use Rattle.endings.specs.declared.ending.Ending.{Ending}
+use Rattle.endings.specs.declared.ending.Ending.TheVariants.{Refused}
+use Rattle.endings.specs.declared.ending.Part.TheVariants as part
+use Rattle.endings.specs.declared.ending.Refusal.TheVariants as refusal
+
+later_still : {b m a : Faults} → NoneFalls b m → NoneFalls m a → NoneFalls b a
+later_still first next = record { source = le_trans first.source next.source; sink = le_trans first.sink next.sink; keeper = le_trans first.keeper next.keeper }
+
+-- a step, after steps that counted none
+pub after : {b m a : Faults} (first next : Ending) → part_of first ≡ None → IsCounted first b m → IsCounted next m a → IsCounted next b a
+after {b = b} first next none begun ended =
+    let quiet = begun.is ∙ ap (λ (p : _). with_fault p b) none in
+    record {
+      is = ended.is ∙ ap (λ (f : Faults). with_fault (part_of next) f) quiet;
+      later = later_still begun.later ended.later;
+    }
+
+-- an ending that is another's
+pub as_ended : (before now : Faults) (told ending : Ending) → told ≡ ending → IsCounted ending before now → IsCounted told before now
+as_ended before now told ending same counted = subst (λ (e : Ending). IsCounted e before now) (sym same) counted
+
+-- a step that counts no fault
+pub quiet : (ending : Ending) (f : Faults) → part_of ending ≡ None → IsCounted ending f f
+quiet ending f none = record {
+  is = ap (λ (p : _). with_fault p f) (sym none);
+  later = record { source = le_refl f.source; sink = le_refl f.sink; keeper = le_refl f.keeper };
+}
+
+-- a step of the sink
+pub sink_quiet : (ending : Ending) (f : Faults) (now : ℕ) → part_of ending ≡ None → f.sink ≤ now → now ≡ f.sink → IsCounted ending f (record f { sink = now })
+sink_quiet ending f now none later same = record {
+  is = (λ i. record f { sink = same i }) ∙ ap (λ (p : _). with_fault p f) (sym none);
+  later = record { source = le_refl f.source; sink = later; keeper = le_refl f.keeper };
+}
+
+pub sink_failed : (f : Faults) (now : ℕ) → f.sink ≤ now → now ≡ one_more f.sink → IsCounted (Refused (refusal.Fault part.Sink)) f (record f { sink = now })
+sink_failed f now later more = record {
+  is = λ i. record f { sink = more i };
+  later = record { source = le_refl f.source; sink = later; keeper = le_refl f.keeper };
+}
+
+-- a step of the keeper
+pub keeper_quiet : (ending : Ending) (f : Faults) (now : ℕ) → part_of ending ≡ None → f.keeper ≤ now → now ≡ f.keeper → IsCounted ending f (record f { keeper = now })
+keeper_quiet ending f now none later same = record {
+  is = (λ i. record f { keeper = same i }) ∙ ap (λ (p : _). with_fault p f) (sym none);
+  later = record { source = le_refl f.source; sink = le_refl f.sink; keeper = later };
+}
+
+pub keeper_failed : (f : Faults) (now : ℕ) → f.keeper ≤ now → now ≡ one_more f.keeper → IsCounted (Refused (refusal.Fault part.Keeper)) f (record f { keeper = now })
+keeper_failed f now later more = record {
+  is = λ i. record f { keeper = more i };
+  later = record { source = le_refl f.source; sink = le_refl f.sink; keeper = later };
+}

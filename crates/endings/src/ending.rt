@@ -1,0 +1,76 @@
+//! The endings of all commands.
+
+ghost use Rattle.std.specs.Prelude.{◌≡◌, ◌≤◌};
+ghost use Rattle.endings.specs.Endings.{refusal_status, status_of};
+
+use git_object::ObjectId;
+
+/// An object outside that counts its faults.
+#[derive(Clone, Copy, Debug, PartialEq, Eq)]
+pub enum Part {
+    Source,
+    Sink,
+    Keeper,
+}
+
+/// Why a command is refused, in the order of its statuses: one variant for each line that the program can say.
+#[derive(Clone, Copy, Debug, PartialEq, Eq)]
+pub enum Refusal {
+    /// The words are outside the grammar.
+    Words,
+    /// The stream is refused, by the refusal of this number.
+    Stream { number: u8 },
+    /// The repository has a log, which is not read yet.
+    NotBuiltLog,
+    /// What is kept under this id is not its object.
+    Object { id: ObjectId },
+    /// The stream of the repository is longer than a stream may be.
+    TooLarge,
+    /// This object outside failed.
+    Fault { part: Part },
+    Memory,
+}
+
+/// How a command ends.
+#[derive(Clone, Copy, Debug, PartialEq, Eq)]
+pub enum Ending {
+    /// The answer was given.
+    Done,
+    /// The answer was given, and it says no.
+    Differs,
+    /// There is no answer.
+    Refused { refusal: Refusal },
+}
+
+impl Refusal {
+    /// The status with which the program then ends.
+    pub fn status(&self) -> u8
+        ensures status { result ≡ refusal_status self.now }
+        ensures bound { result ≤ 5 }
+    {
+        match self {
+            Refusal::Words => 2,
+            Refusal::Stream { number: _ } => 3,
+            Refusal::NotBuiltLog => 3,
+            Refusal::Object { id: _ } => 3,
+            Refusal::TooLarge => 3,
+            Refusal::Fault { part: _ } => 4,
+            Refusal::Memory => 5,
+        }
+    }
+}
+
+impl Ending {
+    /// The status with which the program ends: 0 where the answer was given, 1 where it says no, and that of the
+    /// refusal where there is none.
+    pub fn status(&self) -> u8
+        ensures status { result ≡ status_of self.now }
+        ensures bound { result ≤ 5 }
+    {
+        match self {
+            Ending::Done => 0,
+            Ending::Differs => 1,
+            Ending::Refused { refusal } => refusal.status(),
+        }
+    }
+}
