@@ -1,2 +1,4 @@
 mod LogName
+mod SameOutcome
 mod StaysOpen
+mod ToldContent

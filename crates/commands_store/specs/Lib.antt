@@ -3,3 +3,5 @@ pub mod Verdicts
 pub mod Verifying
 pub mod Importing
 pub mod Exporting
+pub mod Contents
+pub mod Laws

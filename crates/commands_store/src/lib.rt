@@ -10,6 +10,7 @@
 mod exporting;
 mod importing;
 mod judging;
+pub mod laws;
 mod opening;
 mod taking;
 mod verdicts;
