@@ -1,5 +1,2 @@
-pub mod Counted
-pub mod LogName
-pub mod SameOutcome
-pub mod Steps
-pub mod ToldContent
+mod SameOutcome
+mod ToldOutcome

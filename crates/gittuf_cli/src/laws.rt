@@ -1,22 +1,24 @@
-//! Laws over the definitions of this crate: the status of a run is determined by the words and the content.
+//! Laws over the definitions of this crate: how a run ends is determined by the words and the content.
 
-ghost use Rattle.gittuf_cli.specs.Exact.{OneOutcome, TellsOutcome};
+ghost use Rattle.gittuf_cli.specs.Contents.{OneOutcome, TellsOutcome};
 
-use clone_stream::laws::{one_export, one_refusal, one_spelling};
 use command_words::laws::one_command;
+use commands_store::laws::{one_of_store, tells_of_store};
+use edge_io::{Sink, Source};
+use keeper_api::Keeper;
 
-/// Where source and keeper tell their content, an outcome is the one for the words and that content, unless it
-/// is a fault or want of memory.
-pub fn tells_outcome()
-    ensures { TellsOutcome }
-{}
+/// Where source and store tell their content, an ending is the one for the words and that content, unless the run
+/// stopped for a fault or for want of memory.
+pub fn tells_outcome<S: Source, K: Sink, R: Keeper>()
+    ensures { TellsOutcome S.Source K.Sink R.Keeper }
+{
+    tells_of_store::<R>();
+}
 
-/// There is at most one outcome for the same words and content.
+/// There is at most one ending for the same words and content.
 pub fn one_outcome()
     ensures { OneOutcome }
 {
     one_command();
-    one_spelling();
-    one_refusal();
-    one_export();
+    one_of_store();
 }

@@ -1,5 +1,5 @@
-use Rattle.gittuf_cli.proofs.ToldContent.{told_outcome}
+use Rattle.gittuf_cli.proofs.ToldOutcome.{told_outcome}
 use Rattle.gittuf_cli.proofs.laws.tells_outcome.Goals as goal
 
 pub returns : goal.returns
-returns c = told_outcome
+returns g c = told_outcome g.S.Source g.K.Sink g.R.Keeper c.tells_of_store.ensures
