@@ -7,7 +7,8 @@
 
 use command_words::{Command, Store, WordsFault, after_places, read_command};
 use edge_io::{StdSink, StdSource, write_all};
-use gittuf_cli::{Outside, Refusal, run};
+use endings::{Part, Refusal};
+use gittuf_cli::{Outside, run};
 use keeper_api::{Keeper, MemKeeper};
 use keeper_directory::{DirKeeper, OpenFault};
 use std::env;
@@ -64,7 +65,7 @@ fn open(rt: &HostRuntime, folder: &str, command: &[String]) -> Result<DirKeeper,
     };
     match opened {
         Ok(keeper) => Ok(keeper),
-        Err(OpenFault::Failed) => Err(Refusal::Fault),
+        Err(OpenFault::Failed) => Err(Refusal::Fault { part: Part::Keeper }),
         Err(OpenFault::Memory) => Err(Refusal::Memory),
     }
 }
