@@ -3,6 +3,7 @@ pub mod IdLemmas
 pub mod KeyLemmas
 pub mod LineLemmas
 pub mod NameLemmas
+pub mod NamesAloud
 pub mod PairLemmas
 pub mod Runs
 pub mod TagLemmas

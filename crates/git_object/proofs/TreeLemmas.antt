@@ -11,7 +11,7 @@ use Rattle.text_reader.specs.Line.{has_byte}
 use Rattle.text_reader.proofs.Unique.{same_fronts, same_until}
 use Rattle.git_object.specs.Ids.{IsId}
 use Rattle.git_object.specs.Modes.{mode_text}
-use Rattle.git_object.specs.Trees.{AreEntries, AreInOrder, HasFirstEntry, IsEntryName, IsTreeFault, IsTreeFront, IsTreeText, Precedes, entries_text, entry_text, sort_key}
+use Rattle.git_object.specs.Trees.{AreEntries, AreInOrder, AreWellFormed, HasFirstEntry, IsEntryName, IsTreeFault, IsTreeFront, IsTreeText, Precedes, entries_text, entry_text, sort_key}
 use Rattle.git_object.specs.EntryParts.{AllLess, AllPrecede}
 use Rattle.git_object.specs.declared.modes.Mode.{Mode}
 use Rattle.git_object.specs.declared.modes.Mode.TheVariants.{Dir, File, Exec, Link, Module}
@@ -123,6 +123,13 @@ last_decides (x ∷ es) l e b ordered last test =
     (λ is. less_than_last x es l e ordered there (is_less (by_bytes (sort_key l) (sort_key e)) (sym test ∙ is)), λ all. test ∙ ap is_lt (at_last (λ f. by_bytes (sort_key f) (sort_key e) ≡ Less) x es l all there))
 
 -- ---- runs of entries
+
+-- entries with one more are well formed exactly where it is well named and each of them may stand before it
+pub formed_push : (es : List TreeEntry) (e : TreeEntry) → AreWellFormed es → IsEntryName e.name → AllPrecede es e → AreWellFormed (es ++ e ∷ [])
+formed_push es e formed name all = record { named = all_push (λ g. IsEntryName g.name) es e formed.named name; ordered = order_push es e formed.ordered all }
+
+pub formed_last : (es : List TreeEntry) (e : TreeEntry) → AreWellFormed (es ++ e ∷ []) → IsEntryName e.name × AllPrecede es e
+formed_last es e formed = (all_last (λ f. IsEntryName f.name) es e formed.named, order_last es e formed.ordered)
 
 pub entries_front : (es fs : List TreeEntry) → AreEntries (es ++ fs) → AreEntries es
 entries_front es fs are = record {

@@ -1,8 +1,9 @@
 -- Reference names: git-check-ref-format's rules, with this project's own bounds.
-use Rattle.std.specs.Prelude.{◌≡◌, ◌≤◌, ◌==◌, ◌&&◌, ◌||◌, ℕ, Bool, false, not, List, [], ◌∷◌, length, codes, IsTrue, nat_le}
+use Rattle.std.specs.Prelude.{◌≡◌, ◌≤◌, ◌↔◌, ◌++◌, ◌==◌, ◌&&◌, ◌||◌, ℕ, Bool, false, not, List, [], ◌∷◌, length, codes, IsTrue, nat_le}
 use Rattle.std.specs.Bool.{nat_eq}
-use Rattle.std.specs.List.{slice_split, list_all, starts_with, ends_with}
+use Rattle.std.specs.List.{AllByRecursion, join_with_byte, slice_split, list_all, starts_with, ends_with}
 use Rattle.std.specs.Str.{IsUtf8}
+use Rattle.text_reader.specs.Line.{has_byte}
 
 -- the parts between slashes
 abbrev pub components : List ℕ → List (List ℕ)
@@ -38,6 +39,13 @@ pub record IsRefName (text : List ℕ) : Type 0 where
   pub no_dots : has_pair 46 46 text ≡ false
   pub no_at : has_pair 64 123 text ≡ false
   pub no_dot_last : ends_with nat_eq text (codes ".") ≡ false
+
+-- what the words of this grammar say to a reader: the components are what is joined by slashes, and hold none; and
+-- two bytes stand together where there is something before them and something behind
+pub record NamesAloud : Type 0 where
+  pub joined : (text : List ℕ) → join_with_byte 47 (components text) ≡ text
+  pub no_slash : (text : List ℕ) → AllByRecursion (λ part. has_byte 47 part ≡ false) (components text)
+  pub pairs : (x y : ℕ) (text : List ℕ) → IsTrue (has_pair x y text) ↔ ((front : List ℕ) × (rest : List ℕ) × (text ≡ front ++ x ∷ y ∷ rest))
 
 -- the reference that the reference state log's tip stands at
 abbrev pub log_name : List ℕ

@@ -1,6 +1,6 @@
 //! Git's commit object.
 
-ghost use Rattle.std.specs.Prelude.{◌≡◌, ◌≢◌, ◌++◌, ℕ, List, codes, IfOk, IfErr, IsErrOf};
+ghost use Rattle.std.specs.Prelude.{◌≡◌, ◌≢◌, ◌↔◌, ◌++◌, ℕ, List, codes, IfOk, IfErr, IsErrOf, IsTrue};
 ghost use Rattle.git_object.specs.Ids.{IsId};
 ghost use Rattle.git_object.specs.Commits.{HasParents, parent_line};
 
@@ -56,7 +56,15 @@ impl Commit {
         })
     }
 
-    /// The body of the commit, whose `rest` must not begin with `parent `.
+    /// Whether these bytes may follow the lines of the tree and of parents: they do not begin with `parent `. It
+    /// takes no memory.
+    pub fn may_end_in(rest: &[u8]) -> bool
+        ensures { IsTrue result ↔ ((more : List ℕ) → rest.now ≢ codes "parent " ++ more) }
+    {
+        !begins_with(rest, b"parent ")
+    }
+
+    /// The body of the commit, whose `rest` must not begin with `parent `: `may_end_in` tells it.
     pub fn write(&self, alloc: Global) -> Result<Octets, Memory>
         requires { (more : List ℕ) → self.now.rest ≢ codes "parent " ++ more }
         ensures { IfOk result (IsCommitText self.now) }

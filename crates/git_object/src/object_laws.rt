@@ -4,6 +4,7 @@ ghost use Rattle.std.specs.Prelude.{◌≡◌};
 ghost use Rattle.git_object.specs.Grammars.{IsGrammar};
 ghost use Rattle.git_object.specs.Commits.{IsCommitFault, IsCommitText};
 ghost use Rattle.git_object.specs.Tags.{IsTagFault, IsTagText};
+ghost use Rattle.git_object.specs.Names.{NamesAloud};
 ghost use Rattle.git_object.specs.Trees.{IsTreeFault, IsTreeText};
 ghost use Rattle.git_object.specs.Repository.{largest_body};
 
@@ -23,6 +24,12 @@ pub fn tags()
 /// A tree has one text and a text at most one tree; a text that is refused is no tree's, and is refused at one place.
 pub fn trees()
     ensures { IsGrammar IsTreeText IsTreeFault }
+{}
+
+/// The words of the grammar of reference names mean what they say: the components of a text are its parts between
+/// slashes, and a pair of bytes stands in it where one stands right before the other.
+pub fn names()
+    ensures { NamesAloud }
 {}
 
 /// The limit of a body that the code names is the one that the definitions name.

@@ -30,8 +30,8 @@ fn holds_byte(text: &[u8], wanted: u8) -> bool
     text.iter().any(|byte| *byte == wanted)
 }
 
-// Whether an entry may have the name.
-fn is_entry_name(name: &[u8]) -> bool
+/// Whether an entry may have the name.
+pub fn is_entry_name(name: &[u8]) -> bool
     ensures { IsTrue result ↔ IsEntryName name.now }
 {
     if name.is_empty() {

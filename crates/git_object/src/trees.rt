@@ -1,8 +1,8 @@
 //! Git's tree object.
 
-ghost use Rattle.std.specs.Prelude.{◌≡◌, length, IfOk, IfErr, IsErrOf, IsOk};
+ghost use Rattle.std.specs.Prelude.{◌≡◌, ◌↔◌, ◌++◌, ◌∷◌, [], length, IfOk, IfErr, IsErrOf, IsOk, IsTrue};
 
-use crate::tree_entries::{append_entries, comes_next, split_entry};
+use crate::tree_entries::{EntryParts, append_entries, comes_next, is_entry_name, split_entry};
 use crate::{Mode, ObjectFault, ObjectId};
 use octets::{Items, Memory, Octets};
 use std::alloc::Global;
@@ -13,6 +13,18 @@ pub struct TreeEntry {
     pub mode: Mode,
     pub name: Octets,
     pub id: ObjectId,
+}
+
+impl TreeEntry {
+    ghost use Rattle.git_object.specs.Trees.{IsEntryName};
+
+    /// Whether an entry may have this name: not empty, without `/` and zero byte, and none of `.`, `..` and
+    /// `.git`. It takes no memory.
+    pub fn may_be_called(name: &[u8]) -> bool
+        ensures { IsTrue result ↔ IsEntryName name.now }
+    {
+        is_entry_name(name)
+    }
 }
 
 /// A list of a tree's entries.
@@ -26,7 +38,8 @@ pub struct Tree {
 
 impl Tree {
     ghost use Rattle.git_object.specs.Faults.{Refuses};
-    ghost use Rattle.git_object.specs.Trees.{AreWellFormed, HasFirstEntry, IsTreeFault, IsTreeText};
+    ghost use Rattle.git_object.specs.EntryParts.{AllPrecede};
+    ghost use Rattle.git_object.specs.Trees.{AreInOrder, AreWellFormed, HasFirstEntry, IsEntryName, IsTreeFault, IsTreeText};
 
     /// The tree of a body: entries of mode, space, name, zero byte and 32 bytes of an id, sorted by name, a
     /// directory's compared as if it ended in `/` (Git's tree object). A name is not empty, stands once, holds no
@@ -63,7 +76,34 @@ impl Tree {
         Ok(Tree { entries })
     }
 
-    /// The body of the tree, whose entries must be well named, sorted and of distinct names. An empty tree's takes no memory.
+    /// Whether an entry may stand after those of the tree, which are well formed: it is well named, and it comes
+    /// after the last in Git's order under a name of its own. It takes no memory.
+    pub fn may_take(&self, entry: &TreeEntry) -> bool
+        requires { AreWellFormed self.now.entries }
+        ensures { IsTrue result ↔ AreWellFormed (self.now.entries ++ entry.now ∷ []) }
+    {
+        if !is_entry_name(entry.name.as_slice()) {
+            return false;
+        }
+        self.comes_after(entry)
+    }
+
+    // Whether each entry of the tree may stand before this one.
+    fn comes_after(&self, entry: &TreeEntry) -> bool
+        requires ordered { AreInOrder self.now.entries }
+        requires named { IsEntryName entry.now.name }
+        ensures { IsTrue result ↔ AllPrecede self.now.entries entry.now }
+    {
+        let parts = EntryParts {
+            mode: entry.mode,
+            name: entry.name.as_slice(),
+            id: entry.id,
+        };
+        comes_next(self.entries.as_slice(), &parts)
+    }
+
+    /// The body of the tree, whose entries must be well formed: `may_take` tells it of each in turn. An empty
+    /// tree's takes no memory.
     pub fn write(&self, alloc: Global) -> Result<Octets, Memory>
         requires { AreWellFormed self.now.entries }
         ensures found { IfOk result (IsTreeText self.now) }
