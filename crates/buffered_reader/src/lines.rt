@@ -1,6 +1,6 @@
 //! A line of at most 399 bytes, which takes no memory.
 
-ghost use Rattle.std.specs.Prelude.{◌≡◌, ◌<◌, ◌++◌, ◌∷◌, [], length};
+ghost use Rattle.std.specs.Prelude.{◌≡◌, ◌<◌, ◌≤◌, ◌+◌, ◌==◌, ◌++◌, ◌∷◌, [], length};
 
 use std::marker::Model;
 
@@ -22,8 +22,8 @@ impl Model for Line {
 }
 
 impl Line {
-    /// The empty line.
-    pub(crate) fn new() -> Line
+    /// The empty line. It takes no memory.
+    pub fn new() -> Line
         ensures { result ≡ [] }
     {
         Line {
@@ -33,10 +33,17 @@ impl Line {
     }
 
     /// The number of bytes.
-    pub(crate) fn len(&self) -> usize
+    pub fn len(&self) -> usize
         ensures { result ≡ length self.now }
     {
         self.len
+    }
+
+    /// Whether there is no byte.
+    pub fn is_empty(&self) -> bool
+        ensures { result ≡ (length self.now == 0) }
+    {
+        self.len == 0
     }
 
     /// The bytes, lent.
@@ -48,11 +55,21 @@ impl Line {
     }
 
     /// Adds a byte at the end.
-    pub(crate) fn push(&mut self, byte: u8)
+    pub fn push(&mut self, byte: u8)
         requires { length self.old < 399 }
         ensures { self.new ≡ self.old ++ byte ∷ [] }
     {
         self.bytes[self.len] = byte;
         self.len += 1;
+    }
+
+    /// Adds bytes at the end.
+    pub fn append(&mut self, bytes: &[u8])
+        requires { length self.old + length bytes.now ≤ 399 }
+        ensures { self.new ≡ self.old ++ bytes.now }
+    {
+        'bytes: for byte in bytes {
+            self.push(*byte);
+        }
     }
 }

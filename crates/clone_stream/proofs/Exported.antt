@@ -38,7 +38,7 @@ header_refused content o n SinkFailed put =
           omega arith;
       told = λ r _. first_front r part.front part.rest part.whole;
     }
-header_refused content o n Memory put = record { front = []; gained = put ∙ no_end o; within = omega arith; told = λ r _. first_front r [] header refl }
+header_refused content o n Memory put = record { front = []; gained = put.same ∙ no_end o; within = omega arith; told = λ r _. first_front r [] header refl }
 
 -- ---- the objects
 
@@ -301,7 +301,7 @@ module _ (content : Option Repository) (o m n : Option (List ℕ)) (written : �
       }
   end_refused Memory put = record {
     front = wrote.text;
-    gained = put ∙ wrote.put.gained;
+    gained = put.same ∙ wrote.put.gained;
     within = let few = wrote.put.within in let long = wrote.put.long in omega arith;
     told = before_end;
   }

@@ -34,6 +34,11 @@ pub record IsPartPut (text : List ℕ) (written : ℕ) (before after : Option (L
   pub part : GainsPart before after text
   pub within : written + length text ≤ largest_stream
 
+-- nothing of a text that is within the limit went out
+pub record IsUnput (text : List ℕ) (written : ℕ) (before after : Option (List ℕ)) : Type 0 where
+  pub within : written + length text ≤ largest_stream
+  pub same : after ≡ before
+
 -- how a text was written after so many bytes
 abbrev pub Puts : List ℕ → ℕ → Option (List ℕ) → Option (List ℕ) → Result ℕ ExportFault → Type 0
 Puts text written before after (Ok now) = IsPut text written before after now
@@ -41,7 +46,7 @@ Puts text written before after (Err (Damaged id)) = ⊥
 Puts text written before after (Err (TooLarge limit)) = IsTooLong text written limit before after
 Puts text written before after (Err KeeperFailed) = ⊥
 Puts text written before after (Err SinkFailed) = IsPartPut text written before after
-Puts text written before after (Err Memory) = after ≡ before
+Puts text written before after (Err Memory) = IsUnput text written before after
 
 -- an entry that is no object of its id
 abbrev pub IsDamaged : List ℕ × Pair → Type 0

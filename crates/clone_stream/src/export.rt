@@ -98,7 +98,7 @@ fn write_ref<K: Sink, R: Keeper>(
         Ok(None) => return Ok(None),
         Err(fault) => return Err(fault),
     };
-    match put_ref(alloc, sink, &name, &id, written) {
+    match put_ref(sink, &name, &id, written) {
         Ok(now) => Ok(Some((name, now))),
         Err(fault) => Err(fault),
     }

@@ -4,6 +4,7 @@ ghost use Rattle.std.specs.Prelude.{◌≡◌, ◌≤◌, ◌+◌, ◌++◌, ◌
 ghost use Rattle.octets.specs.Content.{with_front};
 ghost use Rattle.buffered_reader.specs.Ahead.{ahead, past};
 ghost use Rattle.git_object.specs.Objects.{pair_id};
+ghost use Rattle.git_object.specs.Repository.{largest_body};
 ghost use Rattle.clone_stream.specs.Breaks.{BreaksBody, BreaksLine};
 ghost use Rattle.clone_stream.specs.Stopping.{ReadsOn};
 ghost use Rattle.clone_stream.specs.Words.{AreWords, words_line};
@@ -44,7 +45,7 @@ fn next_body<S: Source>(
     source: &mut S,
     head: &Head,
 ) -> Result<Octets, Break>
-    requires { head.now.size ≤ 16777216 }
+    requires { head.now.size ≤ largest_body }
     ensures len { IfOk result (λ body. length body ≡ head.now.size) }
     ensures ahead { IfOk result (λ body. ahead reader.old (S.left source.old) ≡ with_front (body ++ 10 ∷ []) (ahead reader.new (S.left source.new))) }
     ensures taken { OnOk result (reader.new.taken ≡ reader.old.taken + head.now.size + 1) }
@@ -78,7 +79,7 @@ pub fn next_object<S: Source>(
     source: &mut S,
     head: &Head,
 ) -> Result<Object, Break>
-    requires { head.now.size ≤ 16777216 }
+    requires { head.now.size ≤ largest_body }
     ensures own { IfOk result (λ object. pair_id object ≡ head.now.id) }
     ensures kind { IfOk result (λ object. object.kind ≡ head.now.kind) }
     ensures len { IfOk result (λ object. length object.body ≡ head.now.size) }
