@@ -12,7 +12,7 @@ use Rattle.keeper_api.specs.declared.changes.RefChange.{RefChange}
 use Rattle.clone_stream.specs.Breaks.{BreaksRecord, Last}
 use Rattle.clone_stream.specs.Changes.{set_ref}
 use Rattle.clone_stream.specs.Fronts.{AreRead, BreaksRecords, ReadSoFar, last_record, records_text}
-use Rattle.clone_stream.specs.Reading.{Comes, last_of}
+use Rattle.clone_stream.specs.Reading.{ComesAfter, last_of}
 use Rattle.clone_stream.specs.Records.{IsNextObject, IsNextRef, last_read}
 use Rattle.clone_stream.specs.Stopping.{StopsAt}
 use Rattle.clone_stream.specs.Streams.{IsOwn, IsRef, end_line, object_line, object_record, ref_line, ref_record}
@@ -79,7 +79,7 @@ module _ (objects : List Pair) (refs : List RefChange) (o m : Option (List ℕ))
   object_read x n now next e count =
       let entry : List ℕ × Pair = (pair_id x, x) in
       let text = grown_object so_far.entries entry so_far.names (no_names next.comes.no_refs) in
-      let comes : Comes (last_of (map (λ (d : List ℕ × Pair). d.0) so_far.entries)) (pair_id x) = subst (λ (l : Last). Comes l.id (pair_id x)) lasts next.comes.comes in
+      let comes : ComesAfter (last_of (map (λ (d : List ℕ × Pair). d.0) so_far.entries)) (pair_id x) = subst (λ (l : Last). ComesAfter l.id (pair_id x)) lasts next.comes.comes in
       let so = so_far.taken in
       record {
         entries = so_far.entries ++ entry ∷ [];
@@ -102,7 +102,7 @@ module _ (objects : List Pair) (refs : List RefChange) (o m : Option (List ℕ))
   ref_read name id n now next e count =
       let entry : List ℕ × List ℕ = (name, id) in
       let text = grown_ref so_far.entries so_far.names entry in
-      let comes : Comes (last_of (map (λ (d : List ℕ × List ℕ). d.0) so_far.names)) name = subst (λ (l : Last). Comes l.name name) lasts next.comes in
+      let comes : ComesAfter (last_of (map (λ (d : List ℕ × List ℕ). d.0) so_far.names)) name = subst (λ (l : Last). ComesAfter l.name name) lasts next.comes in
       let so = so_far.taken in
       record {
         entries = so_far.entries;

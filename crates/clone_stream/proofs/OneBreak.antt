@@ -6,7 +6,7 @@ use Rattle.git_object.specs.Objects.{object_id}
 use Rattle.git_object.specs.Repository.{largest_body}
 use Rattle.git_object.specs.declared.kinds.Kind.{Kind}
 use Rattle.clone_stream.specs.Breaks.{BreaksBody, BreaksLine, BreaksOrder, BreaksRecord, ComesObject, HasBadEnd, HasHead, Last}
-use Rattle.clone_stream.specs.Reading.{Comes}
+use Rattle.clone_stream.specs.Reading.{ComesAfter}
 use Rattle.clone_stream.specs.Streams.{IsRef, end_line, object_line, ref_line}
 use Rattle.clone_stream.specs.declared.stream_faults.Break.{Break}
 use Rattle.clone_stream.specs.declared.stream_faults.Break.TheVariants.{BadLine, IdDiffers, Order, TooLarge, Cut, Failed, Memory}
@@ -111,7 +111,7 @@ BreaksAs last at rest fault (says other more) = fault ≡ BadLine at
 BreaksAs last at rest fault (says huge more) = fault ≡ TooLarge largest_body
 BreaksAs last at rest fault (says (head id kind size) more) =
     ((fault ≡ Order at) × (ComesObject last id → ⊥)) ⊎ (ComesObject last id × BodyBreaks id kind size (at + (length (object_line id kind (decimal size)) + 1)) more fault)
-BreaksAs last at rest fault (says (ref name id) more) = (fault ≡ Order at) × (Comes last.name name → ⊥)
+BreaksAs last at rest fault (says (ref name id) more) = (fault ≡ Order at) × (ComesAfter last.name name → ⊥)
 BreaksAs last at rest fault (says end more) = ⊥
 
 pub record BreaksAt (last : Last) (at : ℕ) (rest : List ℕ) (fault : Break) : Type 0 where

@@ -13,7 +13,7 @@ use Rattle.git_object.proofs.NameLemmas.{name_has_no_space}
 use Rattle.git_object.proofs.Runs.{all_front, all_last, one_run}
 use Rattle.clone_stream.specs.Breaks.{ComesObject, Last}
 use Rattle.clone_stream.specs.Fronts.{AreRecords, last_record, records_text}
-use Rattle.clone_stream.specs.Reading.{Comes}
+use Rattle.clone_stream.specs.Reading.{ComesAfter}
 use Rattle.clone_stream.specs.Streams.{IsOwn, IsRef, end_line, object_line, object_record, ref_line, ref_record}
 use Rattle.clone_stream.proofs.Lasts.{sorted_next}
 use Rattle.clone_stream.proofs.Lines.{object_then, ref_then, same_object_line, same_ref_line}
@@ -65,7 +65,7 @@ AreRefs fs = AllByRecursion IsRef fs × (is_sorted by_bytes fs ≡ true)
 -- no record that may come after these stands in front
 pub record IsStop (last : Last) (rest : List ℕ) : Type 0 where
   pub no_object : (e : List ℕ × Pair) (more : List ℕ) → IsOwn e → ComesObject last e.0 → rest ≢ object_record e ++ more
-  pub no_ref : (f : List ℕ × List ℕ) (more : List ℕ) → IsRef f → Comes last.name f.0 → rest ≢ ref_record f ++ more
+  pub no_ref : (f : List ℕ × List ℕ) (more : List ℕ) → IsRef f → ComesAfter last.name f.0 → rest ≢ ref_record f ++ more
 
 -- the last line is no record
 pub end_stop : (last : Last) (more : List ℕ) → IsStop last (end_line ++ more)

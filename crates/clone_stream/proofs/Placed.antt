@@ -5,7 +5,7 @@ use Rattle.octets.specs.Content.{with_front}
 use Rattle.buffered_reader.specs.Ahead.{Reading}
 use Rattle.edge_io.proofs.Taken.{with_fronts}
 use Rattle.clone_stream.specs.Breaks.{BreaksOrder, BreaksRecord, Last}
-use Rattle.clone_stream.specs.Reading.{Comes}
+use Rattle.clone_stream.specs.Reading.{ComesAfter}
 use Rattle.clone_stream.specs.Records.{IsBroken, IsLate}
 use Rattle.clone_stream.specs.Stopping.{StopsAt}
 use Rattle.clone_stream.specs.Streams.{IsRef, object_line, ref_line}
@@ -36,7 +36,7 @@ object_breaks (Err fault) last o mid at mid_at head is e place bad =
 
 -- a reference that does not come after the last
 pub ref_breaks : {T : Type 0} (r : Result T Break) (last : Last) (o mid : Option (List ℕ)) (at : ℕ) (name id : List ℕ) → IsRef (name, id) → o ≡ with_front (ref_line name id ++ 10 ∷ []) mid
-    → IfErr r (λ fault. (fault ≡ Order at) × (Comes last.name name → ⊥))
+    → IfErr r (λ fault. (fault ≡ Order at) × (ComesAfter last.name name → ⊥))
     → IfErr r (λ fault. IfSome o (λ rest. BreaksRecord last at rest fault))
 ref_breaks (Ok x) last o mid at name id is e bad = tt
 ref_breaks (Err fault) last o mid at name id is e bad =

@@ -8,7 +8,7 @@ use Rattle.git_object.proofs.Runs.{all_push}
 use Rattle.keeper_api.specs.Changes.{changed}
 use Rattle.clone_stream.specs.Breaks.{ComesObject}
 use Rattle.clone_stream.specs.Fronts.{AreRecords, BreaksAfterEnd, BreaksRecords, FirstBreak, change_of, last_record, records_text}
-use Rattle.clone_stream.specs.Reading.{Comes}
+use Rattle.clone_stream.specs.Reading.{ComesAfter}
 use Rattle.clone_stream.specs.Streams.{IsOwn, IsRef, IsStreamText, end_line, header, object_line, object_record, ref_line, ref_record}
 use Rattle.clone_stream.specs.declared.stream_faults.Break.{Break}
 use Rattle.clone_stream.specs.declared.stream_faults.Break.TheVariants.{BadLine, Cut}
@@ -25,7 +25,7 @@ use Rattle.clone_stream.proofs.Wholes.{stream_built}
 push_object : (es : List (List ℕ × Pair)) (fs : List (List ℕ × List ℕ)) (e : List ℕ × Pair) → AreRecords es fs → IsOwn e → ComesObject (last_record es fs) e.0 → AreRecords (es ++ e ∷ []) fs
 push_object es fs e are own comes = record { own = all_push IsOwn es e are.own own; ids_rise = sorted_push es e.0 e.1 are.ids_rise comes.comes; are_refs = are.are_refs; names_rise = are.names_rise }
 
-push_ref : (es : List (List ℕ × Pair)) (fs : List (List ℕ × List ℕ)) (f : List ℕ × List ℕ) → AreRecords es fs → IsRef f → Comes (last_record es fs).name f.0 → AreRecords es (fs ++ f ∷ [])
+push_ref : (es : List (List ℕ × Pair)) (fs : List (List ℕ × List ℕ)) (f : List ℕ × List ℕ) → AreRecords es fs → IsRef f → ComesAfter (last_record es fs).name f.0 → AreRecords es (fs ++ f ∷ [])
 push_ref es fs f are is comes = record { own = are.own; ids_rise = are.ids_rise; are_refs = all_push IsRef fs f are.are_refs is; names_rise = sorted_push fs f.0 f.1 are.names_rise comes }
 
 -- ---- after the header

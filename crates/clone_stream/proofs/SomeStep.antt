@@ -12,7 +12,7 @@ use Rattle.git_object.specs.Objects.{Pair, object_id}
 use Rattle.git_object.specs.Repository.{largest_body}
 use Rattle.git_object.specs.declared.kinds.Kind.{Kind}
 use Rattle.clone_stream.specs.Breaks.{BreaksRecord, ComesObject, HasHead, Last}
-use Rattle.clone_stream.specs.Reading.{Comes}
+use Rattle.clone_stream.specs.Reading.{ComesAfter}
 use Rattle.clone_stream.specs.Streams.{IsOwn, IsRef, end_line, object_line, object_record, ref_line, ref_record}
 use Rattle.clone_stream.specs.declared.stream_faults.Break.{Break}
 use Rattle.clone_stream.specs.declared.stream_faults.Break.TheVariants.{BadLine, IdDiffers, Order, TooLarge, Cut}
@@ -73,7 +73,7 @@ some_body size rest = elim (cases_lt size (length rest)) [
 
 -- ---- the order of records
 
-comes_after : (last : Option (List ℕ)) (key : List ℕ) → Decided (Comes last key)
+comes_after : (last : Option (List ℕ)) (key : List ℕ) → Decided (ComesAfter last key)
 comes_after None key = inl tt
 comes_after (Some last) key = is_true (is_lt (by_bytes last key))
 
@@ -83,8 +83,8 @@ is_none (Some x) = inr (λ e. cc e)
 
 object_comes : (last : Last) (id : List ℕ) → Decided (ComesObject last id)
 object_comes last id =
-    same_fact ((last.name ≡ None) × Comes last.id id) (ComesObject last id) (λ p. record { no_refs = p.0; comes = p.1 }) (λ c. (c.no_refs, c.comes))
-    (both (last.name ≡ None) (Comes last.id id) (is_none last.name) (comes_after last.id id))
+    same_fact ((last.name ≡ None) × ComesAfter last.id id) (ComesObject last id) (λ p. record { no_refs = p.0; comes = p.1 }) (λ c. (c.no_refs, c.comes))
+    (both (last.name ≡ None) (ComesAfter last.id id) (is_none last.name) (comes_after last.id id))
 
 -- ---- at each place
 
@@ -92,7 +92,7 @@ pub data Step (last : Last) (at : ℕ) (rest : List ℕ) : Type 0 where
   fails : (fault : Break) → IsOfText fault → BreaksRecord last at rest fault → Step last at rest
   ends : (more : List ℕ) → rest ≡ end_line ++ more → Step last at rest
   object : (e : List ℕ × Pair) (more : List ℕ) → IsOwn e → ComesObject last e.0 → rest ≡ object_record e ++ more → Step last at rest
-  reference : (f : List ℕ × List ℕ) (more : List ℕ) → IsRef f → Comes last.name f.0 → rest ≡ ref_record f ++ more → Step last at rest
+  reference : (f : List ℕ × List ℕ) (more : List ℕ) → IsRef f → ComesAfter last.name f.0 → rest ≡ ref_record f ++ more → Step last at rest
 
 module _ (last : Last) (at : ℕ) (rest : List ℕ) where
   -- an object's line that may come stands in front

@@ -13,7 +13,7 @@ use Rattle.keeper_api.specs.declared.keeper_faults.KeeperFault.{KeeperFault}
 use Rattle.keeper_api.specs.declared.keeper_faults.KeeperFault.TheVariants as keeper_fault
 use Rattle.clone_stream.specs.Faults.{from_keeper, stream_keeper_failed}
 use Rattle.clone_stream.specs.Streams.{IsStreamText}
-use Rattle.clone_stream.specs.Taking.{IsChangeRead, IsOfSource, LeavesRefused, MayTake, Spells, Takes, TakesInto}
+use Rattle.clone_stream.specs.Taking.{IsChangeRead, IsOfSource, LeavesRefused, MayTake, Spells, TakesStream, TakesInto}
 use Rattle.clone_stream.specs.declared.stream_faults.StreamFault.{StreamFault}
 use Rattle.clone_stream.specs.declared.stream_faults.StreamFault.TheVariants.{BadLine, IdDiffers, Order, TooLarge, Truncated, SourceFailed, KeeperFailed, NotEmpty, Memory}
 

@@ -6,7 +6,7 @@ use Rattle.git_object.specs.Objects.{object_id}
 use Rattle.git_object.specs.Repository.{largest_body}
 use Rattle.git_object.specs.declared.kinds.Kind.{Kind}
 use Rattle.clone_stream.specs.Grammar.{BreaksGrammar}
-use Rattle.clone_stream.specs.Reading.{Comes}
+use Rattle.clone_stream.specs.Reading.{ComesAfter}
 use Rattle.clone_stream.specs.Streams.{IsRef, object_line, ref_line}
 use Rattle.clone_stream.specs.declared.stream_faults.Break.{Break}
 use Rattle.clone_stream.specs.declared.stream_faults.Break.TheVariants.{BadLine, IdDiffers, Order, TooLarge, Cut, Failed, Memory}
@@ -85,7 +85,7 @@ pub record Last : Type 0 where
 -- an object may come after these: no reference came, and its id is greater than the last
 pub record ComesObject (last : Last) (id : List ℕ) : Type 0 where
   pub no_refs : last.name ≡ None
-  pub comes : Comes last.id id
+  pub comes : ComesAfter last.id id
 
 -- the line of an object with a size within the limit stands in front
 pub record HasHead (rest id : List ℕ) (kind : Kind) (size : ℕ) (more : List ℕ) : Type 0 where
@@ -109,7 +109,7 @@ pub record HasLateRef (last : Last) (rest : List ℕ) : Type 0 where
   pub more : List ℕ
   pub whole : rest ≡ ref_line name id ++ 10 ∷ more
   pub is_ref : IsRef (name, id)
-  pub late : Comes last.name name → ⊥
+  pub late : ComesAfter last.name name → ⊥
 
 -- what breaks in the order of a record
 abbrev pub BreaksOrder : Last → ℕ → List ℕ → Break → Type 0

@@ -1,17 +1,21 @@
-pub mod Breaks
-pub mod Changes
-pub mod Deciding
-pub mod ExportLaws
-pub mod Exporting
-pub mod Exports
-pub mod Faults
-pub mod Fronts
-pub mod Grammar
-pub mod Laws
-pub mod Parts
-pub mod Reading
-pub mod Records
-pub mod Stopping
+-- What is published, in the order in which it is read: the text of a stream, what a source gives and what a keeper then
+-- holds, how an input is refused, what is written, and the laws.
 pub mod Streams
+pub mod Faults
+pub mod Changes
 pub mod Taking
+pub mod Deciding
+pub mod Exporting
+pub mod Laws
+pub mod ExportLaws
+-- What the refusals stand on: what a line says, what breaks a record, and the longest front of a text.
 pub mod Words
+pub mod Grammar
+pub mod Breaks
+pub mod Reading
+pub mod Fronts
+-- States between calls that are not published: reading on, a record that was read, the parts of a stream, writing on.
+pub mod Stopping
+pub mod Records
+pub mod Parts
+pub mod Exports

@@ -13,9 +13,9 @@ last_of (x ∷ []) = Some x
 last_of (x ∷ y ∷ ys) = last_of (y ∷ ys)
 
 -- the key is greater than the last one
-abbrev pub Comes : Option (List ℕ) → List ℕ → Type 0
-Comes None key = ⊤
-Comes (Some last) key = is_lt (by_bytes last key) ≡ true
+abbrev pub ComesAfter : Option (List ℕ) → List ℕ → Type 0
+ComesAfter None key = ⊤
+ComesAfter (Some last) key = is_lt (by_bytes last key) ≡ true
 
 -- the text begins with the records of these entries, by rising keys, and goes on with the rest
 pub record IsFront {X : Type 0} (record_of : List ℕ × X → List ℕ) (Is : List ℕ × X → Type 0) (es : List (List ℕ × X)) (text rest : List ℕ) : Type 0 where

@@ -5,7 +5,7 @@ use Rattle.git_object.specs.Objects.{Pair, pair_id}
 use Rattle.git_object.specs.declared.kinds.Kind.{Kind}
 use Rattle.keeper_api.specs.declared.changes.RefChange.{RefChange}
 use Rattle.clone_stream.specs.Breaks.{BreaksBody, ComesObject, Last}
-use Rattle.clone_stream.specs.Reading.{Comes, last_of}
+use Rattle.clone_stream.specs.Reading.{ComesAfter, last_of}
 use Rattle.clone_stream.specs.Streams.{IsOwn, IsRef, end_line, object_record, ref_record}
 use Rattle.clone_stream.specs.declared.records.Record.{Record}
 use Rattle.clone_stream.specs.declared.records.Record.TheVariants as record_
@@ -30,7 +30,7 @@ pub record IsNextObject (last : Last) (object : Pair) : Type 0 where
 -- a reference that may come
 pub record IsNextRef (last : Last) (name id : List ℕ) : Type 0 where
   pub is : IsRef (name, id)
-  pub comes : Comes last.name name
+  pub comes : ComesAfter last.name name
 
 -- the record may come after these
 abbrev pub IsNext : Last → Record → Type 0

@@ -35,7 +35,7 @@ pub record Spells (left left_now : Option (List ℕ)) (before : Option Repositor
 
 -- the source was read to its end, its bytes are this repository's stream, and what the keeper then tells is this one; it
 -- was empty before
-pub record Takes (left left_now : Option (List ℕ)) (before after : Option Repository) : Type 0 where
+pub record TakesStream (left left_now : Option (List ℕ)) (before after : Option Repository) : Type 0 where
   pub bytes : List ℕ
   pub repository : Repository
   pub was_read : WasRead left left_now bytes
@@ -44,7 +44,7 @@ pub record Takes (left left_now : Option (List ℕ)) (before after : Option Repo
 
 -- the same, and where the keeper tells it, a stop leaves the repository alone
 pub record TakesInto {S : Type 0} (keeper : Ghosts S) (left left_now : Option (List ℕ)) (old new : S) : Type 0 where
-  pub takes : Takes left left_now (keeper.content old) (keeper.content new)
+  pub takes : TakesStream left left_now (keeper.content old) (keeper.content new)
   pub tells : keeper.tells_left new ≡ true → keeper.tells_left old ≡ true
   pub stop : keeper.tells_left new ≡ true → (now : Repository) → keeper.content new ≡ Some now → (r : Repository) → keeper.left new r ↔ (r ≡ takes.repository)
 

@@ -10,7 +10,7 @@ ghost use Rattle.keeper_api.specs.declared.changes.RefChange.{RefChange};
 ghost use Rattle.clone_stream.specs.Changes.{set_ref};
 ghost use Rattle.clone_stream.specs.Fronts.{AreRead, BreaksRecords};
 ghost use Rattle.clone_stream.specs.Breaks.{BreaksRecord, ComesObject};
-ghost use Rattle.clone_stream.specs.Reading.{Comes, last_of};
+ghost use Rattle.clone_stream.specs.Reading.{ComesAfter, last_of};
 ghost use Rattle.clone_stream.specs.Records.{IsBroken, IsLate, IsNext, IsObjectOf, last_read, record_text};
 ghost use Rattle.clone_stream.specs.Stopping.{ReadsOn};
 ghost use Rattle.clone_stream.specs.Streams.{IsRef, object_record};
@@ -49,7 +49,7 @@ fn is_less_name(left: &RefName, right: &RefName) -> bool
 
 // Whether an id is greater than that of the last object.
 fn follows_object(objects: &[Object], id: &ObjectId) -> bool
-    ensures { IsTrue result ↔ Comes (last_of (map pair_id objects.now)) id.now }
+    ensures { IsTrue result ↔ ComesAfter (last_of (map pair_id objects.now)) id.now }
 {
     match objects.last() {
         Some(last) => is_less_id(&last.id(), id),
@@ -59,7 +59,7 @@ fn follows_object(objects: &[Object], id: &ObjectId) -> bool
 
 // Whether a name is greater than that of the last reference.
 fn follows_ref(refs: &[RefChange], name: &RefName) -> bool
-    ensures { IsTrue result ↔ Comes (last_of (map (λ (c : RefChange). c.name) refs.now)) name.now }
+    ensures { IsTrue result ↔ ComesAfter (last_of (map (λ (c : RefChange). c.name) refs.now)) name.now }
 {
     match refs.last() {
         Some(last) => is_less_name(&last.name, name),
@@ -106,8 +106,8 @@ fn object_after<S: Source>(
 // The reference of a line that begins at a place, where it may come after those before it.
 fn ref_after(at: u64, value: RefValue, refs: &[RefChange]) -> Result<Record, Break>
     ensures found { IfOk result (λ found. found ≡ Record.Ref value) }
-    ensures comes { IfOk result (λ _. Comes (last_of (map (λ (c : RefChange). c.name) refs.now)) value.name) }
-    ensures bad { IfErr result (λ fault. (fault ≡ Break.Order at) × (Comes (last_of (map (λ (c : RefChange). c.name) refs.now)) value.name → ⊥)) }
+    ensures comes { IfOk result (λ _. ComesAfter (last_of (map (λ (c : RefChange). c.name) refs.now)) value.name) }
+    ensures bad { IfErr result (λ fault. (fault ≡ Break.Order at) × (ComesAfter (last_of (map (λ (c : RefChange). c.name) refs.now)) value.name → ⊥)) }
 {
     if !follows_ref(refs, &value.name) {
         return Err(Break::Order { at });

@@ -24,7 +24,7 @@ pub record IsTaken (was : Repository) (bytes : List ℕ) (r : Repository) : Type
   pub text : IsStreamText r bytes
 
 -- nothing is held, and this decides how the bytes are refused
-pub record IsBroken (was : Repository) (bytes : List ℕ) (number : ℕ) : Type 0 where
+pub record IsRefusedStream (was : Repository) (bytes : List ℕ) (number : ℕ) : Type 0 where
   pub empty : was ≡ empty_repository
   pub fault : StreamFault
   pub number_is : number ≡ fault_number fault
@@ -32,7 +32,7 @@ pub record IsBroken (was : Repository) (bytes : List ℕ) (number : ℕ) : Type 
 
 -- no stream is taken, for the refusal of this number
 abbrev pub IsNotTaken : Repository → List ℕ → ℕ → Type 0
-IsNotTaken was bytes number = ((number ≡ 8) × (was ≢ empty_repository)) ⊎ IsBroken was bytes number
+IsNotTaken was bytes number = ((number ≡ 8) × (was ≢ empty_repository)) ⊎ IsRefusedStream was bytes number
 
 -- what taking a stream is refused for
 abbrev pub TakeComes : Repository → List ℕ → TakeFault → Type 0

@@ -1,4 +1,4 @@
--- Steps of inserts: one more at the end, and the last one taken back.
+-- Inserts of inserts: one more at the end, and the last one taken back.
 use Rattle.std.proofs.Common.{◌≡◌, Bool, true, false, cond, List, [], ◌∷◌, ◌++◌, Option, Some, IsSome, is_some, refl, sym, ap, subst, ◌∙◌}
 use Rattle.std.specs.BTreeMap as tree
 use Rattle.std.specs.BTreeMap.{BTreeMap}
@@ -8,7 +8,7 @@ use Rattle.std.specs.Ordering.{eq_by_cmp, is_eq}
 use Rattle.std.specs.declared.cmp.Ordering.{Ordering}
 use Rattle.std.specs.declared.cmp.Ordering.TheVariants.{Less, Equal, Greater}
 use Rattle.keeper_api.specs.Trees.{tree_map, with_entries}
-use Rattle.keeper_api.specs.Undoing.{Steps}
+use Rattle.keeper_api.specs.Undoing.{Inserts}
 use Rattle.keeper_api.proofs.Trees.{get_tree, get_tree_put}
 
 equal : (r : Ordering) → is_eq r ≡ true → r ≡ Equal
@@ -17,12 +17,12 @@ equal Equal p = refl
 equal Greater p = cc
 
 module _ {K X : Type 0} {R : K → K → Ordering} where
-  pub steps_push : (first last : FinMap R X) (steps : List (K × Option X)) (k : K) (v : X) → Steps first steps last → Steps first (steps ++ (k, get last k) ∷ []) (insert last k v)
+  pub steps_push : (first last : FinMap R X) (steps : List (K × Option X)) (k : K) (v : X) → Inserts first steps last → Inserts first (steps ++ (k, get last k) ∷ []) (insert last k v)
   steps_push first last [] k v h = (v, ap (λ m. get m k) h, ap (λ m. insert m k v) h)
   steps_push first last (s ∷ steps) k v h = (h.0, h.1, steps_push (insert first s.0 h.0) last steps k v h.2)
 
   -- the map before the last step, and what the step put
-  pub steps_pop : (first last : FinMap R X) (steps : List (K × Option X)) (step : K × Option X) → Steps first (steps ++ step ∷ []) last → (prior : FinMap R X) × (v : X) × Steps first steps prior × (step.1 ≡ get prior step.0) × (last ≡ insert prior step.0 v)
+  pub steps_pop : (first last : FinMap R X) (steps : List (K × Option X)) (step : K × Option X) → Inserts first (steps ++ step ∷ []) last → (prior : FinMap R X) × (v : X) × Inserts first steps prior × (step.1 ≡ get prior step.0) × (last ≡ insert prior step.0 v)
   steps_pop first last [] step h = (first, h.0, refl, h.1, h.2)
   steps_pop first last (s ∷ steps) step h =
       let x = steps_pop (insert first s.0 h.0) last steps step h.2 in
@@ -53,13 +53,13 @@ module _ {K X : Type 0} {R : K → K → Ordering} where
           ∙ back prior k q v had (eq_by_cmp R q k) e refl)
 
       -- the last step of a tree, taken back
-      pub steps_back : (first : FinMap R X) (t u : BTreeMap K X) (steps : List (K × Option X)) (step : K × Option X) → Steps first (steps ++ step ∷ []) (tree_map R t)
-          → ((IsSome step.1 → IsSome (tree.get R t step.0)) → (q : K) → tree.get R u q ≡ cond (eq_by_cmp R step.0 q) step.1 (tree.get R t q)) → Steps first steps (tree_map R u)
+      pub steps_back : (first : FinMap R X) (t u : BTreeMap K X) (steps : List (K × Option X)) (step : K × Option X) → Inserts first (steps ++ step ∷ []) (tree_map R t)
+          → ((IsSome step.1 → IsSome (tree.get R t step.0)) → (q : K) → tree.get R u q ≡ cond (eq_by_cmp R step.0 q) step.1 (tree.get R t q)) → Inserts first steps (tree_map R u)
       steps_back first t u steps step h put =
           let x = steps_pop first (tree_map R t) steps step h in
           let there : IsSome (tree.get R t step.0) = subst (λ (y : Option X). IsSome y) (get_tree o t step.0) (is_there (tree_map R t) x.0 step.0 x.1 x.4) in
           let same : tree_map R u ≡ x.0 = taken_back (tree_map R t) (tree_map R u) x.0 step.0 x.1 step.1 x.4 x.3 (get_tree_put o t u step.0 step.1 (put (λ _. there))) in
-          subst (λ (m : FinMap R X). Steps first steps m) (sym same) x.2
+          subst (λ (m : FinMap R X). Inserts first steps m) (sym same) x.2
 
       -- one insert into a tree, taken back at once
       pub insert_back : (t u w : BTreeMap K X) (k : K) (v : X) (had : Option X) (put : K × Option X) → had ≡ tree.get R t k → put ≡ (k, had) → tree_map R u ≡ insert (tree_map R t) k v

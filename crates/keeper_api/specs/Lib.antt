@@ -1,8 +1,12 @@
+-- What every keeper promises: what a change makes of a repository, the fault that is counted, what each call does to
+-- what is held and to what a stop may leave.
 pub mod Changes
 pub mod Faults
 pub mod Keepers
-pub mod RefPlans
-pub mod Stores
-pub mod Trees
 pub mod Undisturbed
+-- The store in memory.
+pub mod Stores
+-- States between its private calls: trees as maps, a list of changes as a plan, inserts that can be taken back.
+pub mod Trees
+pub mod RefPlans
 pub mod Undoing

@@ -6,7 +6,7 @@ ghost use Rattle.std.specs.BTreeSet as set;
 ghost use Rattle.std.specs.FinMap.{FinMap, IsAntisymmetric, get, insert};
 ghost use Rattle.std.specs.Ordering.{eq_by_cmp};
 ghost use Rattle.keeper_api.specs.Trees.{tree_map, with_entries};
-ghost use Rattle.keeper_api.specs.Undoing.{Steps};
+ghost use Rattle.keeper_api.specs.Undoing.{Inserts};
 
 use octets::{Copied, Memory};
 use std::alloc::Global;
@@ -58,7 +58,7 @@ fn insert_one<K: Ord + Copied, V: Drop>(
 /// Takes inserts back, the last first. It takes no memory.
 pub fn restore<K: Ord + Drop, V: Drop>(map: &mut BTreeMap<K, V>, undo: Undo<K, V>)
     requires { IsAntisymmetric K.cmp }
-    ensures { (first : FinMap K.cmp V) → Steps first undo.items (tree_map K.cmp map.old) → tree_map K.cmp map.new ≡ first }
+    ensures { (first : FinMap K.cmp V) → Inserts first undo.items (tree_map K.cmp map.old) → tree_map K.cmp map.new ≡ first }
 {
     let mut undo = undo;
     'steps: while let Some((key, had)) = undo.pop() {
@@ -74,7 +74,7 @@ pub fn insert_all<K: Ord + Copied, V: Drop>(
 ) -> Result<Undo<K, V>, Memory>
     requires { IsAntisymmetric K.cmp }
     ensures ok { OnOk result (tree_map K.cmp map.new ≡ with_entries entries.items (tree_map K.cmp map.old)) }
-    ensures undo { IfOk result (λ undo. Steps (tree_map K.cmp map.old) undo.items (tree_map K.cmp map.new)) }
+    ensures undo { IfOk result (λ undo. Inserts (tree_map K.cmp map.old) undo.items (tree_map K.cmp map.new)) }
     ensures err { OnErr result (tree_map K.cmp map.new ≡ tree_map K.cmp map.old) }
 {
     let mut undo = Vec::new(alloc);
