@@ -1,8 +1,11 @@
 //! Laws over the definitions of this crate.
 
+ghost use Rattle.std.specs.Prelude.{◌≡◌, ◌^◌};
 ghost use Rattle.clone_stream.specs.ExportLaws.{OneExport};
 ghost use Rattle.clone_stream.specs.Laws.{OneRefusal};
-ghost use Rattle.clone_stream.specs.Streams.{OneSpelling};
+ghost use Rattle.clone_stream.specs.Streams.{OneSpelling, largest_stream};
+
+use crate::LARGEST_STREAM;
 
 /// Equal texts have equal repositories, and no stream text is a proper prefix of another.
 pub fn one_spelling()
@@ -18,4 +21,10 @@ pub fn one_export()
 /// An input is a stream within the limit or is refused: never both, and in one way alone.
 pub fn one_refusal()
     ensures { OneRefusal }
+{}
+
+/// The limit of a stream that the code names is the one that the definitions name: 1 GiB.
+pub fn limit()
+    ensures code { LARGEST_STREAM ≡ 2 ^ 30 }
+    ensures definition { largest_stream ≡ 2 ^ 30 }
 {}

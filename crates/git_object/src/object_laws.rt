@@ -1,6 +1,6 @@
 //! Laws over the formats of objects and their limit.
 
-ghost use Rattle.std.specs.Prelude.{◌≡◌};
+ghost use Rattle.std.specs.Prelude.{◌≡◌, ◌^◌};
 ghost use Rattle.git_object.specs.Grammars.{IsGrammar};
 ghost use Rattle.git_object.specs.Commits.{IsCommitFault, IsCommitText};
 ghost use Rattle.git_object.specs.Tags.{IsTagFault, IsTagText};
@@ -32,7 +32,8 @@ pub fn names()
     ensures { NamesAloud }
 {}
 
-/// The limit of a body that the code names is the one that the definitions name.
+/// The limit of a body that the code names is the one that the definitions name: 16 MiB.
 pub fn limit()
-    ensures { LARGEST_BODY ≡ largest_body }
+    ensures code { LARGEST_BODY ≡ 2 ^ 24 }
+    ensures definition { largest_body ≡ 2 ^ 24 }
 {}

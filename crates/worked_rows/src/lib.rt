@@ -8,6 +8,8 @@
 #![tactic(auto)]
 
 #[cfg(test)]
+mod endings_listed;
+#[cfg(test)]
 mod kept;
 pub mod proved_rows;
 #[cfg(test)]

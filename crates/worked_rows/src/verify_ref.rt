@@ -83,6 +83,8 @@ fn a_refused_stream_leaves_the_keeper(rt: HostRuntime) -> Result<(), Fail> {
         (streams::blob_under_a_wrong_id(), b"stream 2\n"),
         (streams::objects_out_of_order(), b"stream 3\n"),
         (streams::blob_past_the_limit(), b"stream 4\n"),
+        (streams::head_past_the_limit(), b"stream 4\n"),
+        (streams::head_at_the_limit(), b"stream 5\n"),
     ] {
         expect_of(&rt, alloc, stream, refused(3, said), false)?;
     }
