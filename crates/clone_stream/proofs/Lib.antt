@@ -1,6 +1,5 @@
 pub mod Broken
 pub mod Built
-pub mod Decisions
 pub mod Entries
 pub mod Exported
 pub mod Growing

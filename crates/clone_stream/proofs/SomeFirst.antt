@@ -12,7 +12,7 @@ use Rattle.clone_stream.specs.Reading.{ComesAfter}
 use Rattle.clone_stream.specs.Streams.{IsOwn, IsRef, IsStreamText, end_line, header, object_line, object_record, ref_line, ref_record}
 use Rattle.clone_stream.specs.declared.stream_faults.Break.{Break}
 use Rattle.clone_stream.specs.declared.stream_faults.Break.TheVariants.{BadLine, Cut}
-use Rattle.clone_stream.proofs.Decisions.{is_text}
+use Rattle.git_object.proofs.Decisions.{is_text}
 use Rattle.clone_stream.proofs.Growing.{grown_object, grown_ref}
 use Rattle.clone_stream.proofs.Lasts.{none_last, sorted_push}
 use Rattle.clone_stream.proofs.OneBreak.{IsOfText}

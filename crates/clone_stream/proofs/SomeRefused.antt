@@ -10,7 +10,7 @@ use Rattle.clone_stream.specs.declared.stream_faults.Break.{Break}
 use Rattle.clone_stream.specs.declared.stream_faults.Break.TheVariants as break_
 use Rattle.clone_stream.specs.declared.stream_faults.StreamFault.{StreamFault}
 use Rattle.clone_stream.specs.declared.stream_faults.StreamFault.TheVariants.{BadLine, IdDiffers, Order, TooLarge, Truncated}
-use Rattle.clone_stream.proofs.Decisions.{is_empty}
+use Rattle.git_object.proofs.Decisions.{is_empty}
 use Rattle.clone_stream.proofs.Limits.{cut_place}
 use Rattle.clone_stream.proofs.OneBreak.{IsOfText}
 use Rattle.clone_stream.proofs.SomeFirst.{some_first}

@@ -21,7 +21,7 @@ use Rattle.git_object.proofs.LineLemmas.{same_id}
 use Rattle.git_object.proofs.NameLemmas.{name_has_no_space}
 use Rattle.clone_stream.specs.Streams.{IsRef, object_line}
 use Rattle.clone_stream.specs.Words.{IsObjectLine, IsRefLine}
-use Rattle.clone_stream.proofs.Decisions.{Decided, begins, both, first_byte, id_front, is_false, is_id_text, is_number, is_text, is_true, is_within, same_fact}
+use Rattle.git_object.proofs.Decisions.{Decided, begins, both, first_byte, id_front, is_false, is_id_text, is_number, is_text, is_true, is_within, same_fact}
 use Rattle.clone_stream.proofs.Lines.{kind_has_no_space, object_parts, ref_parts, same_after_space}
 use Rattle.clone_stream.proofs.OneFront.{IsSaying, Saying, end, head, huge, other, ref}
 use Rattle.clone_stream.proofs.RecordLines.{size_fits}

@@ -16,7 +16,7 @@ use Rattle.clone_stream.specs.Reading.{ComesAfter}
 use Rattle.clone_stream.specs.Streams.{IsOwn, IsRef, end_line, object_line, object_record, ref_line, ref_record}
 use Rattle.clone_stream.specs.declared.stream_faults.Break.{Break}
 use Rattle.clone_stream.specs.declared.stream_faults.Break.TheVariants.{BadLine, IdDiffers, Order, TooLarge, Cut}
-use Rattle.clone_stream.proofs.Decisions.{Decided, both, first_byte, is_text, is_true, same_fact}
+use Rattle.git_object.proofs.Decisions.{Decided, both, first_byte, is_text, is_true, same_fact}
 use Rattle.clone_stream.proofs.Lines.{object_then, ref_then}
 use Rattle.clone_stream.proofs.OneBreak.{Body, IsBody, IsOfText, bad, short, whole}
 use Rattle.clone_stream.proofs.OneFront.{IsPlace, IsSaying, Place, Saying, cut, end, head, huge, line, long, other, ref}

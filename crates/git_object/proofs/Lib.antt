@@ -1,4 +1,5 @@
 pub mod CommitLemmas
+pub mod Decisions
 pub mod IdLemmas
 pub mod KeyLemmas
 pub mod LineLemmas
@@ -7,4 +8,5 @@ pub mod NamesAloud
 pub mod PairLemmas
 pub mod Runs
 pub mod TagLemmas
+pub mod Totality
 pub mod TreeLemmas
