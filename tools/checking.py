@@ -11,6 +11,8 @@ STREAM_TO_GIT = os.path.join(TOP, "tools", "stream-to-git")
 EMPTY_STREAM = os.path.join(TOP, "examples", "empty.stream")
 EMPTY_TREE = b"object 6ef19b41225c5369f1c104d45d8d85efa9b057b53b14b4b9b939dd74decc5321 tree 0\n\n"
 ZEROS = "0" * 64
+VERIFY = ("-", "-", "verify-ref", "refs/heads/main", "--stdin")
+ACCEPTED = b"accepted refs/heads/main 0 entries\n"
 # The first call may build the program, and no other takes long.
 SECONDS = 120
 
