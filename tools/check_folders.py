@@ -5,7 +5,8 @@ import os
 import shutil
 
 from check_repositories import COMMITS, LONGEST_NAME, NAME_BYTES, UNUSUAL_NAME
-from checking import EMPTY_TREE, LAUNCHER, STREAM_TO_GIT, ZEROS, Failure, want, want_refusal, want_run
+from checking import ACCEPTED, EMPTY_TREE, LAUNCHER, STREAM_TO_GIT, VERIFY, ZEROS
+from checking import Failure, want, want_refusal, want_run
 
 HEADER, END = b"gittuf-stream 1\n", b"end\n"
 IMPORTED = b"imported\n"
@@ -154,7 +155,7 @@ def imports_once(repositories):
 
 
 def refuses_streams(repositories):
-    """a refused stream leaves no object and no reference in a new folder"""
+    """a refused stream leaves a folder that was there as it was, and no other"""
     stream = repositories.large_stream()
     _, objects = small_store(repositories, "three objects")
     first, text = objects[0]
@@ -172,13 +173,16 @@ def refuses_streams(repositories):
         (b"stream 5\n", b""),
     ]
     for number, (line, it) in enumerate(refusals):
-        place = repositories.path(f"refused {number}")
+        above = repositories.path(f"refused {number}")
+        place = os.path.join(above, "a", "store")
         want_run(command(place, "import"), 3, b"", line, input=it)
-        left = [path for path, text in files_below(place).items() if text is not None]
-        want(left, [], f"the files in the folder of {line.decode().strip()}")
-        # The folder takes a whole stream afterwards.
-        want_run(command(place, "import"), 0, IMPORTED, input=whole)
-        want_run(command(place, "export"), 0, whole)
+        want(os.path.lexists(above), False, f"whether a folder is there after {line.decode().strip()}")
+        # A folder that was there stays, and takes a whole stream afterwards.
+        os.mkdir(above)
+        want_run(command(above, "import"), 3, b"", line, input=it)
+        want(os.listdir(above), [], f"what is in the folder after {line.decode().strip()}")
+        want_run(command(above, "import"), 0, IMPORTED, input=whole)
+        want_run(command(above, "export"), 0, whole)
 
 
 def tells_damage(repositories):
@@ -193,22 +197,36 @@ def tells_damage(repositories):
     want_refusal((STREAM_TO_GIT, repositories.path("never.git")), b"cut after", input=before)
 
 
-def tells_faults(repositories):
-    """a missing folder, a pipe and a file of another form are faults"""
+def makes_folders(repositories):
+    """a command that only reads makes no folder, and one that may change a store makes it and those above it"""
     missing = repositories.path("missing")
     for words in (("verify-ref", "refs/heads/main"), ("export",)):
         want_run(command(missing, *words), 4, b"", b"fault\n")
-        if os.path.lexists(missing):
-            raise Failure(f"{words[0]} made the folder that was missing")
+        want(os.path.lexists(missing), False, f"whether {words[0]} made the folder that was missing")
+    place = os.path.join(missing, "above", "store")
+    want_run(command(place, *VERIFY[2:]), 0, ACCEPTED, input=HEADER + END)
+    want(files_below(missing), {b"above": None, b"above/store": None}, "what verify-ref --stdin made")
+    want_run(command(place, "export"), 0, HEADER + END)
+    link = repositories.path("a link to a store")
+    os.symlink(place, link)
+    want_run(command(link, "import"), 0, IMPORTED, input=HEADER + END)
+    want_run(command(link, "export"), 0, HEADER + END)
+    os.symlink("nowhere", repositories.path("a link to nothing"))
+    want_run(command(repositories.path("a link to nothing"), "import"), 4, b"", b"fault\n", input=HEADER + END)
+
+
+def tells_faults(repositories):
+    """a file of another form is a fault"""
     place, objects = small_store(repositories, "other forms")
     object_id, text = objects[0]
     for other in (b"", text[:-1], text + b"\n", b"blob 00\0", b"word 0\0", b"blob 0", b"blob 1 \0a"):
         write(place, f"objects/{object_id}", other)
         want_run(command(place, "export"), 4, HEADER, b"fault\n")
-    os.remove(os.path.join(place, "objects", object_id))
-    os.mkfifo(os.path.join(place, "objects", object_id))
+    # More than an object may have is not read.
+    with open(os.path.join(place, "objects", object_id), "wb") as file:
+        file.write(b"blob %d\0" % (1 << 40))
+        file.truncate(1 << 40)
     want_run(command(place, "export"), 4, HEADER, b"fault\n")
-    os.remove(os.path.join(place, "objects", object_id))
     write(place, f"objects/{object_id}", text)
     for other in (b"", object_id.encode(), object_id.encode() + b"\n\n", object_id.upper().encode() + b"\n"):
         write(place, "refs/heads/main", other)
@@ -241,15 +259,17 @@ def is_no_store(place):
         expect_same(place, before)
 
 
-def refuses_half_a_store(repositories):
-    """a folder that an import left half made is no store"""
-    place = repositories.path("half made")
-    _, objects = small_store(repositories, "of the half made")
+def refuses_crossed_names(repositories):
+    """references whose names lie in each other's way are refused before anything is written"""
+    place = repositories.path("crossed")
+    _, objects = small_store(repositories, "of the crossed")
     target = objects[0][0].encode()
-    # In a folder a reference's name cannot also be that of a folder above another.
-    both = stream_of(objects, [(b"refs/heads/a", target), (b"refs/heads/a/b", target)])
+    # In a folder a reference's name cannot also be that of a folder above another. Others stand in between.
+    names = (b"refs/heads/a", b"refs/heads/a-b", b"refs/heads/a.b", b"refs/heads/a/b/c")
+    both = stream_of(objects, [(name, target) for name in names])
     want_run(command(place, "import"), 4, b"", b"fault\n", input=both)
-    is_no_store(place)
+    want(os.path.lexists(place), False, "whether a folder is there")
+    want_run(command(place, "import"), 0, IMPORTED, input=stream_of(objects, [(it, target) for it in names[:3]]))
 
 
 def refuses_other_folders(repositories):
@@ -291,9 +311,10 @@ CHECKS = (
     imports_once,
     refuses_streams,
     tells_damage,
+    makes_folders,
     tells_faults,
     tells_failing_streams,
-    refuses_half_a_store,
+    refuses_crossed_names,
     refuses_other_folders,
     refuses_words,
     passes_over_other_files,

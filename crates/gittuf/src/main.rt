@@ -43,25 +43,35 @@ fn refuse(rt: &HostRuntime, refusal: Refusal) -> u8 {
     refusal.status()
 }
 
-// Runs the command of the words over a keeper and the standard streams.
-fn run_over<R: Keeper + Drop>(rt: &HostRuntime, command: &[String], keeper: R) -> u8 {
+// Runs the command of the words over a keeper and the standard streams, and gives the keeper back.
+fn run_over<R: Keeper + Drop>(rt: &HostRuntime, command: &[String], keeper: R) -> (u8, R) {
     let mut outside = Outside {
         source: StdSource::new(rt.stdin()),
         sink: StdSink::new(rt.stdout()),
         faults_out: StdSink::new(rt.stderr()),
         keeper,
     };
-    run(rt.alloc(), command, &mut outside)
+    let status = run(rt.alloc(), command, &mut outside);
+    (status, outside.keeper)
 }
 
-// The keeper over a folder, for the command of the words. Only `import` makes the folder, so that a wrong path is
-// not taken for an empty store, and words outside the grammar make none.
+// Whether the command of the words may change the store. A folder that is not there is made for such a one alone, so
+// that a wrong path is not taken for an empty store, and words outside the grammar make none.
+fn may_change(rt: &HostRuntime, command: &[String]) -> Result<bool, Refusal> {
+    match read_command(rt.alloc(), command) {
+        Ok(Command::Import) => Ok(true),
+        Ok(Command::VerifyRef { name: _, stdin }) => Ok(stdin),
+        Ok(Command::Export) => Ok(false),
+        Err(WordsFault::Outside) => Err(Refusal::Words),
+        Err(WordsFault::Memory) => Err(Refusal::Memory),
+    }
+}
+
 fn open(rt: &HostRuntime, folder: &str, command: &[String]) -> Result<DirKeeper, Refusal> {
-    let opened = match read_command(rt.alloc(), command) {
-        Ok(Command::Import) => DirKeeper::create(rt, rt.alloc(), folder),
-        Ok(_) => DirKeeper::open(rt, rt.alloc(), folder),
-        Err(WordsFault::Outside) => return Err(Refusal::Words),
-        Err(WordsFault::Memory) => return Err(Refusal::Memory),
+    let opened = if may_change(rt, command)? {
+        DirKeeper::to_change(rt, rt.alloc(), folder)
+    } else {
+        DirKeeper::to_read(rt, rt.alloc(), folder)
     };
     match opened {
         Ok(keeper) => Ok(keeper),
@@ -70,14 +80,25 @@ fn open(rt: &HostRuntime, folder: &str, command: &[String]) -> Result<DirKeeper,
     }
 }
 
+// Runs the command of the words over the store in a folder. Where the folder stays locked after an answer, that is a
+// fault; after a refusal its own status and line say enough.
+fn run_in(rt: &HostRuntime, folder: &str, command: &[String]) -> u8 {
+    let keeper = match open(rt, folder, command) {
+        Ok(keeper) => keeper,
+        Err(refusal) => return refuse(rt, refusal),
+    };
+    let (status, keeper) = run_over(rt, command, keeper);
+    if keeper.end(rt.alloc()).is_err() && status < 2 {
+        return refuse(rt, Refusal::Fault { part: Part::Keeper });
+    }
+    status
+}
+
 // Opens the store that the words name first, and runs the command of the words after them.
 fn start(rt: &HostRuntime, words: &[String]) -> u8 {
     match after_places(words) {
-        Some((Store::Memory, command)) => run_over(rt, command, MemKeeper::new(rt.alloc())),
-        Some((Store::Directory(folder), command)) => match open(rt, folder, command) {
-            Ok(keeper) => run_over(rt, command, keeper),
-            Err(refusal) => refuse(rt, refusal),
-        },
+        Some((Store::Memory, command)) => run_over(rt, command, MemKeeper::new(rt.alloc())).0,
+        Some((Store::Directory(folder), command)) => run_in(rt, folder, command),
         None => refuse(rt, Refusal::Words),
     }
 }

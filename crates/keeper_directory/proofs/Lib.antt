@@ -2,5 +2,4 @@ mod Digits
 mod Heads
 mod Ids
 mod NamesLeft
-mod Order
 mod Reading

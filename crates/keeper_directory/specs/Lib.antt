@@ -1,3 +1,3 @@
 pub mod Files
-pub mod Sorted
+pub mod Following
 pub mod Stores

@@ -13,16 +13,20 @@ abbrev pub IsOneOf : List ℕ → List (List ℕ) → Type 0
 IsOneOf name [] = ⊥
 IsOneOf name (other ∷ names) = (other ≡ name) ⊎ IsOneOf name names
 
--- the name of a folder itself, or of the one above it
+-- the name of a folder itself, of the one above it, or of the mark of a call that may change the store
 abbrev pub IsDots : List ℕ → Type 0
-IsDots name = (name ≡ codes ".") ⊎ (name ≡ codes "..")
+IsDots name = (name ≡ codes ".") ⊎ ((name ≡ codes "..") ⊎ (name ≡ codes "open.lock"))
 
 -- there are only such names
 abbrev pub AreDots : List (List ℕ) → Type 0
 AreDots names = AllByRecursion IsDots names
 
--- a folder with these names may be a store's: no change was left half made in it, it is no Git directory, and it is
--- empty or has one of the store's two folders
+-- no call that may change the store works in a folder with these names, and none was stopped there before a change
+abbrev pub IsFree : List (List ℕ) → Type 0
+IsFree names = IsOneOf (codes "open.lock") names → ⊥
+
+-- a folder with these names may be a store's: no change was left half made in it, it is no Git directory, and it has
+-- one of the store's two folders, or nothing of its own
 pub record MayBeKept (names : List (List ℕ)) : Type 0 where
   pub whole : IsOneOf (codes "commit.lock") names → ⊥
   pub not_git : IsOneOf (codes "HEAD") names → IsOneOf (codes "config") names → ⊥

@@ -1,20 +1,26 @@
 //! The keeper over a folder.
 
-ghost use Rattle.std.specs.Prelude.{◌≡◌, ◌≤◌, ◌↔◌, Ok, IfOk, IsErr, OnErr};
+ghost use Rattle.std.specs.Prelude.{◌≡◌, ◌≤◌, ◌↔◌, Ok, IfOk, IsErr, IsErrOf, OnErr, OnOk};
 ghost use Rattle.octets.specs.Causes.{one_more};
 ghost use Rattle.keeper_directory.specs.declared.file_faults.FileFault.TheVariants as file;
 ghost use Rattle.keeper_directory.specs.declared.dir_keepers.OpenFault.TheVariants as open_fault;
 ghost use Rattle.octets.specs.Causes.{count_after};
 ghost use Rattle.keeper_api.specs.Faults.{keeper_failed};
 
-use crate::file_calls::make_folders;
 use crate::file_faults::FileFault;
-use crate::folders::Folder;
-use crate::sorted_keys::SortedKeys;
+use crate::folders::{Folder, Hold};
+use crate::key_sets::{keys_after, set_of};
+use crate::ref_plans::{change_names, is_crossed, plan_of};
 use git_object::{Object, ObjectId, RefName};
 use keeper_api::{Change, KeeperFault, RefValue};
+use octets::Memory;
 use std::alloc::{AllocError, Global};
+use std::collections::BTreeSet;
+use std::os::fd::IntoRawFd;
 use std::rt::Files;
+
+// A change of more objects is not noted in the list of ids one by one.
+const MOST_NOTED: usize = 4096;
 
 /// Why a folder was not opened.
 #[derive(Clone, Copy, Debug, PartialEq, Eq, Drop)]
@@ -48,45 +54,69 @@ impl From<AllocError> for OpenFault {
 ///
 /// The object of an id is kept in the file `objects/<64 hexadecimal digits>`, as kind, space, decimal length, zero
 /// byte and body; a reference in the file of its name, as 64 hexadecimal digits and a line feed. Files of other
-/// names are passed over. A file of another form is a fault, and so is setting a reference whose name is a folder.
-/// While a change is made, and where it was left half made, the file `commit.lock` stands in the folder.
+/// names are passed over. A file of another form is a fault, a link, a pipe or a device in a file's place too, and so
+/// is a change that sets a reference whose name is a folder.
+///
+/// One call changes the folder at a time. While it may, the file `open.lock` stands there, and while a change is made,
+/// and where it was left half made, `commit.lock` in its place.
 #[derive(Drop)]
 pub struct DirKeeper<R: Files = HostRuntime> {
     folder: Folder<R>,
-    ids: Option<SortedKeys<ObjectId>>,
-    names: Option<SortedKeys<RefName>>,
+    // What is in the folder, once it was gone over.
+    ids: Option<BTreeSet<ObjectId>>,
+    names: Option<BTreeSet<RefName>>,
     faults: u64,
     reads: u64,
 }
 
-impl<R: Files> DirKeeper<R> {
-    /// The keeper over the folder of this path, which may end in a slash. `Failed` where there is no such folder,
-    /// so that a wrong path is not read as an empty repository.
-    pub fn open(rt: &R, alloc: Global, folder: &str) -> Result<DirKeeper<R>, OpenFault>
+impl<R: Files> DirKeeper<R>
+where
+    R::File: IntoRawFd,
+{
+    /// The keeper over the folder of this path, which may end in a slash, for calls that only read: each `commit`
+    /// answers `Failed`. `Failed` where there is no such folder, so that a wrong path is not read as an empty
+    /// repository.
+    pub fn to_read(rt: &R, alloc: Global, folder: &str) -> Result<DirKeeper<R>, OpenFault>
     where
         R: Clone + Drop,
         ensures faults { IfOk result (λ keeper. keeper.faults ≡ 0) }
         ensures reads { IfOk result (λ keeper. keeper.reads ≡ 0) }
     {
-        let folder = Folder::of(rt.clone()?, alloc, folder)?;
-        Ok(DirKeeper {
+        Ok(DirKeeper::over(Folder::to_read(rt.clone()?, alloc, folder)?))
+    }
+
+    /// The keeper over the folder of this path, which may end in a slash, for calls that may change it, until `end`:
+    /// until then every other one is kept out. The folder is made where nothing is.
+    pub fn to_change(rt: &R, alloc: Global, folder: &str) -> Result<DirKeeper<R>, OpenFault>
+    where
+        R: Clone + Drop,
+        ensures faults { IfOk result (λ keeper. keeper.faults ≡ 0) }
+        ensures reads { IfOk result (λ keeper. keeper.reads ≡ 0) }
+    {
+        Ok(DirKeeper::over(Folder::to_change(rt.clone()?, alloc, folder)?))
+    }
+
+    fn over(folder: Folder<R>) -> DirKeeper<R>
+        ensures faults { result.faults ≡ 0 }
+        ensures reads { result.reads ≡ 0 }
+    {
+        DirKeeper {
             folder,
             ids: None,
             names: None,
             faults: 0,
             reads: 0,
-        })
+        }
     }
 
-    /// The keeper over the folder of this path, which may end in a slash. The folder is made where it is missing.
-    pub fn create(rt: &R, alloc: Global, folder: &str) -> Result<DirKeeper<R>, OpenFault>
+    /// Lets others at the folder, and takes it away again where it was made for this keeper and nothing was ever
+    /// committed. A folder with a change that was left half made stays locked.
+    pub fn end(self, alloc: Global) -> Result<(), KeeperFault>
     where
-        R: Clone + Drop,
-        ensures faults { IfOk result (λ keeper. keeper.faults ≡ 0) }
-        ensures reads { IfOk result (λ keeper. keeper.reads ≡ 0) }
+        R: Drop,
     {
-        make_folders(rt, folder)?;
-        DirKeeper::open(rt, alloc, folder)
+        let mut folder = self.folder;
+        Ok(folder.end(alloc)?)
     }
 
     // Counts a fault where the answer is one.
@@ -96,6 +126,8 @@ impl<R: Files> DirKeeper<R> {
         ensures reads { self.new.reads ≡ self.old.reads }
         ensures answer { IfOk answer (λ value. result ≡ Ok value) }
         ensures failed { OnErr answer (IsErr result) }
+        ensures memory { IsErrOf result KeeperFault.Memory → IsErrOf answer FileFault.Memory }
+        ensures folder { self.new.folder ≡ self.old.folder }
     {
         match answer {
             Ok(value) => Ok(value),
@@ -147,9 +179,9 @@ impl<R: Files> DirKeeper<R> {
     {
         let ids = match self.ids.take() {
             Some(ids) => ids,
-            None => SortedKeys::of(self.folder.ids(alloc)?),
+            None => set_of(alloc, self.folder.ids(alloc)?)?,
         };
-        let first = ids.after(after).first().copied();
+        let first = keys_after(&ids, after).next().copied();
         self.ids = Some(ids);
         Ok(first)
     }
@@ -167,6 +199,18 @@ impl<R: Files> DirKeeper<R> {
         self.counted(answer)
     }
 
+    // The names in the folder, of which a list is made at the first call.
+    fn take_names(&mut self, alloc: Global) -> Result<BTreeSet<RefName>, FileFault>
+        ensures hold { self.new.folder.hold ≡ self.old.folder.hold }
+        ensures faults { self.new.faults ≡ self.old.faults }
+        ensures reads { self.new.reads ≡ self.old.reads }
+    {
+        match self.names.take() {
+            Some(names) => Ok(names),
+            None => Ok(set_of(alloc, self.folder.names(alloc)?)?),
+        }
+    }
+
     fn first_ref(
         &mut self,
         alloc: Global,
@@ -175,11 +219,8 @@ impl<R: Files> DirKeeper<R> {
         ensures faults { self.new.faults ≡ self.old.faults }
         ensures reads { self.new.reads ≡ self.old.reads }
     {
-        let names = match self.names.take() {
-            Some(names) => names,
-            None => SortedKeys::of(self.folder.names(alloc)?),
-        };
-        let answer = self.folder.first_ref(alloc, names.after(after));
+        let names = self.take_names(alloc)?;
+        let answer = self.folder.first_ref(alloc, &names, after);
         self.names = Some(names);
         answer
     }
@@ -197,19 +238,63 @@ impl<R: Files> DirKeeper<R> {
         self.counted(answer)
     }
 
-    // A list that the change makes untrue is dropped.
-    pub(crate) fn make(&mut self, change: &Change) -> Result<(), KeeperFault>
+    // Notes the objects that were kept in the list of ids, where there is one. A list for which memory is wanting, or
+    // to which more is to be added than would be quick, is dropped, and made anew when it is asked for.
+    fn note_ids(&mut self, objects: &[Object])
+        ensures hold { self.new.folder ≡ self.old.folder }
+        ensures faults { self.new.faults ≡ self.old.faults }
+        ensures reads { self.new.reads ≡ self.old.reads }
+    {
+        let Some(mut ids) = self.ids.take() else {
+            return;
+        };
+        if objects.len() > MOST_NOTED {
+            return;
+        }
+        for object in objects {
+            if ids.insert(object.id()).is_err() {
+                return;
+            }
+        }
+        self.ids = Some(ids);
+    }
+
+    // Makes a change. Where it is refused or fails, the lists are dropped that it may have made untrue.
+    fn change(&mut self, alloc: Global, change: &Change) -> Result<(), FileFault>
+        ensures open { OnOk result (self.old.folder.hold ≡ Hold.Open) }
+        ensures whole { OnOk result (self.new.folder.hold ≡ Hold.Open) }
+        ensures memory { IsErrOf result FileFault.Memory → self.new.folder.hold ≡ self.old.folder.hold }
+        ensures faults { self.new.faults ≡ self.old.faults }
+        ensures reads { self.new.reads ≡ self.old.reads }
+    {
+        let plan = plan_of(alloc, change.refs.as_slice())?;
+        if plan.is_empty() {
+            self.folder.write(change.objects.as_slice(), &plan)?;
+        } else {
+            let mut names = self.take_names(alloc)?;
+            change_names(&mut names, &plan)?;
+            if is_crossed(alloc, &names, &plan)? {
+                return Err(FileFault::Failed);
+            }
+            self.folder.expect_places(&names, &plan)?;
+            self.folder.write(change.objects.as_slice(), &plan)?;
+            self.names = Some(names);
+        }
+        self.note_ids(change.objects.as_slice());
+        Ok(())
+    }
+
+    // It makes a change only where the mark of an opened store stands, which stands there again after it, and where
+    // memory is wanting nothing was begun.
+    pub(crate) fn make(&mut self, alloc: Global, change: &Change) -> Result<(), KeeperFault>
+        ensures open { OnOk result (self.old.folder.hold ≡ Hold.Open) }
+        ensures whole { OnOk result (self.new.folder.hold ≡ Hold.Open) }
+        ensures memory { IsErrOf result KeeperFault.Memory → self.new.folder.hold ≡ self.old.folder.hold }
         ensures faults { self.new.faults ≡ count_after keeper_failed self.old.faults result }
         ensures later { self.old.faults ≤ self.new.faults }
         ensures reads { self.new.reads ≡ self.old.reads }
     {
-        if !change.objects.is_empty() {
-            self.ids = None;
-        }
-        if !change.refs.is_empty() {
-            self.names = None;
-        }
-        let answer = self.folder.write(change);
+        let answer = self.change(alloc, change);
         self.counted(answer)
     }
 

@@ -21,8 +21,8 @@ pub enum FileFault {
     UnderFile,
     /// A folder stands at the place.
     IsFolder,
-    /// The folder that was to go is not empty.
-    NotEmpty,
+    /// Something stands at the place already, or in the folder that was to go.
+    Occupied,
     /// Anything else that the system said, and a file of another form.
     Failed,
     Memory,
@@ -36,7 +36,7 @@ impl From<io::Error> for FileFault {
             ErrorKind::NotFound => FileFault::Missing,
             ErrorKind::NotADirectory => FileFault::UnderFile,
             ErrorKind::IsADirectory => FileFault::IsFolder,
-            ErrorKind::DirectoryNotEmpty | ErrorKind::AlreadyExists => FileFault::NotEmpty,
+            ErrorKind::DirectoryNotEmpty | ErrorKind::AlreadyExists => FileFault::Occupied,
             ErrorKind::OutOfMemory => FileFault::Memory,
             _ => FileFault::Failed,
         }

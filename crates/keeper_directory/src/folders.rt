@@ -1,62 +1,199 @@
 //! The files of a folder: objects and references, each in a file of its own.
 
+ghost use Rattle.std.specs.Prelude.{◌≡◌, OnOk, OnErr};
+
 use crate::file_calls::{
-    create_file, create_new_file, is_folder, open_file, read_names, remove_file, remove_folder,
-    rename, write_parts,
+    Stand, leads_to, open_file, read_names, remove_file, rename, what_stands, write_new_file,
 };
 use crate::file_faults::FileFault;
+use crate::key_sets::keys_after;
 use crate::listings::{Found, ids_among, look_into};
-use crate::object_files::{make_object_text, read_object};
+use crate::made_folders::MadeFolder;
+use crate::object_files::read_object;
 use crate::places::Places;
-use crate::ref_files::{append_ref_text, name_text, read_id};
-use crate::stores::may_be_kept;
+use crate::ref_files::{name_text, read_id};
+use crate::stores::{is_free, may_be_kept};
 use git_object::{Object, ObjectId, RefName};
-use keeper_api::{Change, RefValue};
+use keeper_api::RefValue;
 use octets::Copied;
 use std::alloc::Global;
+use std::collections::BTreeSet;
+use std::os::fd::IntoRawFd;
 use std::rt::Files;
 
 // Room for the head of an object's file and a small body.
 const TEXT_ROOM: usize = 8192;
 
-// The folders above a reference's file that can be empty: a name has at most 16 components.
-const MOST_FOLDERS: usize = 15;
+// The mark of a call that may change the store, and that of a change that has begun.
+const OPEN: &str = "open.lock";
+
+const COMMIT: &str = "commit.lock";
+
+/// What may be done in a folder.
+#[derive(Clone, Copy, Debug, PartialEq, Eq)]
+pub enum Hold {
+    /// It is read alone, and no mark is in it.
+    Reading,
+    /// It may be changed, and `open.lock` is in it.
+    Open,
+    /// A change was left half made, and `commit.lock` is in it.
+    Half,
+}
 
 /// The files of a folder. What is needed to write any of them, its memory among it, is taken when this is made.
 #[derive(Drop)]
 pub struct Folder<R: Files> {
-    rt: R,
-    places: Places,
-    text: Vec<u8>,
+    pub rt: R,
+    pub places: Places,
+    pub text: Vec<u8>,
+    hold: Hold,
+    made: Option<MadeFolder>,
+    // The paths of the two marks.
+    open_mark: String,
+    commit_mark: String,
 }
 
-impl<R: Files> Folder<R> {
-    /// The folder of this path, which is there, can be listed and may be a keeper's.
-    pub fn of(rt: R, alloc: Global, path: &str) -> Result<Folder<R>, FileFault>
+impl<R: Files> Folder<R>
+where
+    R::File: IntoRawFd,
+{
+    fn at(rt: R, alloc: Global, path: &str) -> Result<Folder<R>, FileFault>
     where
         R: Drop,
     {
-        let places = Places::of(alloc, path)?;
-        let text = Vec::with_capacity(alloc, TEXT_ROOM)?;
-        let names = read_names(&rt, alloc, places.folder())?;
-        if !may_be_kept(names.as_slice()) {
-            return Err(FileFault::Failed);
-        }
-        let mut folder = Folder { rt, places, text };
-        folder.expect_folder("objects")?;
-        folder.expect_folder("refs")?;
+        let mut places = Places::of(alloc, path)?;
+        places.point_at("", OPEN)?;
+        let open_mark = String::from_str(alloc, places.place())?;
+        places.point_at("", COMMIT)?;
+        let commit_mark = String::from_str(alloc, places.place())?;
+        Ok(Folder {
+            rt,
+            places,
+            text: Vec::with_capacity(alloc, TEXT_ROOM)?,
+            hold: Hold::Reading,
+            made: None,
+            open_mark,
+            commit_mark,
+        })
+    }
+
+    /// The folder of this path, to be read. It is there, may be a store's, and has no mark in it.
+    pub fn to_read(rt: R, alloc: Global, path: &str) -> Result<Folder<R>, FileFault>
+    where
+        R: Drop,
+    {
+        let mut folder = Folder::at(rt, alloc, path)?;
+        folder.expect_store(alloc, true)?;
         Ok(folder)
     }
 
-    // Refuses anything but a folder under a name in this one.
+    /// The folder of this path, which may be changed until `end`: its mark keeps every other call out. It is made
+    /// where nothing is.
+    pub fn to_change(rt: R, alloc: Global, path: &str) -> Result<Folder<R>, FileFault>
+    where
+        R: Drop,
+    {
+        let mut folder = Folder::at(rt, alloc, path)?;
+        if leads_to(&folder.rt, path)? == Stand::Nothing {
+            folder.made = Some(MadeFolder::make(&folder.rt, alloc, path, OPEN)?);
+        } else {
+            folder.take(alloc)?;
+        }
+        folder.hold = Hold::Open;
+        Ok(folder)
+    }
+
+    // Puts the mark into a folder that is there and has none. What is in it is looked at before, so that nothing is
+    // put into what is no store, and after that, since another call may have been there in between.
+    fn take(&mut self, alloc: Global) -> Result<(), FileFault> {
+        self.expect_store(alloc, true)?;
+        let mut answer = write_new_file(&self.rt, self.open_mark.as_str(), b"", b"");
+        if answer == Err(FileFault::Occupied) {
+            return answer;
+        }
+        if answer.is_ok() {
+            answer = self.expect_store(alloc, false);
+        }
+        if answer.is_err() {
+            let _ = remove_file(&self.rt, self.open_mark.as_str());
+        }
+        answer
+    }
+
+    // Refuses a folder that is no store's, or in which a change was left half made, and one with another's mark
+    // where none may be.
+    fn expect_store(&mut self, alloc: Global, free: bool) -> Result<(), FileFault> {
+        let names = read_names(&self.rt, alloc, self.places.folder())?;
+        if !may_be_kept(names.as_slice()) || (free && !is_free(names.as_slice())) {
+            return Err(FileFault::Failed);
+        }
+        self.expect_folder("objects")?;
+        self.expect_folder("refs")
+    }
+
+    // Refuses anything but a folder under a name in this one, a link to a folder too.
     fn expect_folder(&mut self, name: &str) -> Result<(), FileFault> {
         self.places.point_at("", name)?;
-        match is_folder(&self.rt, self.places.place()) {
-            Ok(Some(true)) => Ok(()),
-            Ok(_) => Err(FileFault::Failed),
-            Err(FileFault::Missing) => Ok(()),
-            Err(fault) => Err(fault),
+        match what_stands(&self.rt, self.places.place())? {
+            Stand::Folder | Stand::Nothing => Ok(()),
+            Stand::File | Stand::Other => Err(FileFault::Failed),
         }
+    }
+
+    /// Takes the mark away, and the folder itself where it was made and nothing was kept in it. A folder with a
+    /// change that was left half made stays as it is.
+    pub fn end(&mut self, alloc: Global) -> Result<(), FileFault> {
+        if self.hold != Hold::Open {
+            return Ok(());
+        }
+        self.hold = Hold::Reading;
+        match self.made.take() {
+            Some(made) => made.take_away(&self.rt, alloc, OPEN),
+            None => remove_file(&self.rt, self.open_mark.as_str()),
+        }
+    }
+
+    /// Begins a change: from here on the folder is no store, until the change is whole.
+    pub fn begin(&mut self) -> Result<(), FileFault>
+        ensures open { OnOk result (self.old.hold ≡ Hold.Open) }
+        ensures begun { OnOk result (self.new.hold ≡ Hold.Half) }
+        ensures not_begun { OnErr result (self.new.hold ≡ self.old.hold) }
+    {
+        if self.hold != Hold::Open {
+            return Err(FileFault::Failed);
+        }
+        rename(&self.rt, self.open_mark.as_str(), self.commit_mark.as_str())?;
+        self.hold = Hold::Half;
+        Ok(())
+    }
+
+    /// Ends a change that is whole.
+    pub fn finish(&mut self) -> Result<(), FileFault>
+        ensures { OnOk result (self.new.hold ≡ Hold.Open) }
+    {
+        rename(&self.rt, self.commit_mark.as_str(), self.open_mark.as_str())?;
+        self.hold = Hold::Open;
+        // What is kept now is not to be taken away.
+        self.made = None;
+        Ok(())
+    }
+
+    /// What stands at a path above the file of a name and is no folder, or else Folder.
+    pub fn look_above(&mut self, name: &str) -> Result<Stand, FileFault>
+        ensures { self.new.hold ≡ self.old.hold }
+    {
+        for place in 1..name.len() {
+            if let Some((above, rest)) = name.split_at_checked(place) {
+                if rest.starts_with('/') {
+                    self.places.point_at("", above)?;
+                    let stands = what_stands(&self.rt, self.places.place())?;
+                    if stands != Stand::Folder {
+                        return Ok(stands);
+                    }
+                }
+            }
+        }
+        Ok(Stand::Folder)
     }
 
     /// The object in the file of an id, or None where there is no such file.
@@ -67,7 +204,7 @@ impl<R: Files> Folder<R> {
     ) -> Result<Option<Object>, FileFault> {
         self.places.point_at_object(id)?;
         match open_file(&self.rt, self.places.place()) {
-            Ok(mut file) => match read_object(alloc, &mut file)? {
+            Ok(file) => match read_object(alloc, file)? {
                 Some(object) => Ok(Some(object)),
                 None => Err(FileFault::Failed),
             },
@@ -82,10 +219,16 @@ impl<R: Files> Folder<R> {
         alloc: Global,
         name: &RefName,
     ) -> Result<Option<ObjectId>, FileFault> {
-        self.places.point_at("", name_text(name))?;
+        let name = name_text(name);
+        match self.look_above(name)? {
+            Stand::Folder => {}
+            Stand::Nothing | Stand::File => return Ok(None),
+            Stand::Other => return Err(FileFault::Failed),
+        }
+        self.places.point_at("", name)?;
         match self.read_place(alloc) {
             Ok(id) => Ok(Some(id)),
-            Err(FileFault::Missing | FileFault::UnderFile | FileFault::IsFolder) => Ok(None),
+            Err(FileFault::Missing | FileFault::IsFolder) => Ok(None),
             Err(fault) => Err(fault),
         }
     }
@@ -99,124 +242,14 @@ impl<R: Files> Folder<R> {
         }
     }
 
-    /// Keeps an object in the file of its id.
-    pub fn write_object(&mut self, object: &Object) -> Result<(), FileFault> {
-        self.places.point_at_object(&object.id())?;
-        let rest = make_object_text(&mut self.text, object)?;
-        self.replace(rest)
-    }
-
-    /// Sets a reference to an id.
-    pub fn set_ref(&mut self, name: &RefName, id: &ObjectId) -> Result<(), FileFault> {
-        self.places.point_at("", name_text(name))?;
-        self.text.clear();
-        append_ref_text(&mut self.text, id)?;
-        self.replace(b"")
-    }
-
-    // Puts a file of the text and this rest at the place that was taken last. Where that fails, no half file stands
-    // under the place's own name.
-    fn replace(&self, rest: &[u8]) -> Result<(), FileFault> {
-        let answer = self.write_temporary(rest);
-        if answer.is_err() {
-            return answer;
-        }
-        let answer = rename(&self.rt, self.places.temporary(), self.places.place());
-        if answer.is_err() {
-            let _ = remove_file(&self.rt, self.places.temporary());
-        }
-        answer
-    }
-
-    fn write_temporary(&self, rest: &[u8]) -> Result<(), FileFault> {
-        let mut file = create_file(&self.rt, self.places.temporary())?;
-        let answer = write_parts(&mut file, self.text.as_slice(), rest);
-        if answer.is_err() {
-            let _ = remove_file(&self.rt, self.places.temporary());
-        }
-        answer
-    }
-
-    /// Takes a reference away, and then the folders above it that became empty, so that the name of such a folder
-    /// may be set later.
-    pub fn remove_ref(&mut self, name: &RefName) -> Result<(), FileFault> {
-        let name = name_text(name);
-        self.places.point_at("", name)?;
-        match remove_file(&self.rt, self.places.place()) {
-            Ok(()) => {}
-            Err(FileFault::Missing | FileFault::UnderFile | FileFault::IsFolder) => {}
-            Err(fault) => return Err(fault),
-        }
-        self.remove_empty_folders(name)
-    }
-
-    fn remove_empty_folders(&mut self, name: &str) -> Result<(), FileFault> {
-        let mut below = name;
-        for _ in 0..MOST_FOLDERS {
-            let Some((folder, _)) = below.rsplit_once('/') else {
-                return Ok(());
-            };
-            if folder == "refs" {
-                return Ok(());
-            }
-            self.places.point_at("", folder)?;
-            match remove_folder(&self.rt, self.places.place()) {
-                Ok(()) => {}
-                Err(FileFault::Missing) => {}
-                Err(FileFault::NotEmpty | FileFault::UnderFile) => return Ok(()),
-                Err(fault) => return Err(fault),
-            }
-            below = folder;
-        }
-        Ok(())
-    }
-
-    /// Makes a change: each object, and then each reference change in order. Meanwhile the file `commit.lock` stands
-    /// in the folder, and it stays where the change was stopped or failed after its first step: such a folder is not
-    /// opened again.
-    pub fn write(&mut self, change: &Change) -> Result<(), FileFault> {
-        self.places.point_at("", "commit")?;
-        let mark = create_new_file(&self.rt, self.places.temporary())?;
-        drop(mark);
-        let mut begun = false;
-        let answer = self.write_steps(change, &mut begun);
-        if answer.is_err() && begun {
-            return answer;
-        }
-        self.places.point_at("", "commit")?;
-        let removed = remove_file(&self.rt, self.places.temporary());
-        if answer.is_err() {
-            return answer;
-        }
-        removed
-    }
-
-    // Makes a change step by step, and notes when something was or may have been changed.
-    fn write_steps(&mut self, change: &Change, begun: &mut bool) -> Result<(), FileFault> {
-        for object in change.objects.as_slice() {
-            self.write_object(object)?;
-            *begun = true;
-        }
-        for change in change.refs.as_slice() {
-            match &change.to {
-                Some(id) => self.set_ref(&change.name, id)?,
-                None => {
-                    *begun = true;
-                    self.remove_ref(&change.name)?;
-                }
-            }
-            *begun = true;
-        }
-        Ok(())
-    }
-
-    /// The first of these references that has a file still, with its id.
+    /// The first of these references after a name that has a file still, with its id.
     pub fn first_ref(
         &mut self,
         alloc: Global,
-        names: &[RefName],
+        names: &BTreeSet<RefName>,
+        after: Option<&RefName>,
     ) -> Result<Option<RefValue>, FileFault> {
-        for name in names {
+        for name in keys_after(names, after) {
             if let Some(id) = self.read_ref(alloc, name)? {
                 let name = name.copied()?;
                 return Ok(Some(RefValue { name, id }));
@@ -236,7 +269,9 @@ impl<R: Files> Folder<R> {
     }
 
     /// The reference names that files below `refs` are named by.
-    pub fn names(&mut self, alloc: Global) -> Result<Vec<RefName>, FileFault> {
+    pub fn names(&mut self, alloc: Global) -> Result<Vec<RefName>, FileFault>
+        ensures { self.new.hold ≡ self.old.hold }
+    {
         let mut found = Found::at(alloc, "refs")?;
         for _ in 0..u64::MAX {
             let Some(folder) = found.folders.pop() else {

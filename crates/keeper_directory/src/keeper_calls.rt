@@ -9,10 +9,14 @@ use crate::DirKeeper;
 use git_object::{Object, ObjectId, RefName};
 use keeper_api::{Change, Keeper, KeeperFault, RefValue};
 use std::alloc::Global;
+use std::os::fd::IntoRawFd;
 use std::rt::Files;
 
 /// It tells nothing. A fault is counted exactly where a call answers `Failed`.
-impl<R: Files> Keeper for DirKeeper<R> {
+impl<R: Files> Keeper for DirKeeper<R>
+where
+    R::File: IntoRawFd,
+{
     ghost content = { λ _. None };
 
     ghost tells_left = { λ _. false };
@@ -59,11 +63,11 @@ impl<R: Files> Keeper for DirKeeper<R> {
         self.ref_after(alloc, after)
     }
 
-    fn commit(&mut self, _alloc: Global, change: &Change) -> Result<(), KeeperFault>
+    fn commit(&mut self, alloc: Global, change: &Change) -> Result<(), KeeperFault>
         ensures reads { self.new.reads ≡ self.old.reads }
         ensures cause { HasCause keeper_failed self.old.faults self.new.faults result }
     {
-        self.make(change)
+        self.make(alloc, change)
     }
 
     fn faults(&self) -> u64

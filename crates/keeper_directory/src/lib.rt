@@ -8,16 +8,19 @@
 
 #![tactic(auto)]
 
+mod commits;
 mod dir_keepers;
 mod file_calls;
 mod file_faults;
 mod folders;
 mod keeper_calls;
+mod key_sets;
 mod listings;
+mod made_folders;
 mod object_files;
 mod places;
 mod ref_files;
-mod sorted_keys;
+mod ref_plans;
 mod stores;
 #[cfg(test)]
 mod tests;

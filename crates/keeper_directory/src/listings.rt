@@ -5,7 +5,7 @@ ghost use Rattle.hex.specs.Hex.{encode_lower};
 ghost use Rattle.text_reader.specs.Hexadecimal.{IsLowerHexadecimal};
 ghost use Rattle.git_object.specs.Names.{IsRefName};
 
-use crate::file_calls::{is_folder, read_names};
+use crate::file_calls::{Stand, read_names, what_stands};
 use crate::file_faults::FileFault;
 use crate::places::Places;
 use git_object::{Memory, ObjectId, RefFault, RefName};
@@ -123,20 +123,19 @@ fn look_at<R: Files>(
         return Ok(());
     }
     places.point_at("", path.as_str())?;
-    match is_folder(rt, places.place()) {
-        Ok(Some(true)) => {
+    match what_stands(rt, places.place())? {
+        Stand::Folder => {
             if may_hold {
                 found.folders.push(path)?;
             }
         }
-        Ok(Some(false)) => {
+        Stand::File => {
             if let Some(name) = name {
                 found.names.push(name)?;
             }
         }
-        Ok(None) => {}
-        Err(FileFault::Missing) => {}
-        Err(fault) => return Err(fault),
+        Stand::Nothing => {}
+        Stand::Other => return Err(FileFault::Failed),
     }
     Ok(())
 }

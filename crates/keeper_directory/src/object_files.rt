@@ -1,13 +1,14 @@
 //! The text of an object's file: its head and its body.
 
-ghost use Rattle.std.specs.Prelude.{◌≡◌, ◌≢◌, ◌<◌, ◌^◌, ◌++◌, ◌∷◌, ℕ, List, decimal, length, IfOk, IfSome, IfNone, OnOk};
+ghost use Rattle.std.specs.Prelude.{◌≡◌, ◌≢◌, ◌<◌, ◌≤◌, ◌^◌, ◌++◌, ◌∷◌, ℕ, List, decimal, length, IfOk, IfSome, IfNone, OnOk};
 ghost use Rattle.git_object.specs.Objects.{kind_name, object_text};
+ghost use Rattle.git_object.specs.Repository.{largest_body};
 ghost use Rattle.git_object.specs.declared.kinds.Kind.{Kind};
 ghost use Rattle.keeper_directory.specs.Files.{IsNoObject, object_head};
 
-use crate::file_calls::read_front;
+use crate::file_calls::{read_front, read_up_to};
 use crate::file_faults::FileFault;
-use git_object::{Kind, Memory, Object, Octets};
+use git_object::{Kind, LARGEST_BODY, Memory, Object, Octets};
 use itoa::Buffer;
 use std::alloc::Global;
 use std::io::Read;
@@ -19,6 +20,9 @@ const SMALL_BODY: usize = 4096;
 
 // As many bytes as no head has: a word, a space, at most 20 digits and a zero byte.
 const LONGEST_HEAD: usize = 32;
+
+// The most bytes that are read before the head is looked at.
+const FIRST_PIECE: usize = 4096;
 
 /// What the head of an object's file says, and what follows it.
 #[derive(Clone, Copy)]
@@ -85,17 +89,25 @@ pub fn make_object_text<'a>(text: &mut Vec<u8>, object: &'a Object) -> Result<&'
     Ok(rest)
 }
 
-/// The object whose file a reader gives, to its end; None where what it gives is no object's file.
-pub fn read_object<F: Read>(alloc: Global, file: &mut F) -> Result<Option<Object>, FileFault>
-    ensures found { IfOk result (λ found. IfSome found (λ o. IfSome (F.remaining file.old) (λ text. text ≡ object_text o.kind o.body))) }
-    ensures none { IfOk result (λ found. IfNone found (IfSome (F.remaining file.old) IsNoObject)) }
+/// The object whose file a reader gives, to its end; None where what it gives is no object's file, or that of one
+/// whose body has more than 16 MiB. Of such a body no byte is read past the first piece.
+pub fn read_object<F: Read + Drop>(alloc: Global, file: F) -> Result<Option<Object>, FileFault>
+    ensures found { IfOk result (λ found. IfSome found (λ o. IfSome (F.remaining file) (λ text. text ≡ object_text o.kind o.body))) }
+    ensures fits { IfOk result (λ found. IfSome found (λ o. length o.body ≤ largest_body)) }
+    ensures none { IfOk result (λ found. IfNone found (IfSome (F.remaining file) IsNoObject)) }
 {
-    let front = read_front(alloc, file, LONGEST_HEAD)?;
+    let mut file = file;
+    let front = read_front(alloc, &mut file, LONGEST_HEAD, FIRST_PIECE)?;
     let Some(head) = split_head(front.as_slice()) else {
         return Ok(None);
     };
+    if head.size > LARGEST_BODY {
+        return Ok(None);
+    }
     let mut body = Vec::from_slice(alloc, head.rest)?;
-    file.read_to_end(&mut body)?;
+    // One byte more than the body has would show that the file goes on.
+    let left = head.size.saturating_sub(body.len() as u64) + 1;
+    read_up_to(file, left, &mut body)?;
     if body.len() as u64 != head.size {
         return Ok(None);
     }

@@ -40,7 +40,7 @@ pub fn read_id<F: Read>(alloc: Global, file: &mut F) -> Result<Option<ObjectId>,
     ensures found { IfOk result (λ found. IfSome found (λ id. IsId id × IfSome (F.remaining file.old) (λ text. text ≡ ref_text id))) }
     ensures none { IfOk result (λ found. IfNone found (IfSome (F.remaining file.old) IsNoRef)) }
 {
-    let front = read_front(alloc, file, REF_FILE + 1)?;
+    let front = read_front(alloc, file, REF_FILE + 1, REF_FILE + 1)?;
     match read_ref_text(front.as_slice()) {
         Some(id) => Ok(Some(id)),
         None => Ok(None),

@@ -1,7 +1,7 @@
 //! Which folders may be a store's.
 
 ghost use Rattle.std.specs.Prelude.{◌↔◌, ℕ, List, IsTrue};
-ghost use Rattle.keeper_directory.specs.Stores.{AreDots, IsDots, IsListing, IsOneOf, MayBeKept};
+ghost use Rattle.keeper_directory.specs.Stores.{AreDots, IsDots, IsFree, IsListing, IsOneOf, MayBeKept};
 
 use text_reader::{same_bytes, split_at_zero};
 
@@ -19,14 +19,14 @@ fn is_among(names: &[u8], wanted: &[u8]) -> bool
     false
 }
 
-// Whether a name is that of a folder itself or of the one above it.
+// Whether a name is that of a folder itself, of the one above it, or of the mark of a call that may change the store.
 fn is_dots(name: &[u8]) -> bool
     ensures { IsTrue result ↔ IsDots name.now }
 {
-    same_bytes(name, b".") || same_bytes(name, b"..")
+    same_bytes(name, b".") || same_bytes(name, b"..") || same_bytes(name, b"open.lock")
 }
 
-// Whether the only names are those of the folder itself and of the one above it.
+// Whether the only names are such.
 fn is_empty(names: &[u8]) -> bool
     ensures { (list : List (List ℕ)) → IsListing list names.now → IsTrue result ↔ AreDots list }
 {
@@ -41,8 +41,8 @@ fn is_empty(names: &[u8]) -> bool
 }
 
 /// Whether the names in a folder, each followed by a zero byte, are those of one that may be a keeper's: no change
-/// is being made in it or was left half made, Git does not keep a repository of its own there, and it is empty or
-/// has one of the keeper's two folders.
+/// is being made in it or was left half made, Git does not keep a repository of its own there, and it has one of the
+/// keeper's two folders or nothing but the mark of a call that may change it.
 pub fn may_be_kept(names: &[u8]) -> bool
     ensures { (list : List (List ℕ)) → IsListing list names.now → IsTrue result ↔ MayBeKept list }
 {
@@ -53,4 +53,11 @@ pub fn may_be_kept(names: &[u8]) -> bool
         return false;
     }
     is_empty(names) || is_among(names, b"objects") || is_among(names, b"refs")
+}
+
+/// Whether among the names in a folder, each followed by a zero byte, there is no mark of a call that may change it.
+pub fn is_free(names: &[u8]) -> bool
+    ensures { (list : List (List ℕ)) → IsListing list names.now → IsTrue result ↔ IsFree list }
+{
+    !is_among(names, b"open.lock")
 }

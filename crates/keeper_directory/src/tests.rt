@@ -3,7 +3,7 @@ use git_object::{Kind, Object, ObjectId, Objects, Octets, RefName, id_of};
 use keeper_api::{Change, Keeper, KeeperFault, RefChange, RefChanges};
 use std::alloc::Global;
 use std::test::Fail;
-use std::{env, fs, process};
+use std::{env, fs, process, str};
 
 // An empty folder for one test of this process.
 fn fresh_folder(rt: &HostRuntime, name: &str) -> Result<String, Fail> {
@@ -14,10 +14,26 @@ fn fresh_folder(rt: &HostRuntime, name: &str) -> Result<String, Fail> {
     Ok(path)
 }
 
+// The keeper over a folder, to be changed.
 fn open(rt: &HostRuntime, path: &str) -> Result<DirKeeper, Fail> {
-    match DirKeeper::create(rt, rt.alloc(), path) {
+    match DirKeeper::to_change(rt, rt.alloc(), path) {
         Ok(keeper) => Ok(keeper),
         Err(_) => Err(Fail::from("a folder")),
+    }
+}
+
+// The keeper over a folder, to be read.
+fn read(rt: &HostRuntime, path: &str) -> Result<DirKeeper, Fail> {
+    match DirKeeper::to_read(rt, rt.alloc(), path) {
+        Ok(keeper) => Ok(keeper),
+        Err(_) => Err(Fail::from("a folder to be read")),
+    }
+}
+
+fn end(rt: &HostRuntime, keeper: DirKeeper) -> Result<(), Fail> {
+    match keeper.end(rt.alloc()) {
+        Ok(()) => Ok(()),
+        Err(_) => Err(Fail::from("an end")),
     }
 }
 
@@ -123,8 +139,8 @@ fn a_change_is_read_back(rt: HostRuntime) -> Result<(), Fail> {
 fn another_keeper_reads_the_same(rt: HostRuntime) -> Result<(), Fail> {
     let alloc = rt.alloc();
     let folder = fresh_folder(&rt, "same")?;
-    let _ = filled(&rt, folder.as_str())?;
-    let mut keeper = open(&rt, format!(in alloc; "{folder}/")?.as_str())?;
+    end(&rt, filled(&rt, folder.as_str())?)?;
+    let mut keeper = read(&rt, format!(in alloc; "{folder}/")?.as_str())?;
     assert_eq!(rt; counts(alloc, &mut keeper)?, (2, 2));
     let id = id_of(Kind::Blob, b"one");
     assert_eq!(rt; ref_of(alloc, &mut keeper, MAIN)?, Some(id));
@@ -190,7 +206,7 @@ fn a_name_and_its_folder_take_turns(rt: HostRuntime) -> Result<(), Fail> {
 fn other_files_are_passed_over(rt: HostRuntime) -> Result<(), Fail> {
     let alloc = rt.alloc();
     let folder = fresh_folder(&rt, "files")?;
-    let _ = filled(&rt, folder.as_str())?;
+    end(&rt, filled(&rt, folder.as_str())?)?;
     for name in [
         "objects/readme",
         "objects/0000.lock",
@@ -200,7 +216,7 @@ fn other_files_are_passed_over(rt: HostRuntime) -> Result<(), Fail> {
     ] {
         put(&rt, folder.as_str(), name, b"x")?;
     }
-    let mut keeper = open(&rt, folder.as_str())?;
+    let mut keeper = read(&rt, folder.as_str())?;
     assert_eq!(rt; counts(alloc, &mut keeper)?, (2, 2));
     Ok(fs::remove_dir_all(&rt, folder.as_str())?)
 }
@@ -210,14 +226,14 @@ const ZEROS: &str = "objects/000000000000000000000000000000000000000000000000000
 // How the reading of an object's file with this text fails, where it does.
 fn fault_of(rt: &HostRuntime, folder: &str, text: &[u8]) -> Result<Option<KeeperFault>, Fail> {
     put(rt, folder, ZEROS, text)?;
-    let mut keeper = open(rt, folder)?;
+    let mut keeper = read(rt, folder)?;
     Ok(keeper.read_object(rt.alloc(), &ObjectId::zeros()).err())
 }
 
 #[test]
 fn another_form_of_an_object_is_a_fault(rt: HostRuntime) -> Result<(), Fail> {
     let folder = fresh_folder(&rt, "forms")?;
-    let _ = filled(&rt, folder.as_str())?;
+    end(&rt, filled(&rt, folder.as_str())?)?;
     assert_eq!(rt; fault_of(&rt, folder.as_str(), b"blob 0\0")?, None);
     for text in [
         b"blob 1\0".as_slice(),
@@ -246,8 +262,31 @@ fn another_form_of_a_reference_is_a_fault(rt: HostRuntime) -> Result<(), Fail> {
 
 // Whether a folder is refused as none that a keeper may work in.
 fn is_refused(rt: &HostRuntime, folder: &str) -> bool {
-    let answer = DirKeeper::open(rt, rt.alloc(), folder);
+    let answer = DirKeeper::to_read(rt, rt.alloc(), folder);
     matches!(answer.err(), Some(OpenFault::Failed))
+}
+
+// Whether a folder is refused to whom wants to change it.
+fn is_kept_out(rt: &HostRuntime, folder: &str) -> bool {
+    let answer = DirKeeper::to_change(rt, rt.alloc(), folder);
+    matches!(answer.err(), Some(OpenFault::Failed))
+}
+
+#[test]
+fn crossed_names_change_nothing(rt: HostRuntime) -> Result<(), Fail> {
+    let alloc = rt.alloc();
+    let folder = fresh_folder(&rt, "crossed")?;
+    let mut keeper = open(&rt, folder.as_str())?;
+    let fault = commit_refs(alloc, &mut keeper, &[(ABOVE, true), (BELOW, true)])?;
+    assert_eq!(rt; fault, Some(KeeperFault::Failed));
+    assert_eq!(rt; commit_refs(alloc, &mut keeper, &[(MAIN, true)])?, None);
+    assert_eq!(rt; counts(alloc, &mut keeper)?, (0, 1));
+    end(&rt, keeper)?;
+    let mut keeper = read(&rt, folder.as_str())?;
+    assert_eq!(rt; counts(alloc, &mut keeper)?, (0, 1));
+    let fault = commit_refs(alloc, &mut keeper, &[(MAIN, false)])?;
+    assert_eq!(rt; fault, Some(KeeperFault::Failed));
+    Ok(fs::remove_dir_all(&rt, folder.as_str())?)
 }
 
 #[test]
@@ -255,11 +294,75 @@ fn a_half_made_change_is_not_opened(rt: HostRuntime) -> Result<(), Fail> {
     let alloc = rt.alloc();
     let folder = fresh_folder(&rt, "half")?;
     let mut keeper = open(&rt, folder.as_str())?;
-    let fault = commit_refs(alloc, &mut keeper, &[(ABOVE, true), (BELOW, true)])?;
+    // A folder of this name is in the way once an object is to be written there.
+    let id = id_of(Kind::Blob, b"one").to_hex();
+    let digits = str::from_utf8(&id)?;
+    let place = format!(in alloc; "{folder}/objects/{digits}")?;
+    fs::create_dir_all(&rt, place.as_str())?;
+    let fault = commit(alloc, &mut keeper, &[b"one"], &[])?;
     assert_eq!(rt; fault, Some(KeeperFault::Failed));
-    assert!(rt; is_refused(&rt, folder.as_str()));
-    let fault = commit_refs(alloc, &mut keeper, &[(MAIN, true)])?;
-    assert_eq!(rt; fault, Some(KeeperFault::Failed));
+    assert_eq!(rt;
+        commit(alloc, &mut keeper, &[], &[])?,
+        Some(KeeperFault::Failed)
+    );
+    assert_eq!(rt; keeper.faults(), 2);
+    end(&rt, keeper)?;
+    assert!(rt; is_refused(&rt, folder.as_str()) && is_kept_out(&rt, folder.as_str()));
+    Ok(fs::remove_dir_all(&rt, folder.as_str())?)
+}
+
+#[test]
+fn one_keeper_changes_a_folder(rt: HostRuntime) -> Result<(), Fail> {
+    let folder = fresh_folder(&rt, "one")?;
+    let keeper = filled(&rt, folder.as_str())?;
+    assert!(rt; is_refused(&rt, folder.as_str()) && is_kept_out(&rt, folder.as_str()));
+    end(&rt, keeper)?;
+    let again = open(&rt, folder.as_str())?;
+    assert!(rt; is_refused(&rt, folder.as_str()) && is_kept_out(&rt, folder.as_str()));
+    end(&rt, again)?;
+    assert!(rt; !is_refused(&rt, folder.as_str()));
+    Ok(fs::remove_dir_all(&rt, folder.as_str())?)
+}
+
+#[test]
+fn an_unused_folder_goes(rt: HostRuntime) -> Result<(), Fail> {
+    let alloc = rt.alloc();
+    let folder = fresh_folder(&rt, "unused")?;
+    let deep = format!(in alloc; "{folder}/a/b//")?;
+    end(&rt, open(&rt, deep.as_str())?)?;
+    assert!(rt; !fs::exists(&rt, folder.as_str())?);
+    fs::create_dir_all(&rt, folder.as_str())?;
+    end(&rt, open(&rt, deep.as_str())?)?;
+    assert!(rt; fs::exists(&rt, folder.as_str())?);
+    end(&rt, open(&rt, folder.as_str())?)?;
+    assert!(rt; !is_refused(&rt, folder.as_str()));
+    let mut keeper = open(&rt, deep.as_str())?;
+    assert_eq!(rt; commit(alloc, &mut keeper, &[], &[])?, None);
+    end(&rt, keeper)?;
+    assert!(rt; !is_refused(&rt, deep.as_str()));
+    Ok(fs::remove_dir_all(&rt, folder.as_str())?)
+}
+
+#[test]
+fn the_lists_follow_the_changes(rt: HostRuntime) -> Result<(), Fail> {
+    let alloc = rt.alloc();
+    let folder = fresh_folder(&rt, "lists")?;
+    let mut keeper = filled(&rt, folder.as_str())?;
+    assert_eq!(rt; counts(alloc, &mut keeper)?, (2, 2));
+    let refs = [
+        (MAIN, None),
+        (BELOW, Some(ObjectId::zeros())),
+        (b"refs/tags/a/b".as_slice(), Some(ObjectId::zeros())),
+    ];
+    assert_eq!(rt;
+        commit(alloc, &mut keeper, &[b"one", b"two", b"three"], &refs)?,
+        None
+    );
+    assert_eq!(rt; counts(alloc, &mut keeper)?, (4, 2));
+    assert_eq!(rt; ref_of(alloc, &mut keeper, MAIN)?, None);
+    end(&rt, keeper)?;
+    let mut keeper = read(&rt, folder.as_str())?;
+    assert_eq!(rt; counts(alloc, &mut keeper)?, (4, 2));
     Ok(fs::remove_dir_all(&rt, folder.as_str())?)
 }
 
