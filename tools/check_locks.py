@@ -171,7 +171,7 @@ def tells_full_disk(repositories):
     found = run("unshare", "-rm", "sh", "-c", script, "sh", place, PROGRAM, given) if shutil.which("unshare") else (99,)
     if found[0] == 99 or b"unshare" in found[2]:
         raise Skip("no file system can be made here")
-    want(found, (4, b"commit.lock\nobjects\n", b"fault\nfault\n"), "the status, what is in the folder, and the lines")
+    want(found, (4, b"commit.lock\nobjects\nopen.lock\n", b"fault\nfault\n"), "the status, what is in the folder, and the lines")
 
 
 def stops_anywhere(repositories):

@@ -58,7 +58,7 @@ impl From<AllocError> for OpenFault {
 /// is a change that sets a reference whose name is a folder.
 ///
 /// One call changes the folder at a time. While it may, the file `open.lock` stands there, and while a change is made,
-/// and where it was left half made, `commit.lock` in its place.
+/// and where it was left half made, `commit.lock` beside it.
 #[derive(Drop)]
 pub struct DirKeeper<R: Files = HostRuntime> {
     folder: Folder<R>,

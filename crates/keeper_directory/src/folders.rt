@@ -3,7 +3,7 @@
 ghost use Rattle.std.specs.Prelude.{◌≡◌, OnOk, OnErr};
 
 use crate::file_calls::{
-    Stand, leads_to, open_file, read_names, remove_file, rename, what_stands, write_new_file,
+    Stand, leads_to, open_file, read_names, remove_file, what_stands, write_new_file,
 };
 use crate::file_faults::FileFault;
 use crate::key_sets::keys_after;
@@ -36,7 +36,7 @@ pub enum Hold {
     Reading,
     /// It may be changed, and `open.lock` is in it.
     Open,
-    /// A change was left half made, and `commit.lock` is in it.
+    /// A change was left half made, and `commit.lock` is in it too.
     Half,
 }
 
@@ -153,7 +153,8 @@ where
         }
     }
 
-    /// Begins a change: from here on the folder is no store, until the change is whole.
+    /// Begins a change: from here on the folder is no store, until the change is whole. Its mark stands beside that of
+    /// the opened store, which stays, so that nobody else's can come in between.
     pub fn begin(&mut self) -> Result<(), FileFault>
         ensures open { OnOk result (self.old.hold ≡ Hold.Open) }
         ensures begun { OnOk result (self.new.hold ≡ Hold.Half) }
@@ -162,7 +163,11 @@ where
         if self.hold != Hold::Open {
             return Err(FileFault::Failed);
         }
-        rename(&self.rt, self.open_mark.as_str(), self.commit_mark.as_str())?;
+        let answer = write_new_file(&self.rt, self.commit_mark.as_str(), b"", b"");
+        if answer.is_err() {
+            let _ = remove_file(&self.rt, self.commit_mark.as_str());
+            return answer;
+        }
         self.hold = Hold::Half;
         Ok(())
     }
@@ -171,7 +176,7 @@ where
     pub fn finish(&mut self) -> Result<(), FileFault>
         ensures { OnOk result (self.new.hold ≡ Hold.Open) }
     {
-        rename(&self.rt, self.commit_mark.as_str(), self.open_mark.as_str())?;
+        remove_file(&self.rt, self.commit_mark.as_str())?;
         self.hold = Hold::Open;
         // What is kept now is not to be taken away.
         self.made = None;
