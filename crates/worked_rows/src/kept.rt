@@ -111,7 +111,7 @@ fn run_over(
     stream: &[u8],
 ) -> Result<(u8, Octets, Octets), Fail> {
     let alloc = rt.alloc();
-    let Ok(keeper) = DirKeeper::create(rt, alloc, folder) else {
+    let Ok(keeper) = DirKeeper::to_change(rt, alloc, folder) else {
         return Err("a folder".into());
     };
     let mut outside = Outside {
@@ -125,6 +125,9 @@ fn run_over(
     let status = run(alloc, words.as_slice(), &mut outside);
     let printed = Octets::from_slice(alloc, outside.sink.contents())?;
     let said = Octets::from_slice(alloc, outside.faults_out.contents())?;
+    if outside.keeper.end(alloc).is_err() {
+        return Err("a folder to be let go".into());
+    }
     Ok((status, printed, said))
 }
 
