@@ -1,24 +1,18 @@
--- Steps as the lanes make them, and a piece among eight.
-use Rattle.std.proofs.Common.{◌≡◌, ℕ, suc, ◌+◌, ◌-◌, ◌^◌, ◌<◌, List, refl, ap, ◌∙◌, arith}
+-- The end of a chain as the lanes make it, and a piece among eight.
+use Rattle.std.proofs.Common.{◌≡◌, ℕ, suc, ◌-◌, ◌^◌, ◌<◌, List, ap, arith}
 use Prim.Native.Nat as Nat
 use Rattle.sha2.specs.Sha256.{sha256}
 use Rattle.sha256_lanes.specs.Chain.{message, walked}
 use Rattle.lmots.specs.declared.ots_type.OtsType.{OtsType}
 use Rattle.lmots.specs.OtsType.{width}
-use Rattle.lmots.specs.Chain.{head, step, steps, private_element}
+use Rattle.lmots.specs.Chain.{head}
 use Rattle.lmots.specs.OneTime.{ended}
-
-walked-steps : (i : List ℕ) (q chain j n : ℕ) (x : List ℕ) → walked (head i q chain) j n x ≡ steps i q chain j n x
-unfolding steps walked
-walked-steps i q chain j Nat.zero x = refl
-walked-steps i q chain j (suc n) x = walked-steps i q chain (j + 1) n (step i q chain j x)
 
 -- the end of a chain, from its head
 pub walked-ended : (kind : OtsType) (i : List ℕ) (q : ℕ) (seed : List ℕ) (chain : ℕ) (h : List ℕ) → h ≡ head i q chain
     → walked h 0 (2 ^ width kind - 1) (sha256 (message h 0xff seed)) ≡ ended kind i q seed chain
 walked-ended kind i q seed chain h same =
     ap (λ (l : List ℕ). walked l 0 (2 ^ width kind - 1) (sha256 (message l 0xff seed))) same
-    ∙ walked-steps i q chain 0 (2 ^ width kind - 1) (private_element i q chain seed)
 
 -- what holds of each number below eight
 pub eight_cases : (P : ℕ → Type 0) → P 0 → P 1 → P 2 → P 3 → P 4 → P 5 → P 6 → P 7 → (k : ℕ) → k < 8 → P k

@@ -12,5 +12,5 @@ pub mod Blocks
 pub mod Signed
 pub mod Numbers
 pub mod HashBytes
-pub mod LastStep
+pub mod OnTheWay
 pub mod SpelledBytes

@@ -1,6 +1,5 @@
 -- What is signed with a key leads back to the key.
-use Rattle.std.proofs.Common.{◌≡◌, ℕ, suc, ◌+◌, ◌-◌, ◌*◌, ◌^◌, ◌<◌, ◌≤◌, List, ◌++◌, length, take, drop, sym, ◌∙◌, ap, arith, lit<, length-append}
-use Prim.Native.Nat as Nat
+use Rattle.std.proofs.Common.{◌≡◌, ℕ, ◌+◌, ◌-◌, ◌*◌, ◌^◌, ◌<◌, ◌≤◌, List, ◌++◌, length, take, drop, sym, ◌∙◌, ap, arith, lit<, length-append}
 use Rattle.std.specs.Int.{w16, w32, to_be_bytes}
 use Rattle.std.proofs.lemmas.Nat.{from_be_bytes-to_be_bytes_4}
 use Rattle.std.proofs.lemmas.List.{drop-drop, drop_at, take_at}
@@ -9,25 +8,11 @@ use Rattle.sha2.proofs.Facts256.{length-sha256}
 use Rattle.lmots.specs.declared.ots_type.OtsType.{OtsType}
 use Rattle.lmots.specs.declared.ots_type.OtsType.TheVariants.{W1, W2, W4, W8}
 use Rattle.lmots.specs.OtsType.{code, width, chain_count}
-use Rattle.lmots.specs.Chain.{step, steps, private_element, randomizer, joined}
+use Rattle.lmots.specs.Chain.{steps, private_element, randomizer, joined}
 use Rattle.lmots.specs.OneTime.{IsOfType, randomizer_in, element_in, digit_of, message_digest, key_of, ended, shown, finished, signature, candidate, public_key}
-use Rattle.lmots.proofs.Steps.{length-steps}
+use Rattle.lmots.proofs.Steps.{length-steps, steps-steps}
 use Rattle.lmots.proofs.Blocks.{AreBlocks, length-joined, block-joined, joined-same}
 use Rattle.lmots.proofs.LesserDigit.{coef-le}
-
-pub steps-steps : (i : List ℕ) (q chain a m n : ℕ) (x : List ℕ)
-    → steps i q chain (a + m) n (steps i q chain a m x) ≡ steps i q chain a (m + n) x
-unfolding steps
-steps-steps i q chain a Nat.zero n x =
-    let same : a + 0 ≡ a = omega arith in
-    let count : 0 + n ≡ n = omega arith in
-    ap (λ b. steps i q chain b n x) same ∙ ap (λ k. steps i q chain a k x) (sym count)
-steps-steps i q chain a (suc m) n x =
-    let y : List ℕ = step i q chain a x in
-    let place : a + suc m ≡ a + 1 + m = omega arith in
-    let count : suc m + n ≡ suc (m + n) = omega arith in
-    ap (λ b. steps i q chain b n (steps i q chain (a + 1) m y)) place ∙ steps-steps i q chain (a + 1) m n y
-    ∙ ap (λ k. steps i q chain a k x) (sym count)
 
 code_small : (kind : OtsType) → code kind < 2 ^ 32
 code_small W1 = lit< tt

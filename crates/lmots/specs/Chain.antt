@@ -3,6 +3,7 @@
 use Rattle.std.specs.Prelude.{◌≡◌, ℕ, suc, ◌+◌, List, [], ◌∷◌, ◌++◌}
 use Rattle.std.specs.Int.{w16, w32, to_be_bytes}
 use Rattle.sha2.specs.Sha256.{sha256}
+use Rattle.sha256_lanes.specs.Chain.{message, walked}
 use Prim.Native.Nat as Nat
 
 -- I || u32str(q) || u16str(chain)
@@ -11,16 +12,15 @@ head i q chain = i ++ to_be_bytes w32 q ++ to_be_bytes w16 chain
 
 -- I || u32str(q) || u16str(chain) || u8str(j) || x
 abbrev pub step_text : List ℕ → ℕ → ℕ → ℕ → List ℕ → List ℕ
-step_text i q chain j x = head i q chain ++ j ∷ [] ++ x
+step_text i q chain j x = message (head i q chain) j x
 
 -- step j of a chain: the hash of these (RFC 8554, section 4.3)
 abbrev pub step : List ℕ → ℕ → ℕ → ℕ → List ℕ → List ℕ
 step i q chain j x = sha256 (step_text i q chain j x)
 
 -- x after n steps, of which step j is the first (RFC 8554, sections 4.3, 4.5 and 4.6)
-unfoldable pub steps : List ℕ → ℕ → ℕ → ℕ → ℕ → List ℕ → List ℕ
-steps i q chain j Nat.zero x = x
-steps i q chain j (suc n) x = steps i q chain (j + 1) n (step i q chain j x)
+abbrev pub steps : List ℕ → ℕ → ℕ → ℕ → ℕ → List ℕ → List ℕ
+steps i q chain j n x = walked (head i q chain) j n x
 
 -- no steps change nothing, and the last of more is taken from what those before it reached
 pub record StepByStep : Type 0 where

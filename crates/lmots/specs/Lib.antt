@@ -3,3 +3,4 @@ pub mod Digits
 pub mod Chain
 pub mod OneTime
 pub mod SideBySide
+pub mod OnWay

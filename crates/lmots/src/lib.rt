@@ -2,7 +2,7 @@
 //!
 //! A key of this kind signs one message: its signature shows a part of each of its hash chains,
 //! and a second message with the same key would show more. The crate stands on `sha2` and, for
-//! whole chains, on `sha256_lanes`, and no call takes memory. The crate above may rely on this:
+//! chains, on `sha256_lanes`, and no call takes memory. The crate above may rely on this:
 //! `public_of`, `public_of_eight`, `sign_ots` and `candidate_key` give the RFC's values to the
 //! bit, each refusal of `candidate_key` comes exactly where its contract says, and no digest's
 //! digits with their checksum stand at or above another's in every place (`laws::winternitz`). The
@@ -14,12 +14,14 @@ mod chain;
 mod digits;
 mod hashes;
 pub mod laws;
+mod on_way;
 mod one_time;
 mod ots_type;
 pub mod pieces;
 mod side_by_side;
 #[cfg(test)]
 mod tests;
+mod turns;
 
 pub use one_time::{OtsFault, candidate_key, public_of, public_of_eight, sign_ots};
 pub use ots_type::OtsType;

@@ -1,15 +1,18 @@
 //! One-time keys and signatures: made from a seed, and judged by the key that a signature leads to.
 
-ghost use Rattle.std.specs.Prelude.{◌≡◌, ◌↔◌, ℕ, ◌+◌, ◌^◌, ◌<◌, ◌≤◌, [], length, slice_index_or, IsOk, IfOk};
-ghost use Rattle.lmots.specs.OtsType.{signature_len};
-ghost use Rattle.lmots.specs.OneTime.{public_key, signature, candidate, IsOfType, HasBadLength, HasBadType};
+ghost use Rattle.std.specs.Prelude.{◌≡◌, ◌↔◌, ℕ, ◌+◌, ◌-◌, ◌^◌, ◌<◌, ◌≤◌, List, [], length, slice_index, slice_index_or, IsOk, IfOk};
+ghost use Rattle.lmots.specs.OtsType.{chain_count, signature_len, width};
+ghost use Rattle.lmots.specs.Chain.{private_element, steps};
+ghost use Rattle.lmots.specs.OnWay.{AreOnWay, IsTable};
+ghost use Rattle.lmots.specs.OneTime.{public_key, signature, candidate, element_in, key_of, IsOfType, HasBadLength, HasBadType};
 
-use crate::chain::walk;
-use crate::digits::{digit, with_checksum};
+use crate::digits::digits_of;
 use crate::hashes::{key_hasher, message_digest, private_element};
+use crate::on_way::{Chains, begin, end_of, no_chains};
 use crate::ots_type::OtsType;
 use crate::pieces::{block_at, number_at, put};
-use crate::side_by_side::{ends_of_leaves, ends_with};
+use crate::side_by_side::{ends_of_leaves, starts_with};
+use crate::turns::walk_all;
 use sha2::Digest;
 
 // The number in place of a chain's under which the randomizer is drawn from the seed.
@@ -24,19 +27,65 @@ pub enum OtsFault {
     BadType,
 }
 
+// The chains of leaf `q` at their starts, which are drawn from the seed, each to go on until `to`.
+fn chains_from_seed(kind: OtsType, i: &[u8; 16], q: u32, seed: &[u8; 32], to: &[u8; 265]) -> Chains
+    ensures table { IsTable result.at result.to result.values }
+    ensures on { AreOnWay i.now q (chain_count kind) (λ chain. steps i.now q chain 0 (slice_index to.now chain)
+        (private_element i.now q chain seed.now)) result.at result.to result.values }
+{
+    let mut chains = no_chains();
+    let mut starts = [[0u8; 32]; 8];
+    'chains: for chain in 0..kind.chain_count() {
+        let made = starts_with(i, q, seed, chain, starts);
+        let place = chain as usize;
+        begin(&mut chains, place, 0, to[place], made[place % 8]);
+        starts = made;
+    }
+    chains
+}
+
+// The chains that a signature shows, each as far along as its digit says, to go on to their ends.
+pub(crate) fn chains_shown(kind: OtsType, signature: &[u8], digits: &[u8; 265]) -> Chains
+    requires long { length signature.now ≡ signature_len kind }
+    requires low { (chain : ℕ) → chain < chain_count kind → slice_index digits.now chain ≤ 2 ^ width kind - 1 }
+    ensures table { IsTable result.at result.to result.values }
+    ensures on { (i : List ℕ) (q : ℕ) → AreOnWay i q (chain_count kind) (λ chain. steps i q chain (slice_index digits.now chain)
+        (2 ^ width kind - 1 - slice_index digits.now chain) (element_in signature.now chain)) result.at result.to result.values }
+{
+    let mut chains = no_chains();
+    'chains: for chain in 0..kind.chain_count() as usize {
+        begin(
+            &mut chains,
+            chain,
+            digits[chain],
+            kind.top(),
+            block_at(signature, 36 + 32 * chain),
+        );
+    }
+    chains
+}
+
+// The key to which the ends of a leaf's chains lead.
+fn key_of_ends(kind: OtsType, i: &[u8; 16], q: u32, chains: &Chains) -> [u8; 32]
+    requires table { IsTable chains.now.at chains.now.to chains.now.values }
+    ensures { (z : ℕ → List ℕ) → AreOnWay i.now q (chain_count kind) z chains.now.at chains.now.to chains.now.values
+        → result ≡ key_of kind i.now q z }
+{
+    let mut hasher = key_hasher(i, q);
+    'chains: for chain in 0..kind.chain_count() {
+        hasher.update(end_of(i, q, chains, chain));
+    }
+    hasher.finalize()
+}
+
 /// The public key of leaf `q` (RFC 8554, section 4.3), whose private key is drawn from `seed` as in
 /// appendix A.
 pub fn public_of(kind: OtsType, i: &[u8; 16], q: u32, seed: &[u8; 32]) -> [u8; 32]
     ensures { result ≡ public_key kind i.now q seed.now }
 {
-    let mut hasher = key_hasher(i, q);
-    let mut ends = [[0u8; 32]; 8];
-    'chains: for chain in 0..kind.chain_count() {
-        let made = ends_with(kind, i, q, seed, chain, ends);
-        hasher.update(made[chain as usize % 8]);
-        ends = made;
-    }
-    hasher.finalize()
+    let mut chains = chains_from_seed(kind, i, q, seed, &[kind.top(); 265]);
+    walk_all(kind, i, q, &mut chains);
+    key_of_ends(kind, i, q, &chains)
 }
 
 /// The public keys of leaf `q` and the seven after it, as `public_of` makes each, in less than
@@ -91,13 +140,12 @@ pub fn sign_ots(
 {
     let randomizer = private_element(i, q, RANDOMIZER, seed);
     let digest = message_digest(i, q, &randomizer, message);
-    let string = with_checksum(kind, &digest);
+    let mut chains = chains_from_seed(kind, i, q, seed, &digits_of(kind, &digest));
+    walk_all(kind, i, q, &mut chains);
     put(out, 0, &kind.code().to_be_bytes());
     put(out, 4, &randomizer);
     'chains: for chain in 0..kind.chain_count() {
-        let start = private_element(i, q, chain, seed);
-        let last = digit(kind, &string, chain as usize);
-        let value = walk(i, q, chain, 0, last, start);
+        let value = end_of(i, q, &chains, chain);
         put(out, 36 + 32 * chain as usize, &value);
     }
 }
@@ -108,15 +156,9 @@ fn candidate_of(kind: OtsType, i: &[u8; 16], q: u32, message: &[u8], signature: 
     ensures { result ≡ candidate kind i.now q message.now signature.now }
 {
     let digest = message_digest(i, q, &block_at(signature, 4), message);
-    let string = with_checksum(kind, &digest);
-    let mut hasher = key_hasher(i, q);
-    'chains: for chain in 0..kind.chain_count() {
-        let start = block_at(signature, 36 + 32 * chain as usize);
-        let first = digit(kind, &string, chain as usize);
-        let end = walk(i, q, chain, first, kind.top(), start);
-        hasher.update(end);
-    }
-    hasher.finalize()
+    let mut chains = chains_shown(kind, signature, &digits_of(kind, &digest));
+    walk_all(kind, i, q, &mut chains);
+    key_of_ends(kind, i, q, &chains)
 }
 
 /// The candidate for the public key of leaf `q`, from a signature of `message` (RFC 8554, section

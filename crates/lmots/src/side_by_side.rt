@@ -1,10 +1,10 @@
-//! Whole chains, eight at once: eight chains of a leaf, or the same chain of eight leaves.
+//! Eight chains at once: the starts of eight chains of a leaf, or the same whole chain of eight leaves.
 
 ghost use Rattle.std.specs.Prelude.{◌≡◌, ℕ, ◌+◌, ◌-◌, ◌*◌, ◌/◌, ◌%◌, ◌^◌, ◌<◌, ◌≤◌, [], slice_index_or};
 ghost use Rattle.sha2.specs.Sha256.{sha256};
 ghost use Rattle.sha256_lanes.specs.Chain.{message, walked};
 ghost use Rattle.lmots.specs.OtsType.{width};
-ghost use Rattle.lmots.specs.Chain.{head};
+ghost use Rattle.lmots.specs.Chain.{head, private_element};
 ghost use Rattle.lmots.specs.OneTime.{ended};
 ghost use Rattle.lmots.specs.SideBySide.{ArePieces};
 
@@ -44,13 +44,6 @@ fn ends(kind: OtsType, heads: &[[u8; 22]; 8], seed: &[u8; 32]) -> [[u8; 32]; 8]
     walk(heads, 0, kind.top(), &starts)
 }
 
-fn ends_of_chains(kind: OtsType, i: &[u8; 16], q: u32, first: u16, seed: &[u8; 32]) -> [[u8; 32]; 8]
-    requires { first + 8 ≤ 65536 }
-    ensures { ArePieces (ended kind i.now q seed.now) first result }
-{
-    ends(kind, &heads_of_chains(i, q, first), seed)
-}
-
 // The ends of a chain of eight leaves, of which `first` is the first.
 pub(crate) fn ends_of_leaves(
     kind: OtsType,
@@ -65,10 +58,17 @@ pub(crate) fn ends_of_leaves(
     ends(kind, &heads_of_leaves(i, first, chain), seed)
 }
 
-// The ends of the eight chains among which `chain` is: those before it where they have it, and
-// else made anew. Where the number of chains is no multiple of eight, the last ones go unused.
-pub(crate) fn ends_with(
-    kind: OtsType,
+// The starts of eight chains of a leaf, of which `first` is the first, drawn from the seed.
+fn starts_of_chains(i: &[u8; 16], q: u32, first: u16, seed: &[u8; 32]) -> [[u8; 32]; 8]
+    requires { first + 8 ≤ 65536 }
+    ensures { ArePieces (λ chain. private_element i.now q chain seed.now) first result }
+{
+    step(&heads_of_chains(i, q, first), START, &[*seed; 8])
+}
+
+// The starts of the eight chains among which `chain` is: those before it where they have it, and
+// else drawn anew. Where the number of chains is no multiple of eight, the last ones go unused.
+pub(crate) fn starts_with(
     i: &[u8; 16],
     q: u32,
     seed: &[u8; 32],
@@ -76,11 +76,11 @@ pub(crate) fn ends_with(
     before: [[u8; 32]; 8],
 ) -> [[u8; 32]; 8]
     requires { chain + 8 ≤ 65536 }
-    ensures { (0 < chain % 8 → ArePieces (ended kind i.now q seed.now) (chain / 8 * 8) before)
-        → ArePieces (ended kind i.now q seed.now) (chain / 8 * 8) result }
+    ensures { (0 < chain % 8 → ArePieces (λ c. private_element i.now q c seed.now) (chain / 8 * 8) before)
+        → ArePieces (λ c. private_element i.now q c seed.now) (chain / 8 * 8) result }
 {
     if chain % 8 == 0 {
-        ends_of_chains(kind, i, q, chain, seed)
+        starts_of_chains(i, q, chain, seed)
     } else {
         before
     }

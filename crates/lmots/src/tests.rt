@@ -1,4 +1,9 @@
 use super::*;
+use crate::chain::walk;
+use crate::digits::digits_of;
+use crate::on_way::steps_left;
+use crate::one_time::chains_shown;
+use crate::turns::walk_all;
 use sha2::{Digest, Sha256};
 
 const I: &[u8; 16] = b"0123456789abcdef";
@@ -68,6 +73,27 @@ const MADE_ELSEWHERE: [(OtsType, u32, [u8; 32], [u8; 32]); 4] = [
     ),
 ];
 
+// RFC 8554, section 4.1, table 1: the type, its code, p, ls and the length of a signature.
+const STANDARD: [(OtsType, u32, u16, u32, usize); 4] = [
+    (OtsType::W1, 1, 265, 7, 8516),
+    (OtsType::W2, 2, 133, 6, 4292),
+    (OtsType::W4, 3, 67, 4, 2180),
+    (OtsType::W8, 4, 34, 0, 1124),
+];
+
+#[test]
+fn numbers_are_those_of_the_standard(rt: HostRuntime) {
+    for (kind, code, chains, shift, len) in STANDARD {
+        assert_eq!(rt; kind.code(), code);
+        assert_eq!(rt; OtsType::of_code(code), Some(kind));
+        assert_eq!(rt; kind.chain_count(), chains);
+        assert_eq!(rt; kind.shift(), shift);
+        assert_eq!(rt; kind.signature_len(), len);
+    }
+    assert_eq!(rt; OtsType::of_code(0), None);
+    assert_eq!(rt; OtsType::of_code(5), None);
+}
+
 #[test]
 fn agrees_with_another_implementation(rt: HostRuntime) {
     let mut out = [0u8; 8516];
@@ -95,6 +121,10 @@ fn agrees_with_another_implementation(rt: HostRuntime) {
             candidate_key(kind, I, q, MESSAGE, &signature[..3]),
             Err(OtsFault::BadLength)
         );
+        assert_eq!(rt;
+            candidate_key(kind, I, q, MESSAGE, b"\0\0\0\x09"),
+            Err(OtsFault::BadType)
+        );
         signature[3] ^= 8;
         assert_eq!(rt;
             candidate_key(kind, I, q, MESSAGE, signature),
@@ -111,5 +141,39 @@ fn eight_keys_at_once_are_those_of_one(rt: HostRuntime) {
         let keys = public_of_eight(kind, I, first, SEED);
         assert_eq!(rt; keys[(q - first) as usize], key, "{kind:?}");
         assert_eq!(rt; keys[1], public_of(kind, I, first + 1, SEED), "{kind:?}");
+    }
+}
+
+// Digests of only the lowest digits, of only the highest, of both, and of one that is not the
+// highest. That the turns leave no steps is what no contract says.
+const DIGESTS: [[u8; 32]; 4] = [
+    [0; 32],
+    [0xff; 32],
+    *b"\0\0\0\0\0\0\0\0\0\0\0\0\0\0\0\0\xff\xff\xff\xff\xff\xff\xff\xff\xff\xff\xff\xff\xff\xff\xff\xff",
+    *b"\xff\xff\xff\xff\xff\xff\xff\xff\xff\xff\xff\x07\xff\xff\xff\xff\xff\xff\xff\xff\xff\xff\xff\xff\xff\xff\xff\xff\xff\xff\xff\xff",
+];
+
+#[test]
+fn chains_of_any_length_come_to_their_ends(rt: HostRuntime) {
+    let signature = [0x5au8; 8516];
+    for kind in [OtsType::W1, OtsType::W2, OtsType::W4, OtsType::W8] {
+        let len = kind.signature_len();
+        assert!(rt; len <= 8516);
+        for digest in DIGESTS {
+            let digits = digits_of(kind, &digest);
+            let mut chains = chains_shown(kind, &signature[..len], &digits);
+            walk_all(kind, I, 7, &mut chains);
+            for chain in 0..kind.chain_count() {
+                assert!(rt; chain < 265);
+                let first = digits[chain as usize];
+                assert!(rt; first <= kind.top());
+                assert_eq!(rt; steps_left(&chains, chain), 0, "chain {chain} of {kind:?}");
+                assert_eq!(rt;
+                    chains.values[chain as usize],
+                    walk(I, 7, chain, first, kind.top(), [0x5a; 32]),
+                    "chain {chain} of {kind:?}"
+                );
+            }
+        }
     }
 }

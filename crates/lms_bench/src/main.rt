@@ -28,7 +28,7 @@ const MESSAGE: &[u8; 22] = b"a message of one line\n";
 
 // What is done, and so what is made: the SHA-256 of 55 bytes, a one-time public key, the one-time
 // public keys of eight leaves, an LMS key, its root by one hash after another, a signature with each
-// leaf in turn, or a verdict on one.
+// leaf in turn, or a verdict on one, and the last two by one hash after another.
 #[derive(Debug, Clone, Copy)]
 enum Work {
     Hash,
@@ -37,7 +37,9 @@ enum Work {
     Make,
     OneByOne,
     Sign,
+    SignAlone,
     Verify,
+    VerifyAlone,
 }
 
 #[derive(Clone, Copy)]
@@ -56,7 +58,9 @@ fn work_of(word: &str) -> Option<Work> {
         "make" => Some(Work::Make),
         "one-by-one" => Some(Work::OneByOne),
         "sign" => Some(Work::Sign),
+        "sign-one-by-one" => Some(Work::SignAlone),
         "verify" => Some(Work::Verify),
+        "verify-one-by-one" => Some(Work::VerifyAlone),
         _ => None,
     }
 }
@@ -141,6 +145,21 @@ fn make(alloc: Global, case: Case) -> Option<u32> {
     Some(last)
 }
 
+fn sign_one_by_one(alloc: Global, case: Case) -> Option<u32> {
+    let mut out = vec![in alloc; 0u8; case.ots.signature_len()].ok()?;
+    'signatures: for q in 0..case.times {
+        one_by_one::sign(
+            case.ots,
+            &I,
+            q % case.lms.leaves(),
+            &SEED,
+            MESSAGE,
+            &mut out,
+        );
+    }
+    Some(front(&Sha256::digest(out.as_slice())))
+}
+
 fn sign(secret: &SecretKey, times: u32, out: &mut [u8]) -> u32
     requires { length out.old ≡ signature_len secret.now.lms secret.now.ots }
 {
@@ -156,10 +175,16 @@ fn sign(secret: &SecretKey, times: u32, out: &mut [u8]) -> u32
 }
 
 // How many of the verdicts are true.
-fn verdicts(public: &PublicKey, signature: &[u8], times: u32) -> u32 {
+fn verdicts(public: &PublicKey, signature: &[u8], alone: bool, times: u32) -> u32
+    requires { length signature.now ≡ signature_len public.now.lms public.now.ots }
+{
     let mut good = 0;
     'verdicts: for _ in 0..times {
-        if verify(public, MESSAGE, signature) {
+        if if alone {
+            one_by_one::verify(public, MESSAGE, signature)
+        } else {
+            verify(public, MESSAGE, signature)
+        } {
             good += 1;
         }
     }
@@ -184,7 +209,12 @@ fn timed_verify(rt: &impl Clock, alloc: Global, case: Case) -> io::Result<Option
     sign(&secret, 1, &mut out);
     let public = secret.public();
     let start = Instant::now(rt)?;
-    let value = verdicts(&public, &out, case.times);
+    let value = verdicts(
+        &public,
+        &out,
+        matches!(case.work, Work::VerifyAlone),
+        case.times,
+    );
     Ok(Some((value, start.elapsed(rt)?)))
 }
 
@@ -202,8 +232,12 @@ fn timed(rt: &impl Clock, alloc: Global, case: Case) -> io::Result<Option<(u32, 
             Some(value) => value,
             None => return Ok(None),
         },
+        Work::SignAlone => match sign_one_by_one(alloc, case) {
+            Some(value) => value,
+            None => return Ok(None),
+        },
         Work::Sign => return timed_sign(rt, alloc, case),
-        Work::Verify => return timed_verify(rt, alloc, case),
+        Work::Verify | Work::VerifyAlone => return timed_verify(rt, alloc, case),
     };
     Ok(Some((value, start.elapsed(rt)?)))
 }
@@ -212,7 +246,7 @@ fn main(rt: HostRuntime) -> io::Result<()> {
     let words: Vec<String> = env::args(&rt)?.collect(rt.alloc())?;
     let Some(case) = case_of(words.as_slice()) else {
         return println!(rt;
-            "lms_bench hash|key|eight|make|one-by-one|sign|verify 5|10 1|2|4|8 TIMES [time]"
+            "lms_bench hash|key|eight|make|one-by-one|sign|sign-one-by-one|verify|verify-one-by-one 5|10 1|2|4|8 TIMES [time]"
         );
     };
     let Some((value, time)) = timed(&rt, rt.alloc(), case)? else {

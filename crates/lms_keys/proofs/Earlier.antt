@@ -9,7 +9,7 @@ use Rattle.lmots.specs.OneTime.{message_text, randomizer_in}
 use Rattle.lmots.proofs.DigitLists.{length-digits, slice_index-digits}
 use Rattle.lmots.proofs.LesserDigit.{coef-le, less_somewhere}
 use Rattle.lmots.proofs.HashBytes.{IsDigest-sha256}
-use Rattle.lmots.proofs.Signed.{steps-steps}
+use Rattle.lmots.proofs.Steps.{steps-steps}
 use Rattle.lms_keys.specs.declared.public_key.PublicKey.{PublicKey}
 use Rattle.lms_keys.specs.Signature.{IsSignature, one_time_in}
 use Rattle.lms_keys.specs.OneLeaf.{CollideInChain, OtherMessage, ShowSame, ShowsEarlier, digest_in, digit_in, shown_in}

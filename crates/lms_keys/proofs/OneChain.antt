@@ -1,8 +1,9 @@
 -- Two values of a chain: where the walks from them meet, they are the same, or texts on the walks
 -- collide.
-use Rattle.std.proofs.Common.{◌≡◌, ◌⊎◌, ℕ, suc, ◌+◌, ◌<◌, List, [], ◌∷◌, ◌++◌, inl, inr, sym, subst, refl, arith}
+use Rattle.std.proofs.Common.{◌≡◌, ◌⊎◌, ℕ, suc, ◌+◌, ◌<◌, List, [], ◌∷◌, ◌++◌, inl, inr, sym, ◌∙◌, subst, arith}
 use Prim.Native.Nat as Nat
 use Rattle.lmots.specs.Chain.{head, step, step_text, steps}
+use Rattle.lmots.proofs.Steps.{steps-first, steps-none}
 use Rattle.lms_keys.specs.OneLeaf.{Collide}
 use Rattle.lms_keys.proofs.Collisions.{back, same_or_not}
 
@@ -10,14 +11,6 @@ pub record WalksPart (i : List ℕ) (q chain a n : ℕ) (x y : List ℕ) : Type 
   pub after : ℕ
   pub short : after < n
   pub collide : Collide (step_text i q chain (a + after) (steps i q chain a after x)) (step_text i q chain (a + after) (steps i q chain a after y))
-
-steps-first : (i : List ℕ) (q chain a n : ℕ) (x : List ℕ) → steps i q chain (a + 1) n (step i q chain a x) ≡ steps i q chain a (suc n) x
-unfolding steps
-steps-first i q chain a n x = refl
-
-steps-none : (i : List ℕ) (q chain a : ℕ) (x : List ℕ) → steps i q chain a 0 x ≡ x
-unfolding steps
-steps-none i q chain a x = refl
 
 text_later : (i : List ℕ) (q chain a n : ℕ) (x : List ℕ)
     → step_text i q chain (a + 1 + n) (steps i q chain (a + 1) n (step i q chain a x)) ≡ step_text i q chain (a + suc n) (steps i q chain a (suc n) x)
@@ -34,10 +27,9 @@ collide_as : {a b c d : List ℕ} → a ≡ c → b ≡ d → Collide a b → Co
 collide_as {a} {b} {c} {d} left right found = subst (λ z. Collide z d) left (subst (λ z. Collide a z) right found)
 
 pub one_chain : (i : List ℕ) (q chain a n : ℕ) (x y : List ℕ) → steps i q chain a n x ≡ steps i q chain a n y → (x ≡ y) ⊎ WalksPart i q chain a n x y
-unfolding steps
-one_chain i q chain a Nat.zero x y same = inl same
+one_chain i q chain a Nat.zero x y same = inl (sym (steps-none i q chain a x) ∙ same ∙ steps-none i q chain a y)
 one_chain i q chain a (suc n) x y same =
-    elim (one_chain i q chain (a + 1) n (step i q chain a x) (step i q chain a y) same) [
+    elim (one_chain i q chain (a + 1) n (step i q chain a x) (step i q chain a y) (steps-first i q chain a n x ∙ same ∙ sym (steps-first i q chain a n y))) [
       | inr found ↦
           inr (record {
             after = suc found.after;

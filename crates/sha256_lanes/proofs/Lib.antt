@@ -5,4 +5,5 @@ mod Rotations
 mod Sixteen
 mod Walking
 mod Progress
-mod Steps
+pub mod Steps
+mod Choosing

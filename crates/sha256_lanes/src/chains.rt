@@ -5,13 +5,13 @@ ghost use Rattle.sha2.specs.Sha256.{compress, digest_bytes, initial_hash_256, pa
 ghost use Rattle.sha256_lanes.specs.Lanes.{AreLanes, AreLong, lane};
 ghost use Rattle.sha256_lanes.specs.Rounds.{IsMiddle};
 ghost use Rattle.sha256_lanes.specs.Chain.{message, walked};
-ghost use Rattle.sha256_lanes.specs.Message.{HasHeads, Spell};
+ghost use Rattle.sha256_lanes.specs.Message.{AreSteps, HasHeads, Spell};
 
 use crate::message::{block_words, head_end, head_word, value_word};
 use crate::rounds::{compress_from, first_five};
 use std::simd::u32x8;
 
-fn head_words(heads: &[[u8; 22]; 8]) -> [u32x8; 6]
+pub(crate) fn head_words(heads: &[[u8; 22]; 8]) -> [u32x8; 6]
     ensures { HasHeads (λ i. slice_index_or heads.now i []) result }
 {
     [
@@ -24,7 +24,7 @@ fn head_words(heads: &[[u8; 22]; 8]) -> [u32x8; 6]
     ]
 }
 
-fn value_words(values: &[[u8; 32]; 8]) -> [u32x8; 8]
+pub(crate) fn value_words(values: &[[u8; 32]; 8]) -> [u32x8; 8]
     ensures { Spell result values.now }
 {
     [
@@ -58,7 +58,7 @@ fn bytes_in(state: &[u32x8; 8], place: usize) -> [u8; 32]
     bytes
 }
 
-fn bytes_of(state: &[u32x8; 8]) -> [[u8; 32]; 8]
+pub(crate) fn bytes_of(state: &[u32x8; 8]) -> [[u8; 32]; 8]
     ensures { (i : ℕ) → i < 8 → slice_index_or result i [] ≡ digest_bytes (lane state.now i) 8 }
 {
     let mut values = [[0u8; 32]; 8];
@@ -68,20 +68,20 @@ fn bytes_of(state: &[u32x8; 8]) -> [[u8; 32]; 8]
     values
 }
 
-// The words of the values after step `step`, from those before it.
+// The words of the values after the steps of these numbers, from those before them.
 #[inline(always)]
-fn stepped(
+pub(crate) fn stepped(
     words: &[u32x8; 6],
     middle: &[u32x8; 8],
-    step: u8,
+    steps: u32x8,
     state: [u32x8; 8],
     room: &mut [u32x8; 64],
 ) -> [u32x8; 8]
-    ensures { (heads : ℕ → List ℕ) → HasHeads heads words.now → IsMiddle words.now middle.now → AreLong 8 state
-        → AreLanes 8 result (λ i.
-        compress initial_hash_256 (padded_message (message (heads i) step (digest_bytes (lane state i) 8)))) }
+    ensures { (heads : ℕ → List ℕ) (number : ℕ → ℕ) → HasHeads heads words.now → AreSteps number steps → IsMiddle words.now middle.now
+        → AreLong 8 state → AreLanes 8 result (λ i.
+        compress initial_hash_256 (padded_message (message (heads i) (number i) (digest_bytes (lane state i) 8)))) }
 {
-    compress_from(middle, block_words(words, step, &state), room)
+    compress_from(middle, block_words(words, steps, &state), room)
 }
 
 /// The SHA-256 of eight messages, each a head, the step's number and a value.
@@ -92,7 +92,13 @@ pub fn step(heads: &[[u8; 22]; 8], number: u8, values: &[[u8; 32]; 8]) -> [[u8; 
     let words = head_words(heads);
     let middle = first_five(&words);
     let mut room = [u32x8::splat(0); 64];
-    bytes_of(&stepped(&words, &middle, number, value_words(values), &mut room))
+    bytes_of(&stepped(
+        &words,
+        &middle,
+        u32x8::splat(number as u32),
+        value_words(values),
+        &mut room,
+    ))
 }
 
 /// The values of eight chains after their steps `from` to `to` - 1, each step a SHA-256 of the
@@ -107,7 +113,7 @@ pub fn walk(heads: &[[u8; 22]; 8], from: u8, to: u8, values: &[[u8; 32]; 8]) -> 
     let mut state = value_words(values);
     let mut room = [u32x8::splat(0); 64];
     'steps: for step in from..to {
-        let next = stepped(&words, &middle, step, state, &mut room);
+        let next = stepped(&words, &middle, u32x8::splat(step as u32), state, &mut room);
         state = next;
     }
     bytes_of(&state)

@@ -6,7 +6,7 @@ ghost use Rattle.sha2.specs.Sha256.{digest_bytes, padded_message, word_at};
 ghost use Rattle.sha256_lanes.specs.Lanes.{AreLong, IsLanes, lane};
 ghost use Rattle.sha256_lanes.specs.Rounds.{HasWords};
 ghost use Rattle.sha256_lanes.specs.Chain.{message};
-ghost use Rattle.sha256_lanes.specs.Message.{HasHeads, SpellsAt, end_of, straddling};
+ghost use Rattle.sha256_lanes.specs.Message.{AreSteps, HasHeads, SpellsAt, end_of, straddling};
 
 use std::simd::u32x8;
 
@@ -92,18 +92,18 @@ fn straddle(x: u32x8, y: u32x8) -> u32x8
 
 // The word of a head's last two bytes, a step's number and the first byte of a value.
 #[inline(always)]
-fn step_word(ends: u32x8, step: u8, first: u32x8) -> u32x8
-    ensures { (end : ℕ → ℕ) → IsLanes 8 ends (λ i. end i * 65536)
-        → IsLanes 8 result (λ i. end i * 65536 + step * 256 + slice_index first i / 2 ^ 24 % 256) }
+fn step_word(ends: u32x8, steps: u32x8, first: u32x8) -> u32x8
+    ensures { (end number : ℕ → ℕ) → IsLanes 8 ends (λ i. end i * 65536) → AreSteps number steps
+        → IsLanes 8 result (λ i. end i * 65536 + number i * 256 + slice_index first i / 2 ^ 24 % 256) }
 {
-    ends + u32x8::splat(step as u32 * 256) + (first >> u32x8::splat(24))
+    ends + (steps << u32x8::splat(8)) + (first >> u32x8::splat(24))
 }
 
-// The blocks of step `step`, from the heads' words and the words of the values before it.
+// The blocks of the steps of these numbers, from the heads' words and the words of the values before them.
 #[inline(always)]
-pub(crate) fn block_words(words: &[u32x8; 6], step: u8, state: &[u32x8; 8]) -> [u32x8; 16]
-    ensures { (heads : ℕ → List ℕ) → HasHeads heads words.now → AreLong 8 state.now
-        → HasWords 16 (λ i. padded_message (message (heads i) step (digest_bytes (lane state.now i) 8))) result }
+pub(crate) fn block_words(words: &[u32x8; 6], steps: u32x8, state: &[u32x8; 8]) -> [u32x8; 16]
+    ensures { (heads : ℕ → List ℕ) (number : ℕ → ℕ) → HasHeads heads words.now → AreSteps number steps → AreLong 8 state.now
+        → HasWords 16 (λ i. padded_message (message (heads i) (number i) (digest_bytes (lane state.now i) 8))) result }
 {
     [
         words[0],
@@ -111,7 +111,7 @@ pub(crate) fn block_words(words: &[u32x8; 6], step: u8, state: &[u32x8; 8]) -> [
         words[2],
         words[3],
         words[4],
-        step_word(words[5], step, state[0]),
+        step_word(words[5], steps, state[0]),
         straddle(state[0], state[1]),
         straddle(state[1], state[2]),
         straddle(state[2], state[3]),

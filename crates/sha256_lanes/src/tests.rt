@@ -51,6 +51,25 @@ fn each_lane_is_the_hash_of_its_message(rt: HostRuntime) {
     }
 }
 
+// No steps, one, some, and the last that a byte can number.
+const FROM: [u8; 8] = [0, 3, 250, 255, 7, 0, 100, 254];
+
+const TO: [u8; 8] = [0, 4, 255, 255, 10, 2, 103, 255];
+
+#[test]
+fn each_lane_stops_at_its_own_end(rt: HostRuntime) {
+    let heads = heads();
+    let values = values();
+    let made = walk_between(&heads, &FROM, &TO, &values);
+    for lane in 0..8 {
+        let mut value = values[lane];
+        for number in FROM[lane]..TO[lane] {
+            value = hashed(&heads[lane], number, &value);
+        }
+        assert_eq!(rt; made[lane], value, "lane {lane}");
+    }
+}
+
 // What Python's hashlib makes of the 55 bytes below.
 const EXPECTED: [u8; 32] = [
     0x59, 0x56, 0x15, 0xdb, 0xe4, 0xf0, 0xf4, 0x07, 0xae, 0x39, 0x7d, 0x08, 0xb4, 0xc2, 0xcb, 0x87,

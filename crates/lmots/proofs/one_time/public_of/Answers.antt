@@ -1,25 +1,19 @@
-use Rattle.std.proofs.Common.{◌≡◌, ℕ, ◌+◌, ◌*◌, ◌/◌, ◌%◌, [], ◌++◌, slice_index_or, ◌∙◌, ap, subst, arith}
-use Rattle.std.specs.Int.{w16, w32, to_be_bytes}
-use Rattle.sha2.specs.Hashers.{Holds256}
+use Rattle.std.proofs.Common.{◌∙◌, arith}
+use Rattle.std.proofs.lemmas.Simd.{get_or-replicate}
+use Rattle.lmots.specs.OtsType.{chain_count}
+use Rattle.lmots.specs.Chain.{private_element, steps}
 use Rattle.lmots.specs.OneTime.{ended}
-use Rattle.lmots.proofs.Rows.{joined_none, joined_more}
+use Rattle.lmots.proofs.Numbers.{few_chains}
+use Rattle.lmots.proofs.OnTheWay.{on_said}
 use Rattle.lmots.proofs.one_time.public_of.Goals as goal
 
-pub chains-init : goal.chains-init
-chains-init c = record {
-  held = subst (Holds256 c.key_hasher-hasher.result) (joined_none _ (ended c.args.kind c.args.i.now c.args.q c.args.seed.now)) c.key_hasher-hasher.ensures;
-  ends = λ more. absurd (omega (arith, more));
-}
-
-pub chains-preserved : goal.chains-preserved
-chains-preserved c =
-    let z = ended c.args.kind c.args.i.now c.args.q c.args.seed.now in
-    let made = c.ends_with-made.ensures c.chains.invariant.ends in
-    let place : c.chains.chain / 8 * 8 + c.chains.chain % 8 ≡ c.chains.chain = omega arith in
-    let end : slice_index_or c.ends_with-made.result (c.chains.chain % 8) [] ≡ z c.chains.chain = made.at (c.chains.chain % 8) (omega arith) ∙ ap z place in
-    record {
-      held = subst (Holds256 c.update.new.self) (joined_more (c.args.i.now ++ to_be_bytes w32 c.args.q ++ to_be_bytes w16 0x8080) z c.chains.chain _ end) (c.update.ensures _ c.chains.invariant.held);
-      ends = λ more.
-          let same : c.chains.chain / 8 * 8 ≡ (c.chains.chain + 1) / 8 * 8 = omega (arith, more) in
-          record { at = λ k lt. made.at k lt ∙ ap (λ (n : ℕ). z (n + k)) same };
-    }
+pub returns : goal.returns
+returns c =
+    let kind = c.args.kind in
+    let i = c.args.i.now in
+    let q = c.args.q in
+    let seed = c.args.seed.now in
+    let begun = on_said i q (chain_count kind) _ (ended kind i q seed) _ _ _
+    (λ chain lt k. steps i q chain 0 ((get_or-replicate 265 chain c.top.result 0 (omega (arith, few_chains kind)) ∙ c.top.ensures) k) (private_element i q chain seed))
+    c.chains_from_seed-chains.ensures.on in
+    c.key_of_ends.ensures (ended kind i q seed) (c.walk_all.ensures.goes (ended kind i q seed) begun)

@@ -2,10 +2,9 @@ use Rattle.std.proofs.Common.{◌≡◌, ℕ, ◌+◌, ◌*◌, ◌++◌, ◌∙
 use Rattle.std.proofs.lemmas.List.{take_all}
 use Rattle.std.specs.Int.{w32, to_be_bytes}
 use Rattle.lmots.specs.OtsType.{code, chain_count}
-use Rattle.lmots.specs.Digits.{with_checksum}
-use Rattle.lmots.specs.Chain.{randomizer, joined}
-use Rattle.lmots.specs.OneTime.{shown, message_digest}
-use Rattle.lmots.proofs.Steps.{shown_is}
+use Rattle.lmots.specs.Chain.{private_element, randomizer, joined, steps}
+use Rattle.lmots.specs.OneTime.{digit_of, shown, message_digest}
+use Rattle.lmots.proofs.OnTheWay.{on_said}
 use Rattle.lmots.proofs.Rows.{written_none, written_more}
 use Rattle.lmots.proofs.one_time.sign_ots.Goals as goal
 
@@ -18,14 +17,23 @@ chains-init c =
 
 pub chains-preserved : goal.chains-preserved
 chains-preserved c =
-    let digest = message_digest c.args.i.now c.args.q (randomizer c.args.i.now c.args.q c.args.seed.now) c.args.message.now in
-    written_more 36 (to_be_bytes w32 (code c.args.kind) ++ randomizer c.args.i.now c.args.q c.args.seed.now)
-    (shown c.args.kind c.args.i.now c.args.q c.args.seed.now digest)
-    c.chains.chain c.chains.out c.put-in-chains.new.out c.walk-value.result (omega arith)
-    (shown_is c.args.kind c.args.i.now c.args.q c.args.seed.now digest c.with_checksum-string.result c.chains.chain c.digit-last.result c.private_element-start.result c.walk-value.result
-    (c.with_checksum-string.ensures ∙ ap (λ (d : List ℕ). with_checksum c.args.kind d)
-    (c.message_digest-digest.ensures ∙ ap (λ (r : List ℕ). message_digest c.args.i.now c.args.q r c.args.message.now) c.private_element-randomizer.ensures))
-    c.private_element-start.ensures c.digit-last.ensures c.walk-value.ensures)
+    let kind = c.args.kind in
+    let i = c.args.i.now in
+    let q = c.args.q in
+    let seed = c.args.seed.now in
+    let message = c.args.message.now in
+    let r : List ℕ = randomizer i q seed in
+    let digest : List ℕ = message_digest i q r message in
+    let hashed : c.message_digest-digest.result ≡ digest =
+    c.message_digest-digest.ensures ∙ ap (λ l. message_digest i q l message) c.private_element-randomizer.ensures in
+    let z = shown kind i q seed digest in
+    let begun = on_said i q (chain_count kind) _ z _ _ _
+    (λ chain lt.
+    let digit = c.digits_of.ensures.digits chain lt ∙ ap (λ d. digit_of kind d chain) hashed in
+    λ k. steps i q chain 0 (digit k) (private_element i q chain seed))
+    c.chains_from_seed-chains.ensures.on in
+    let end = c.end_of-value.ensures (chain_count kind) z (omega arith) (c.walk_all.ensures.goes z begun) in
+    written_more 36 (to_be_bytes w32 (code kind) ++ r) z c.chains.chain c.chains.out c.put-in-chains.new.out c.end_of-value.result (omega arith) end
     c.chains.invariant c.put-in-chains.ensures.front
 
 pub returns : goal.returns

@@ -1,0 +1,5 @@
+use Rattle.std.proofs.Common.{◌≡◌, ℕ, ◌<◌, length, slice_index}
+use Rattle.lmots.proofs.turns.first_lanes.Given as goal
+
+abbrev pub invariant-lanes : goal.invariant-lanes
+invariant-lanes l = (length l.lanes ≡ 8) × ((k : ℕ) → k < l.lane → slice_index l.lanes k < l.count)
