@@ -13,7 +13,7 @@ small_part bytes at k small =
     ]
 
 -- four bytes spell the number that they are read as
-number_bytes : (bytes : List ℕ) (at n : ℕ) → at + 4 ≤ length bytes → ((k : ℕ) → get_or bytes k 0 < 256)
+pub number_bytes : (bytes : List ℕ) (at n : ℕ) → at + 4 ≤ length bytes → ((k : ℕ) → get_or bytes k 0 < 256)
     → n ≡ from_be_bytes w32 (take 4 (drop at bytes)) → to_be_bytes w32 n ≡ take 4 (drop at bytes)
 number_bytes bytes at n room small read =
     be_bytes_4 (take 4 (drop at bytes)) n (omega (arith, length-take 4 (drop at bytes), length-drop at bytes))

@@ -2,6 +2,8 @@ pub mod Climbing
 pub mod Growing
 pub mod KeyBytes
 pub mod SameKey
+pub mod OnBytes
+pub mod Levels
 pub mod Signing
 pub mod Written
 pub mod Filling

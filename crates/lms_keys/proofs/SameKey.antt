@@ -40,7 +40,7 @@ code_small H15 = lit< tt
 code_small H20 = lit< tt
 code_small H25 = lit< tt
 
-ots_code_small : (ots : OtsType) → one_time.code ots < 2 ^ 32
+pub ots_code_small : (ots : OtsType) → one_time.code ots < 2 ^ 32
 ots_code_small W1 = lit< tt
 ots_code_small W2 = lit< tt
 ots_code_small W4 = lit< tt

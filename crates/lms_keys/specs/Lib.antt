@@ -2,5 +2,6 @@ pub mod LmsType
 pub mod Tree
 pub mod PublicKey
 pub mod Signature
+pub mod SigOk
 pub mod Secret
 pub mod OneLeaf

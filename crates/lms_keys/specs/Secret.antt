@@ -24,6 +24,11 @@ pub record AreNodesFrom
   pub each : (r : ℕ) → first ≤ r → r < 2 * 2 ^ height lms
       → slice_index_or nodes r [] ≡ tree_node ots (height lms) i seed r
 
+-- what a key keeps: an identifier of 16 bytes, and all nodes of its tree
+pub record HasTree (lms : LmsType) (ots : OtsType) (i seed : List ℕ) (nodes : List (List ℕ)) : Type 0 where
+  pub identifier : length i ≡ 16
+  pub tree : AreNodesFrom lms ots i seed nodes 1
+
 -- path[level] of a leaf node, as a table of nodes has it
 abbrev pub path_in_table : List (List ℕ) → ℕ → ℕ → List ℕ
 path_in_table nodes leaf level = slice_index_or nodes (beside (leaf / 2 ^ level)) []

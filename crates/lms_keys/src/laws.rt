@@ -4,6 +4,7 @@ ghost use Rattle.std.specs.Prelude.{◌≡◌, ◌+◌, ◌*◌, ◌^◌, ◌<�
 ghost use Rattle.lms_keys.specs.LmsType.{height};
 ghost use Rattle.lms_keys.specs.OneLeaf.{OneLeaf, OtherMessage};
 ghost use Rattle.lms_keys.specs.PublicKey.{OneKey};
+ghost use Rattle.lms_keys.specs.SigOk.{ByOneKey};
 ghost use Rattle.lms_keys.specs.Tree.{inner_value, leaf_of, tree_node};
 
 use crate::lms_type::LmsType;
@@ -24,6 +25,11 @@ pub fn tree(lms: LmsType, ots: OtsType, i: &[u8], seed: &[u8], node: u32)
 /// Two public keys that are written as the same bytes are one.
 pub fn one_key()
     ensures { OneKey }
+{}
+
+/// By the bytes of an LMS key exactly those signatures are good that are good for the key.
+pub fn by_one_key()
+    ensures { ByOneKey }
 {}
 
 /// Two good signatures of a key with one leaf lead to the same ends of its chains and have the same

@@ -36,13 +36,13 @@ pub struct SecretKey {
 }
 
 impl Model for SecretKey {
-    ghost use Rattle.lms_keys.specs.Secret.{AreNodesFrom, Secret};
+    ghost use Rattle.lms_keys.specs.Secret.{HasTree, Secret};
 
     ghost Value = { Secret };
 
     ghost view = { λ s. record { lms = s.lms; ots = s.ots; i = s.i; seed = s.seed } };
 
-    ghost invariant = { λ s. AreNodesFrom s.lms s.ots s.i s.seed s.nodes.items 1 };
+    ghost invariant = { λ s. HasTree s.lms s.ots s.i s.seed s.nodes.items };
 }
 
 // The values of the leaf nodes, eight leaves at a time.
@@ -119,7 +119,9 @@ impl SecretKey {
     ghost use Rattle.std.specs.Prelude.{◌≡◌, ◌^◌, ◌<◌, ◌↔◌, length, IfOk};
     ghost use Rattle.lms_keys.specs.LmsType.{height, signature_len};
     ghost use Rattle.lms_keys.specs.Secret.{public_key_of, signature};
-    ghost use Rattle.lms_keys.specs.Signature.{IsSignature, leaf_in};
+    ghost use Rattle.lms_keys.specs.PublicKey.{key_bytes};
+    ghost use Rattle.lms_keys.specs.Signature.{leaf_in};
+    ghost use Rattle.lms_keys.specs.SigOk.{SigOk};
 
     /// Makes the key of these types with identifier `i`, from a seed. It hashes the whole tree,
     /// each hash once.
@@ -182,7 +184,7 @@ impl SecretKey {
         requires leaf { q < 2 ^ height self.now.lms }
         requires room { length out.old ≡ signature_len self.now.lms self.now.ots }
         ensures bytes { out.new ≡ signature self.now q message.now }
-        ensures good { IsSignature (public_key_of self.now) message.now out.new }
+        ensures good { SigOk (key_bytes (public_key_of self.now)) message.now out.new }
         ensures leaf { leaf_in out.new ≡ q }
     {
         let len = self.ots.signature_len();

@@ -124,13 +124,14 @@ fn agrees(
         signature[at] ^= bits;
     }
     assert!(rt; verify(&public, MESSAGE, &signature));
-    signature.push(0)?;
-    assert!(rt; !verify(&public, MESSAGE, &signature));
+    assert!(rt; verify_any(&public.write(), MESSAGE, &signature));
     let other = PublicKey {
         lms: LmsType::H10,
         ..public
     };
-    assert!(rt; !verify(&other, MESSAGE, &signature[..len]));
+    assert!(rt; !verify(&other, MESSAGE, &signature));
+    signature.push(0)?;
+    assert!(rt; !verify(&public, MESSAGE, &signature));
     Ok(())
 }
 
@@ -209,5 +210,124 @@ fn makes_no_taller_keys(rt: HostRuntime) {
 fn makes_a_key_of_ten_levels(rt: HostRuntime) -> Result<(), Fail> {
     let secret = SecretKey::of(rt.alloc(), LmsType::H10, OtsType::W2, I, SEED)?;
     assert_eq!(rt; secret.leaves(), 1024);
+    Ok(())
+}
+
+// RFC 8554, section 5.1, table 2: the type, its code, and its height; and the length of a signature
+// with W8, which is 8 bytes, those of the one-time signature, and 32 for each level.
+const CODES: [(LmsType, u32, u32, usize); 5] = [
+    (LmsType::H5, 5, 5, 1292),
+    (LmsType::H10, 6, 10, 1452),
+    (LmsType::H15, 7, 15, 1612),
+    (LmsType::H20, 8, 20, 1772),
+    (LmsType::H25, 9, 25, 1932),
+];
+
+#[test]
+fn numbers_are_those_of_the_standard(rt: HostRuntime) {
+    for (lms, code, height, len) in CODES {
+        assert_eq!(rt; lms.code(), code);
+        assert_eq!(rt; LmsType::of_code(code), Some(lms));
+        assert_eq!(rt; lms.height(), height);
+        assert_eq!(rt; lms.leaves(), 1 << height);
+        assert_eq!(rt; lms.signature_len(OtsType::W8), len);
+    }
+    assert_eq!(rt; LmsType::of_code(4), None);
+    assert_eq!(rt; LmsType::of_code(10), None);
+}
+
+// A byte in each part: the number of signed keys; then the leaf, the one-time type, the randomizer,
+// the first chain, the type and the path of the first signature; the types, the identifier and the
+// root of the second key; and the parts of the second signature.
+const PLACES: [usize; 20] = [
+    3, 7, 11, 12, 44, 1135, 1136, 1295, 1299, 1303, 1304, 1320, 1351, 1355, 1359, 1360, 1392, 2483,
+    2484, 2643,
+];
+
+#[test]
+fn takes_the_signature_of_the_standard(rt: HostRuntime) {
+    let message = standard::MESSAGE;
+    let mut key = standard::KEY;
+    let mut signature = standard::SIGNATURE;
+    assert!(rt; verify_any(&key, message, &signature));
+    assert!(rt; !verify_any(&key, MESSAGE, &signature));
+    for at in PLACES {
+        assert!(rt; at < 2644);
+        signature[at] ^= 1;
+        assert!(rt; !verify_any(&key, message, &signature), "byte {at}");
+        signature[at] ^= 1;
+    }
+    // The number of levels, the types, the identifier and the root.
+    for (at, bits) in [(3, 1), (3, 2), (3, 11), (7, 3), (11, 7), (12, 1), (59, 1)] {
+        assert!(rt; at < 60);
+        key[at] ^= bits;
+        assert!(rt;
+            !verify_any(&key, message, &signature),
+            "byte {at} of the key"
+        );
+        key[at] ^= bits;
+    }
+    for len in [0, 3, 4, 1296, 1352, 2643] {
+        assert!(rt; len <= 2644);
+        assert!(rt;
+            !verify_any(&key, message, &signature[..len]),
+            "{len} bytes"
+        );
+    }
+    for len in [0, 3, 56, 59] {
+        assert!(rt; len <= 60);
+        assert!(rt;
+            !verify_any(&key[..len], message, &signature),
+            "a key of {len} bytes"
+        );
+    }
+    // The first key signs the second by itself, and the second the message.
+    assert!(rt; verify_any(&key[4..], &signature[1296..1352], &signature[4..1296]));
+    assert!(rt; verify_any(&signature[1296..1352], message, &signature[1352..]));
+    assert!(rt; !verify_any(&key[4..], message, &signature[1352..]));
+}
+
+// The key that signs itself seven times, and then the message: u32str(7), seven signed keys and a
+// signature. With u32str(0) and one level it is the signature alone.
+#[test]
+fn takes_eight_levels_and_one(rt: HostRuntime) -> Result<(), Fail> {
+    let secret = SecretKey::of(rt.alloc(), LmsType::H5, OtsType::W2, I, SEED)?;
+    let public = secret.public().write();
+    let mut link = vec![in rt.alloc(); 0u8; secret.signature_len()]?;
+    secret.sign_at(0, &public, &mut link);
+    let mut text = Vec::new(rt.alloc());
+    text.extend_from_slice(&[0, 0, 0, 7])?;
+    for _ in 0..7 {
+        text.extend_from_slice(&link)?;
+        text.extend_from_slice(&public)?;
+    }
+    secret.sign_at(1, MESSAGE, &mut link);
+    text.extend_from_slice(&link)?;
+    let mut key = Vec::new(rt.alloc());
+    key.extend_from_slice(&[0, 0, 0, 8])?;
+    key.extend_from_slice(&public)?;
+    assert!(rt; verify_any(&key, MESSAGE, &text));
+    // A byte of the fifth link.
+    assert!(rt; text.len() > 20000);
+    text[20000] ^= 1;
+    assert!(rt; !verify_any(&key, MESSAGE, &text));
+    text[20000] ^= 1;
+    let mut one = Vec::new(rt.alloc());
+    one.extend_from_slice(&[0, 0, 0, 0])?;
+    one.extend_from_slice(&link)?;
+    assert!(rt; key.len() > 3);
+    assert!(rt; !verify_any(&key, MESSAGE, &one));
+    key[3] = 1;
+    assert!(rt; verify_any(&key, MESSAGE, &one));
+    assert!(rt; !verify_any(&key, MESSAGE, &text));
+    // Nine levels: eight signed keys and a signature.
+    let mut nine = Vec::new(rt.alloc());
+    nine.extend_from_slice(&[0, 0, 0, 8])?;
+    secret.sign_at(0, &public, &mut link);
+    nine.extend_from_slice(&link)?;
+    nine.extend_from_slice(&public)?;
+    nine.extend_from_slice(&text[4..])?;
+    key[3] = 9;
+    assert!(rt; !verify_any(&key, MESSAGE, &nine));
     Ok(())
 }
