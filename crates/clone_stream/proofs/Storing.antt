@@ -67,12 +67,12 @@ module _ {S : Type 0} (keeper : Ghosts S) (left left_now : Option (List ℕ)) (o
         → LeavesRefused keeper left left_now old new (from_keeper fault)
     commit_leaves keeper_fault.Failed told leaves = record {
       held = λ r now. elim ((told r now).2) [
-        inl as_was ↦ inl (same.content r ((told r now).1 ∙ ap Some (sym as_was)))
+        | inl as_was ↦ inl (same.content r ((told r now).1 ∙ ap Some (sym as_was)))
         | inr is ↦ inr (spells (told r now).0 r (told r now).1 is)
       ];
       tells = λ tells. same.tells (leaves.tells tells);
       stop = λ tells r now. elim (leaves.left tells r now) [
-        inl past ↦ inl ((same.left (leaves.tells tells) r).0 past)
+        | inl past ↦ inl ((same.left (leaves.tells tells) r).0 past)
         | inr is ↦ inr (spells is.0 r is.1 is.2)
       ];
     }

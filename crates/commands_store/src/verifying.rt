@@ -32,10 +32,12 @@ pub fn verify_ending(outcome: &Result<Verdict, VerifyFault>) -> Ending
 {
     match outcome {
         Ok(Verdict::Accepted { count: _ }) => Ending::Done,
-        Ok(Verdict::TipDiffers {
-            kept: _,
-            recorded: _,
-        }) => Ending::Differs,
+        Ok(
+            Verdict::TipDiffers {
+                kept: _,
+                recorded: _,
+            },
+        ) => Ending::Differs,
         Err(VerifyFault::Unopened { fault }) => Ending::Refused {
             refusal: take_refusal(fault),
         },

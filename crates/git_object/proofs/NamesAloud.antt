@@ -34,8 +34,8 @@ pair_found x y [] has = absurd (false≢true has)
 pair_found x y (b ∷ []) has = absurd (false≢true has)
 pair_found x y (b ∷ c ∷ bs) has = elim (either (b == x && c == y) (has_pair x y (c ∷ bs)) has) [
   | inl here ↦
-    let parts = and_parts (b == x) (c == y) here in
-    ([], bs, ap (λ (k : ℕ). k ∷ c ∷ bs) (eqb-true b x parts.0) ∙ ap (λ (k : ℕ). x ∷ k ∷ bs) (eqb-true c y parts.1))
+      let parts = and_parts (b == x) (c == y) here in
+      ([], bs, ap (λ (k : ℕ). k ∷ c ∷ bs) (eqb-true b x parts.0) ∙ ap (λ (k : ℕ). x ∷ k ∷ bs) (eqb-true c y parts.1))
   | inr later ↦ further x y b (c ∷ bs) (pair_found x y (c ∷ bs) later)
 ]
 

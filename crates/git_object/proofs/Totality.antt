@@ -124,14 +124,17 @@ pub tag_decided : (body : List ℕ) → ((v : Tag) × IsTagText v body) ⊎ ((at
 tag_decided body = elim (id_line_front (codes "object ") body) [
   | inl object ↦ elim (type_line_front object.more) [
     | inl type ↦ inl (record { object = object.id; kind = type.kind; rest = type.more }, record { object_is = object.is; text = object.whole ∙ ap (λ (t : List ℕ). object_line object.id ++ t) type.whole })
-    | inr none ↦ inr (length (object_line object.id), inr (record {
-      object = object.id;
-      rest = object.more;
-      object_is = object.is;
-      front = object.whole;
-      place = refl;
-      no_type = λ k more e. none (record { kind = k; more = more; whole = e });
-    }))
+    | inr none ↦ inr (
+      length (object_line object.id),
+      inr (record {
+        object = object.id;
+        rest = object.more;
+        object_is = object.is;
+        front = object.whole;
+        place = refl;
+        no_type = λ k more e. none (record { kind = k; more = more; whole = e });
+      }),
+    )
   ]
   | inr none ↦ inr (0, inl (record { place = refl; no_object = λ id more is e. none (record { id = id; more = more; is = is; whole = e }) }))
 ]
@@ -299,14 +302,17 @@ all_read : (body : List ℕ) (es : List TreeEntry) (rest : List ℕ) → IsTreeF
 all_read body es rest front none = inl (record { entries = es }, record { entries_are = front.entries_are; text = front.front ∙ ap (λ (t : List ℕ). entries_text es ++ t) none ∙ append-nil (entries_text es) })
 
 no_entry_left : (body : List ℕ) (es : List TreeEntry) (rest : List ℕ) → IsTreeFront es body rest → rest ≢ [] → (EntryFront rest → ⊥) → TreeRead body
-no_entry_left body es rest front some none = inr (length (entries_text es), record {
-  entries = es;
-  rest = rest;
-  front = front;
-  place = refl;
-  left = some;
-  no_entry = λ e more are whole. none (record { entry = e; more = more; name = name_of_last es e are; id = id_of_last es e are; whole = whole });
-})
+no_entry_left body es rest front some none = inr (
+  length (entries_text es),
+  record {
+    entries = es;
+    rest = rest;
+    front = front;
+    place = refl;
+    left = some;
+    no_entry = λ e more are whole. none (record { entry = e; more = more; name = name_of_last es e are; id = id_of_last es e are; whole = whole });
+  },
+)
 
 late_entry : (body : List ℕ) (es : List TreeEntry) (rest : List ℕ) → IsTreeFront es body rest → (found : EntryFront rest) → (AllPrecede es found.entry → ⊥) → TreeRead body
 late_entry body es rest front found late = inr (length body - length rest, fault_of_order es found.entry body rest found.more front found.name found.id found.whole late)

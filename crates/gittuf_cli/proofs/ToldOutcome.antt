@@ -35,8 +35,8 @@ module _ {S K R : Type 0} (source_of : source.Ghosts S) (sink_of : sink.Ghosts K
       (VerifyEnds name stdin keeper_of (source_of.left before.source) (source_of.left after.source) before.keeper after.keeper (sink_of.contents before.sink) (sink_of.contents after.sink))
       (VerifyComes name stdin content.held content.bytes)
       (λ (outcome : Result Verdict VerifyFault) means.
-        store.verify name stdin content.bytes (source_of.left after.source) content.held now before.keeper after.keeper (sink_of.contents before.sink) (sink_of.contents after.sink) outcome held holds
-        (subst (λ (l : Option (List ℕ)). VerifyEnds name stdin keeper_of l (source_of.left after.source) before.keeper after.keeper (sink_of.contents before.sink) (sink_of.contents after.sink) outcome) left means))
+      store.verify name stdin content.bytes (source_of.left after.source) content.held now before.keeper after.keeper (sink_of.contents before.sink) (sink_of.contents after.sink) outcome held holds
+      (subst (λ (l : Option (List ℕ)). VerifyEnds name stdin keeper_of l (source_of.left after.source) before.keeper after.keeper (sink_of.contents before.sink) (sink_of.contents after.sink) outcome) left means))
       ending ends.0
   told_comes command.Export before after ending content now left held holds ends =
       let same : now ≡ content.held = sym (same_some content.held now (keeper_of.content before.keeper) held (ends.1.content now holds)) in
@@ -44,17 +44,17 @@ module _ {S K R : Type 0} (source_of : source.Ghosts S) (sink_of : sink.Ghosts K
       (ExportEnds (keeper_of.content after.keeper) (sink_of.contents before.sink) (sink_of.contents after.sink))
       (ExportComes content.held)
       (λ (outcome : Result (Unit {0}) ExportFault) means.
-        store.export content.held (sink_of.contents before.sink) (sink_of.contents after.sink) outcome
-        (subst (λ (r : Repository). ExportEnds (Some r) (sink_of.contents before.sink) (sink_of.contents after.sink) outcome) same
-        (subst (λ (o : Option Repository). ExportEnds o (sink_of.contents before.sink) (sink_of.contents after.sink) outcome) holds means)))
+      store.export content.held (sink_of.contents before.sink) (sink_of.contents after.sink) outcome
+      (subst (λ (r : Repository). ExportEnds (Some r) (sink_of.contents before.sink) (sink_of.contents after.sink) outcome) same
+      (subst (λ (o : Option Repository). ExportEnds o (sink_of.contents before.sink) (sink_of.contents after.sink) outcome) holds means)))
       ending ends.0
   told_comes command.Import before after ending content now left held holds ends =
       told_ending import_ending
       (ImportEnds keeper_of (source_of.left before.source) (source_of.left after.source) before.keeper after.keeper (sink_of.contents before.sink) (sink_of.contents after.sink))
       (ImportComes content.held content.bytes)
       (λ (outcome : Result (Unit {0}) ImportFault) means.
-        store.import content.bytes (source_of.left after.source) content.held now before.keeper after.keeper (sink_of.contents before.sink) (sink_of.contents after.sink) outcome held holds
-        (subst (λ (l : Option (List ℕ)). ImportEnds keeper_of l (source_of.left after.source) before.keeper after.keeper (sink_of.contents before.sink) (sink_of.contents after.sink) outcome) left means))
+      store.import content.bytes (source_of.left after.source) content.held now before.keeper after.keeper (sink_of.contents before.sink) (sink_of.contents after.sink) outcome held holds
+      (subst (λ (l : Option (List ℕ)). ImportEnds keeper_of l (source_of.left after.source) before.keeper after.keeper (sink_of.contents before.sink) (sink_of.contents after.sink) outcome) left means))
       ending ends
 
   pub told_outcome : TellsOutcome source_of sink_of keeper_of

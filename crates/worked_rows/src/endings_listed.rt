@@ -11,7 +11,13 @@ fn rows() -> [(Refusal, u8, &'static [u8]); 11] {
         (Refusal::Stream { number: 8 }, 3, b"stream 8\n"),
         (Refusal::Stream { number: 255 }, 3, b"stream 255\n"),
         (Refusal::NotBuiltLog, 3, b"not built log\n"),
-        (Refusal::Object { id: ObjectId::zeros() }, 3, b"object 0000000000000000000000000000000000000000000000000000000000000000\n"),
+        (
+            Refusal::Object {
+                id: ObjectId::zeros(),
+            },
+            3,
+            b"object 0000000000000000000000000000000000000000000000000000000000000000\n",
+        ),
         (Refusal::TooLarge, 3, b"too large\n"),
         (Refusal::Fault { part: Part::Source }, 4, b"fault\n"),
         (Refusal::Fault { part: Part::Sink }, 4, b"fault\n"),
