@@ -1,16 +1,19 @@
 //! RFC 8554, appendix F, test case 1: a key of two levels with H5 and W8, and a signature.
 
-pub(crate) const KEY: [u8; 60] = [
+use super::*;
+
+const KEY: [u8; 60] = [
     0x00, 0x00, 0x00, 0x02, 0x00, 0x00, 0x00, 0x05, 0x00, 0x00, 0x00, 0x04, 0x61, 0xa5, 0xd5, 0x7d,
     0x37, 0xf5, 0xe4, 0x6b, 0xfb, 0x75, 0x20, 0x80, 0x6b, 0x07, 0xa1, 0xb8, 0x50, 0x65, 0x0e, 0x3b,
     0x31, 0xfe, 0x4a, 0x77, 0x3e, 0xa2, 0x9a, 0x07, 0xf0, 0x9c, 0xf2, 0xea, 0x30, 0xe5, 0x79, 0xf0,
     0xdf, 0x58, 0xef, 0x8e, 0x29, 0x8d, 0xa0, 0x43, 0x4c, 0xb2, 0xb8, 0x78,
 ];
 
-pub(crate) const MESSAGE: &[u8; 162] =
-    b"The powers not delegated to the United States by the Constitution, nor prohibited by it to the States, are reserved to the States respectively, or to the people.\n";
+const MESSAGE: &[u8; 162] =
+    b"The powers not delegated to the United States by the Constitution, nor \
+    prohibited by it to the States, are reserved to the States respectively, or to the people.\n";
 
-pub(crate) const SIGNATURE: [u8; 2644] = [
+const SIGNATURE: [u8; 2644] = [
     0x00, 0x00, 0x00, 0x01, 0x00, 0x00, 0x00, 0x05, 0x00, 0x00, 0x00, 0x04, 0xd3, 0x2b, 0x56, 0x67,
     0x1d, 0x7e, 0xb9, 0x88, 0x33, 0xc4, 0x9b, 0x43, 0x3c, 0x27, 0x25, 0x86, 0xbc, 0x4a, 0x1c, 0x8a,
     0x89, 0x70, 0x52, 0x8f, 0xfa, 0x04, 0xb9, 0x66, 0xf9, 0x42, 0x6e, 0xb9, 0x96, 0x5a, 0x25, 0xbf,
@@ -178,3 +181,53 @@ pub(crate) const SIGNATURE: [u8; 2644] = [
     0x04, 0x08, 0xb3, 0x94, 0x6b, 0x0b, 0xde, 0x79, 0x09, 0x11, 0xe8, 0x97, 0x8b, 0xa0, 0x7d, 0xd5,
     0x6c, 0x73, 0xe7, 0xee,
 ];
+
+// A byte in each part: the number of signed keys; then the leaf, the one-time type, the randomizer,
+// the first chain, the type and the path of the first signature; the types, the identifier and the
+// root of the second key; and the parts of the second signature.
+const PLACES: [usize; 20] = [
+    3, 7, 11, 12, 44, 1135, 1136, 1295, 1299, 1303, 1304, 1320, 1351, 1355, 1359, 1360, 1392, 2483,
+    2484, 2643,
+];
+
+#[test]
+fn takes_the_signature_of_the_standard(rt: HostRuntime) {
+    let mut key = KEY;
+    let mut signature = SIGNATURE;
+    assert!(rt; verify_any(&key, MESSAGE, &signature));
+    assert!(rt; !verify_any(&key, b"another message", &signature));
+    for at in PLACES {
+        assert!(rt; at < 2644);
+        signature[at] ^= 1;
+        assert!(rt; !verify_any(&key, MESSAGE, &signature), "byte {at}");
+        signature[at] ^= 1;
+    }
+    // The number of levels, the types, the identifier and the root.
+    for (at, bits) in [(3, 1), (3, 2), (3, 11), (7, 3), (11, 7), (12, 1), (59, 1)] {
+        assert!(rt; at < 60);
+        key[at] ^= bits;
+        assert!(rt;
+            !verify_any(&key, MESSAGE, &signature),
+            "byte {at} of the key"
+        );
+        key[at] ^= bits;
+    }
+    for len in [0, 3, 4, 1296, 1352, 2643] {
+        assert!(rt; len <= 2644);
+        assert!(rt;
+            !verify_any(&key, MESSAGE, &signature[..len]),
+            "{len} bytes"
+        );
+    }
+    for len in [0, 3, 56, 59] {
+        assert!(rt; len <= 60);
+        assert!(rt;
+            !verify_any(&key[..len], MESSAGE, &signature),
+            "a key of {len} bytes"
+        );
+    }
+    // The first key signs the second by itself, and the second the message.
+    assert!(rt; verify_any(&key[4..], &signature[1296..1352], &signature[4..1296]));
+    assert!(rt; verify_any(&signature[1296..1352], MESSAGE, &signature[1352..]));
+    assert!(rt; !verify_any(&key[4..], MESSAGE, &signature[1352..]));
+}

@@ -236,57 +236,6 @@ fn numbers_are_those_of_the_standard(rt: HostRuntime) {
     assert_eq!(rt; LmsType::of_code(10), None);
 }
 
-// A byte in each part: the number of signed keys; then the leaf, the one-time type, the randomizer,
-// the first chain, the type and the path of the first signature; the types, the identifier and the
-// root of the second key; and the parts of the second signature.
-const PLACES: [usize; 20] = [
-    3, 7, 11, 12, 44, 1135, 1136, 1295, 1299, 1303, 1304, 1320, 1351, 1355, 1359, 1360, 1392, 2483,
-    2484, 2643,
-];
-
-#[test]
-fn takes_the_signature_of_the_standard(rt: HostRuntime) {
-    let message = standard::MESSAGE;
-    let mut key = standard::KEY;
-    let mut signature = standard::SIGNATURE;
-    assert!(rt; verify_any(&key, message, &signature));
-    assert!(rt; !verify_any(&key, MESSAGE, &signature));
-    for at in PLACES {
-        assert!(rt; at < 2644);
-        signature[at] ^= 1;
-        assert!(rt; !verify_any(&key, message, &signature), "byte {at}");
-        signature[at] ^= 1;
-    }
-    // The number of levels, the types, the identifier and the root.
-    for (at, bits) in [(3, 1), (3, 2), (3, 11), (7, 3), (11, 7), (12, 1), (59, 1)] {
-        assert!(rt; at < 60);
-        key[at] ^= bits;
-        assert!(rt;
-            !verify_any(&key, message, &signature),
-            "byte {at} of the key"
-        );
-        key[at] ^= bits;
-    }
-    for len in [0, 3, 4, 1296, 1352, 2643] {
-        assert!(rt; len <= 2644);
-        assert!(rt;
-            !verify_any(&key, message, &signature[..len]),
-            "{len} bytes"
-        );
-    }
-    for len in [0, 3, 56, 59] {
-        assert!(rt; len <= 60);
-        assert!(rt;
-            !verify_any(&key[..len], message, &signature),
-            "a key of {len} bytes"
-        );
-    }
-    // The first key signs the second by itself, and the second the message.
-    assert!(rt; verify_any(&key[4..], &signature[1296..1352], &signature[4..1296]));
-    assert!(rt; verify_any(&signature[1296..1352], message, &signature[1352..]));
-    assert!(rt; !verify_any(&key[4..], message, &signature[1352..]));
-}
-
 // The key that signs itself seven times, and then the message: u32str(7), seven signed keys and a
 // signature. With u32str(0) and one level it is the signature alone.
 #[test]
