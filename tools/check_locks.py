@@ -19,7 +19,16 @@ CALLS = "openat,open,creat,mkdir,mkdirat,rename,renameat,renameat2,unlink,unlink
 def imports(place):
     """An import into this folder, whose stream is still to be given."""
     pipe = subprocess.PIPE
-    return subprocess.Popen([PROGRAM, f"{place}/", "-", "import"], stdin=pipe, stdout=pipe, stderr=pipe)
+    words = (PROGRAM, f"{place}/", "-", "import")
+    return subprocess.Popen(words, bufsize=0, stdin=pipe, stdout=pipe, stderr=pipe)
+
+
+def give(process, part):
+    """Gives an import a part of its stream, of which one that was refused already takes nothing."""
+    try:
+        process.stdin.write(part)
+    except BrokenPipeError:
+        pass
 
 
 def ended(process, stream):
@@ -45,8 +54,7 @@ def one_imports_at_a_time(repositories):
         if turn % 3 == 0:
             os.mkdir(place)
         slow = imports(place)
-        slow.stdin.write(first[: 10 * turn])
-        slow.stdin.flush()
+        give(slow, first[: 10 * turn])
         if turn % 2:
             wait_for(os.path.join(place, "open.lock"))
             want(ended(imports(place), second), (4, b"", b"fault\n"), "what the second import answers")
@@ -57,8 +65,7 @@ def one_imports_at_a_time(repositories):
         else:
             # Which of the two is first is not known here.
             fast = imports(place)
-            fast.stdin.write(second[: 10 * turn])
-            fast.stdin.flush()
+            give(fast, second[: 10 * turn])
             answers = {second: ended(fast, second[10 * turn :]), first: ended(slow, first[10 * turn :])}
             taken = [stream for stream, answer in answers.items() if answer == (0, IMPORTED, b"")]
             refused = [answer for answer in answers.values() if answer in ((4, b"", b"fault\n"), (3, b"", b"stream 8\n"))]
