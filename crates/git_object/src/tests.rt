@@ -61,7 +61,7 @@ fn name_of(alloc: Global, components: usize, len: usize) -> Result<Octets, Fail>
         text.append(b"/c")?;
     }
     text.append(b"/")?;
-    while text.len() < len {
+    for _ in text.len()..len {
         text.append(b"x")?;
     }
     Ok(text)
