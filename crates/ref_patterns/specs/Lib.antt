@@ -1,0 +1,3 @@
+pub mod Globs
+pub mod Patterns
+pub mod Passing
