@@ -1,0 +1,4 @@
+pub mod Lanes
+pub mod Rows
+pub mod Marking
+pub mod Steps
