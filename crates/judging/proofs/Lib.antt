@@ -1,0 +1,4 @@
+pub mod Counting
+pub mod Appends
+pub mod LaneSteps
+pub mod Readers

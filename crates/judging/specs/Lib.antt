@@ -1,0 +1,5 @@
+pub mod Rules
+pub mod Logs
+pub mod Verdicts
+pub mod Readings
+pub mod Steps
