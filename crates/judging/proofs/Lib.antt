@@ -2,3 +2,4 @@ pub mod Counting
 pub mod Appends
 pub mod LaneSteps
 pub mod Readers
+pub mod Places

@@ -3,3 +3,4 @@ pub mod Logs
 pub mod Verdicts
 pub mod Readings
 pub mod Steps
+pub mod Books

@@ -8,6 +8,7 @@
 
 #![tactic(auto)]
 
+mod book;
 pub mod laws;
 mod verdicts;
 

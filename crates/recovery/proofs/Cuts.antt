@@ -1,9 +1,12 @@
 -- What a filter leaves of a list that has three parts.
-use Rattle.std.proofs.Common.{◌≡◌, ◌<◌, ◌≤◌, ◌⊎◌, ◌||◌, ◌++◌, inl, inr, subst, leb, ltb, leb-true, ltb-true, ltb-false, ℕ, suc, zero, Bool, true, false, List, [], ◌∷◌, Option, Some, None, length, get_or, take, drop, refl, ap, arith}
-use Rattle.std.specs.List.{All, AllPairs, AllWithin, filter}
+use Rattle.std.proofs.Common.{◌≡◌, ◌<◌, ◌≤◌, ◌-◌, ◌⊎◌, ◌||◌, ◌++◌, nat_lt, sym, ◌∙◌, inl, inr, subst, leb, ltb, leb-true, ltb-true, ltb-false, ℕ, suc, zero, Bool, true, false, List, [], ◌∷◌, Option, Some, None, length, get_or, take, drop, refl, ap, arith}
+use Rattle.std.specs.List.{All, AllPairs, AllWithin, filter, list_any, slice_get}
+use Rattle.std.proofs.lemmas.List.Folds.{list_any_at, list_any_none}
+use Rattle.std.proofs.lemmas.List.{get_or_default}
 use Rattle.std.specs.List.Sorted.{IsNonDecreasingBy}
-use Rattle.std.proofs.lemmas.Bool.{cases_lt, le-leb, lt-leb}
+use Rattle.std.proofs.lemmas.Bool.{cases_lt, le-leb, le-ltb, lt-leb, lt-ltb}
 use Rattle.std.specs.Option.{IfSome}
+use Rattle.std.proofs.lemmas.Option.{get_or_from_slice_get, none-some, slice_get-get_or, slice_get_within}
 use Rattle.recovery.specs.Lanes.{first_of, is_outside, last_of}
 use Rattle.std.proofs.lemmas.List.Elements.{All-head, All-tail}
 
@@ -84,3 +87,28 @@ greatest_last [] rising = tt
 greatest_last (n ∷ []) rising = one_below n
 greatest_last (n ∷ k ∷ ns) rising =
     above_last n k ns (last_of (k ∷ ns)) (rising 0 1 0 (omega arith) (omega arith)) (greatest_last (k ∷ ns) (λ i j d less h. rising (suc i) (suc j) d (omega arith) (omega arith)))
+
+-- some number of a list that rises passes exactly where the last one does
+pub passes_last : (above last : ℕ) (ns : List ℕ) → AllPairs (λ m n. m < n) ns → slice_get ns (length ns - 1) ≡ Some last → nat_lt above last ≡ list_any (nat_lt above) ns
+passes_last above last ns rising is =
+    elim (cases_lt above last) [
+      | inl less ↦ lt-ltb above last less ∙ sym (list_any_at (nat_lt above) ns (length ns - 1) 0 within (ap (nat_lt above) here ∙ lt-ltb above last less))
+      | inr more ↦ le-ltb above last more ∙ sym (list_any_none (nat_lt above) ns (λ i d h.
+          let top : get_or ns i d ≤ last = elim (cases_lt i (length ns - 1)) [
+            | inl before ↦ let l = rising i (length ns - 1) d before within in let e = get_or_default ns (length ns - 1) d 0 within in let last_is = here in omega arith
+            | inr after ↦ let e : i ≡ length ns - 1 = omega arith in let f = get_or_default ns i d 0 h in let g = ap (λ k. get_or ns k 0) e in let last_is = here in omega arith
+          ] in
+          le-ltb above (get_or ns i d) (omega arith)))
+    ] where
+      within : length ns - 1 < length ns
+      within = slice_get_within ns (length ns - 1) last is
+
+      here : get_or ns (length ns - 1) 0 ≡ last
+      here = get_or_from_slice_get ns (length ns - 1) last 0 is
+
+there_is_last : (n : ℕ) (ns : List ℕ) → slice_get (n ∷ ns) (length (n ∷ ns) - 1) ≡ None → ⊥
+there_is_last n ns h = none-some (get_or (n ∷ ns) (length (n ∷ ns) - 1) 0) (sym h ∙ slice_get-get_or (n ∷ ns) (length (n ∷ ns) - 1) 0 (omega arith))
+
+pub none_passes : (above : ℕ) (ns : List ℕ) → slice_get ns (length ns - 1) ≡ None → list_any (nat_lt above) ns ≡ false
+none_passes above [] h = refl
+none_passes above (n ∷ ns) h = absurd (there_is_last n ns h)

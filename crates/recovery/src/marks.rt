@@ -1,7 +1,7 @@
 //! The marks of all references.
 
-ghost use Rattle.std.specs.Prelude.{◌≡◌, ◌↔◌, ◌≤◌, ℕ, List, false, length, if◌then◌else◌, IfNone, IfSome, IsTrue, OnOk, OnErr};
-ghost use Rattle.std.specs.List.{All};
+ghost use Rattle.std.specs.Prelude.{◌≡◌, ◌↔◌, ◌≤◌, ℕ, List, false, length, nat_lt, if◌then◌else◌, IfNone, IfSome, IsTrue, OnOk, OnErr};
+ghost use Rattle.std.specs.List.{All, list_any};
 ghost use Rattle.std.specs.Str.{bytes_eq};
 ghost use Rattle.recovery.specs.Lanes.{IsNew, empty_lane, first_of, is_in, is_skipped_in, lane_of, last_of, with_fix, with_number, with_skip};
 
@@ -100,6 +100,16 @@ impl Marks {
     {
         let at = slot_of(&self.names, name)?;
         self.slots[at].pending.first()
+    }
+
+    /// Whether a number of a reference that is greater than this one is pending.
+    pub fn is_pending_after(&self, name: &RefName, above: u64) -> bool
+        ensures { result ≡ list_any (nat_lt above) (lane_of self.now name.now).pending }
+    {
+        match slot_of(&self.names, name) {
+            Some(at) => self.slots[at].pending.passes(above),
+            None => false,
+        }
     }
 
     /// How many numbers of a reference were pushed.

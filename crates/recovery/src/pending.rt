@@ -1,7 +1,7 @@
 //! Pending numbers, in rising order.
 
-ghost use Rattle.std.specs.Prelude.{◌≡◌, ◌<◌, ◌≤◌, ◌++◌, ◌∷◌, [], IfSome, OnOk, OnErr};
-ghost use Rattle.std.specs.List.{All, filter};
+ghost use Rattle.std.specs.Prelude.{◌≡◌, ◌<◌, ◌≤◌, ◌++◌, ◌∷◌, [], nat_lt, IfSome, OnOk, OnErr};
+ghost use Rattle.std.specs.List.{All, filter, list_any};
 ghost use Rattle.recovery.specs.Lanes.{first_of, is_outside};
 
 use octets::Memory;
@@ -41,6 +41,16 @@ impl Pending {
         ensures least { IfSome result (λ n. All (λ m. n ≤ m) self.now) }
     {
         self.numbers.as_slice().first().copied()
+    }
+
+    /// Whether there is a number greater than this one.
+    pub fn passes(&self, above: u64) -> bool
+        ensures { result ≡ list_any (nat_lt above) self.now }
+    {
+        match self.numbers.as_slice().last() {
+            Some(last) => above < *last,
+            None => false,
+        }
     }
 
     /// Adds a number at the end. After a refusal nothing has changed.
