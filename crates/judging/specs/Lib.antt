@@ -4,3 +4,6 @@ pub mod Verdicts
 pub mod Readings
 pub mod Steps
 pub mod Books
+pub mod Judges
+pub mod Decisions
+pub mod Engines

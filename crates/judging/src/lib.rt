@@ -9,7 +9,10 @@
 #![tactic(auto)]
 
 mod book;
+mod deciding;
+mod judges;
 pub mod laws;
 mod verdicts;
 
+pub use judges::{Finding, Judge, JudgeFault, KeyIds};
 pub use verdicts::{EntryVerdict, Verdict};

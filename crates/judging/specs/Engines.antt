@@ -1,0 +1,2 @@
+-- What an engine stands for.
+use Rattle.std.specs.Prelude.{◌≡◌}

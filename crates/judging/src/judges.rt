@@ -1,0 +1,110 @@
+//! Who answers the rules for a store.
+
+ghost use Rattle.std.specs.Prelude.{◌≡◌, ◌+◌, ◌≤◌, ℕ, Option, Some, IfOk};
+ghost use Rattle.std.specs.Option.{option_copied};
+ghost use Rattle.octets.specs.Causes.{HasCause};
+ghost use Rattle.git_object.specs.Repository.{Repository};
+ghost use Rattle.judging.specs.Rules.{Rules, same_tree};
+ghost use Rattle.judging.specs.Judges.{IsSteady, judge_failed};
+
+use git_object::{Items, KeyId, ObjectId, RefName};
+use log_entries::Entry;
+use octets::Memory;
+use std::alloc::Global;
+
+/// Ids of keys.
+pub type KeyIds = Items<KeyId>;
+
+/// Why a judge did not answer.
+#[derive(Clone, Copy, Debug, PartialEq, Eq, Drop)]
+pub enum JudgeFault {
+    /// The store failed. It comes exactly where the judge counted a fault.
+    Failed,
+    Memory,
+}
+
+impl From<Memory> for JudgeFault {
+    ghost use Rattle.std.specs.Prelude.{◌≡◌};
+    ghost use Rattle.judging.specs.declared.judges.JudgeFault.TheVariants as fault;
+
+    ghost from_gives = { λ _ e. e ≡ fault.Memory };
+
+    fn from(_error: Memory) -> JudgeFault {
+        JudgeFault::Memory
+    }
+}
+
+/// What is found of an entry under a policy: its fault, if it has one, and the keys that signed for it.
+#[derive(Drop)]
+pub struct Finding<F> {
+    pub fault: Option<F>,
+    pub signers: KeyIds,
+}
+
+/// Answers the rules over policies `P` and faults `F` for the repository that it holds. No call changes what it
+/// holds. A call that the store refuses answers `Failed` and counts one fault, and no other call counts any.
+pub trait Judge<P, F> {
+    /// The rules by which it answers.
+    ghost rules: { Self → Rules P F };
+
+    /// The repository that it holds, where it tells it. Telling may end, and never begins.
+    ghost content: { Self → Option Repository };
+
+    /// How many faults were counted.
+    ghost faults: { Self → ℕ };
+
+    /// How often an object was read.
+    ghost reads: { Self → ℕ };
+
+    /// The policy that an entry of the policy's reference opens under the one in force, or the entry's fault.
+    fn epoch(
+        &mut self,
+        alloc: Global,
+        policy: Option<&P>,
+        entry: &Entry,
+    ) -> Result<Result<P, F>, JudgeFault>
+        ensures answer { IfOk result (λ epoch. (r : Repository) → content self.new ≡ Some r → epoch ≡ (rules self.old).epoch r (option_copied policy.entry) entry.now) }
+        ensures same { IsSteady (rules self.old) (rules self.new) (content self.old) (content self.new) }
+        ensures cause { HasCause judge_failed (faults self.old) (faults self.new) result }
+        ensures reads { (r : Repository) → content self.new ≡ Some r → reads self.new ≤ reads self.old + (rules self.old).epoch_reads r (option_copied policy.entry) entry.now };
+
+    /// The fault of another entry under a policy, and its signers, by where its reference stood before it and by
+    /// the attestations before it.
+    fn find(
+        &mut self,
+        alloc: Global,
+        policy: &P,
+        entry: &Entry,
+        from: &ObjectId,
+        attested: Option<&ObjectId>,
+    ) -> Result<Finding<F>, JudgeFault>
+        ensures fault { IfOk result (λ found. (r : Repository) → content self.new ≡ Some r → found.fault ≡ (rules self.old).fault r policy.now entry.now from.now (option_copied attested.entry)) }
+        ensures signers { IfOk result (λ found. (r : Repository) → content self.new ≡ Some r → found.signers ≡ (rules self.old).signers r policy.now entry.now from.now (option_copied attested.entry)) }
+        ensures same { IsSteady (rules self.old) (rules self.new) (content self.old) (content self.new) }
+        ensures cause { HasCause judge_failed (faults self.old) (faults self.new) result }
+        ensures reads { (r : Repository) → content self.new ≡ Some r → reads self.new ≤ reads self.old + (rules self.old).fault_reads r policy.now entry.now from.now (option_copied attested.entry) };
+
+    /// Whether the states of two targets have one tree.
+    fn has_same_tree(
+        &mut self,
+        alloc: Global,
+        from: &ObjectId,
+        to: &ObjectId,
+    ) -> Result<bool, JudgeFault>
+        ensures answer { IfOk result (λ same. (r : Repository) → content self.new ≡ Some r → same ≡ same_tree (rules self.old) r from.now to.now) }
+        ensures same { IsSteady (rules self.old) (rules self.new) (content self.old) (content self.new) }
+        ensures cause { HasCause judge_failed (faults self.old) (faults self.new) result }
+        ensures reads { (r : Repository) → content self.new ≡ Some r → reads self.new ≤ reads self.old + (rules self.old).tree_reads r from.now to.now };
+
+    /// The fault of an entry where no policy is in force.
+    fn no_policy(&self) -> F
+        ensures { result ≡ (rules self.now).no_policy };
+
+    /// The key of a policy that signed an annotation.
+    fn skipper(&self, policy: &P, annotation: &Entry) -> Option<KeyId>
+        ensures { result ≡ (rules self.now).skipper policy.now annotation.now };
+
+    /// Whether a key may skip entries of a reference.
+    fn may_skip(&self, policy: &P, key: &KeyId, name: &RefName) -> bool
+        ensures { result ≡ (rules self.now).may_skip policy.now key.now name.now };
+}
