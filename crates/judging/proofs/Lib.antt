@@ -3,3 +3,4 @@ pub mod Appends
 pub mod LaneSteps
 pub mod Readers
 pub mod Places
+pub mod Takes

@@ -1,9 +1,10 @@
 -- What is kept of entries: the lanes of references, targets in the order of numbers, numbers by id, and the faults of
 -- those that were refused.
-use Rattle.std.specs.Prelude.{◌≡◌, ◌≢◌, ◌+◌, ◌++◌, ℕ, Bool, List, [], ◌∷◌, length, Option, Some, None, is_some, if◌then◌else◌, refl}
+use Rattle.std.specs.Prelude.{◌≡◌, ◌≢◌, ◌==◌, ◌-◌, ◌+◌, ◌++◌, ℕ, Bool, List, [], ◌∷◌, length, Option, Some, None, is_some, if◌then◌else◌, refl}
 use Rattle.std.specs.BTreeMap.{is_at}
 use Rattle.std.specs.Coded.{Coded, code_by, coded×, coded_list, coded_ℕ}
 use Rattle.std.specs.FinMap.{code}
+use Rattle.std.specs.List.{slice_get}
 use Rattle.std.specs.Map.{lookup}
 use Rattle.std.specs.Ordering.{nat_cmp}
 use Rattle.std.specs.Str.{bytes_eq}
@@ -30,6 +31,10 @@ place_of kept id = lookup (is_at (by_bytes id)) kept.places
 -- the fault of a number
 abbrev pub kept_fault : {F : Type 0} → Kept F → ℕ → Option F
 kept_fault kept number = lookup (is_at (nat_cmp number)) kept.faults
+
+-- the target of a number
+abbrev pub kept_target : {F : Type 0} → Kept F → ℕ → Option (List ℕ)
+kept_target kept number = if number == 0 then None else slice_get kept.targets (number - 1)
 
 -- the number of the next entry
 abbrev pub next_number : {F : Type 0} → Kept F → ℕ

@@ -1,11 +1,14 @@
 -- What is found of an entry of a reference before anything is kept.
-use Rattle.std.specs.Prelude.{◌≡◌, ◌&&◌, ◌+◌, ◌≤◌, ℕ, Bool, true, false, List, [], Option, Some, None, Result, Ok, Err, if◌then◌else◌, is_none}
+use Rattle.std.specs.Prelude.{◌≡◌, ◌⊎◌, ◌&&◌, ◌+◌, ◌≤◌, nat_lt, ℕ, Bool, true, false, List, [], Option, Some, None, Result, Ok, Err, if◌then◌else◌, is_none}
 use Rattle.std.specs.List.{list_any}
 use Rattle.std.specs.Str.{bytes_eq}
 use Rattle.git_object.specs.Repository.{Repository}
 use Rattle.log_entries.specs.Entries.{Taken, policy_name}
 use Rattle.log_entries.specs.declared.entries.Entry.{Entry}
+use Rattle.recovery.specs.Lanes.{lane_of}
+use Rattle.judging.specs.Books.{Kept}
 use Rattle.judging.specs.Rules.{Rules, same_tree}
+use Rattle.judging.specs.declared.references.Standing.{Standing}
 use Rattle.judging.specs.declared.deciding.Decision.{Decision}
 
 module _ {P F : Type 0} (rules : Rules P F) (r : Repository) where
@@ -29,3 +32,9 @@ module _ {P F : Type 0} (rules : Rules P F) (r : Repository) where
 
   abbrev pub decision_reads : Option P → Entry → List ℕ → List ℕ → Option (List ℕ) → ℕ
   decision_reads policy entry name from attested = if bytes_eq name policy_name then rules.epoch_reads r policy entry else ordinary_reads policy entry from attested
+
+-- the entry completes a recovery, or there is none that would take anything in
+abbrev pub IsFinish : {P F : Type 0} → Rules P F → Repository → Kept F → Decision P F → List ℕ → Standing → List ℕ → Bool → Type 0
+IsFinish rules r kept found name stands target finishes =
+    (finishes ≡ (is_none found.fault && same_tree rules r stands.from target))
+    ⊎ ((finishes ≡ false) × (list_any (nat_lt stands.above) (lane_of kept.marks name).pending ≡ false))

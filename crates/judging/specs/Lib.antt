@@ -5,5 +5,6 @@ pub mod Readings
 pub mod Steps
 pub mod Books
 pub mod Judges
+pub mod Standings
 pub mod Decisions
 pub mod Engines

@@ -1,14 +1,14 @@
 //! What an engine keeps of the entries that it took.
 
-ghost use Rattle.std.specs.Prelude.{◌≡◌, ◌≢◌, ◌↔◌, ◌<◌, ◌-◌, ◌+◌, ◌++◌, ◌∷◌, [], ℕ, List, Some, None, false, is_some, length, take, if◌then◌else◌, nat_lt, IfNone, IfSome, IsTrue, OnOk, OnErr};
+ghost use Rattle.std.specs.Prelude.{◌≡◌, ◌≢◌, ◌↔◌, ◌<◌, ◌^◌, ◌-◌, ◌+◌, ◌++◌, ◌∷◌, [], ℕ, List, Some, None, false, is_some, length, take, if◌then◌else◌, nat_lt, IfNone, IfSome, IsTrue, OnOk, OnErr};
 ghost use Rattle.std.specs.BTreeMap as tree;
-ghost use Rattle.std.specs.List.{list_any, slice_get};
+ghost use Rattle.std.specs.List.{list_any};
 ghost use Rattle.std.specs.Option.{option_copied, option_map};
 ghost use Rattle.std.specs.Ordering.{is_eq, nat_cmp};
 ghost use Rattle.std.specs.Str.{bytes_eq};
 ghost use Rattle.octets.specs.BytesMap.{by_bytes};
 ghost use Rattle.recovery.specs.Lanes.{empty_lane, first_of, is_in, is_skipped_in, lane_of, last_of, with_fix, with_skip};
-ghost use Rattle.judging.specs.Books.{HasLanes, HasNote, HasReference, IsSame, kept_fault, next_number, place_of};
+ghost use Rattle.judging.specs.Books.{HasLanes, HasNote, HasReference, IsSame, kept_fault, kept_target, next_number, place_of};
 
 use git_object::{ObjectId, RefName};
 use octets::Memory;
@@ -123,7 +123,8 @@ impl<F> Book<F> {
 
     /// How many entries there are.
     pub fn len(&self) -> u64
-        ensures { result ≡ length self.now.targets }
+        ensures count { result ≡ length self.now.targets }
+        ensures small { result < 2 ^ 63 }
     {
         self.targets.len() as u64
     }
@@ -137,11 +138,12 @@ impl<F> Book<F> {
 
     /// The target of an entry.
     pub fn target(&self, number: u64) -> Option<ObjectId>
-        ensures found { IfSome result (λ target. slice_get self.now.targets (number - 1) ≡ Some target) }
-        ensures none { IfNone result (0 < number → slice_get self.now.targets (number - 1) ≡ None) }
+        ensures { result ≡ kept_target self.now number }
     {
-        let at = number.checked_sub(1)?;
-        self.targets.as_slice().get(at as usize).copied()
+        if number == 0 {
+            return None;
+        }
+        self.targets.as_slice().get((number - 1) as usize).copied()
     }
 
     /// The fault of an entry, lent.

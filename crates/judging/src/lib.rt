@@ -10,8 +10,11 @@
 
 mod book;
 mod deciding;
+mod engine;
 mod judges;
+mod keeping;
 pub mod laws;
+mod references;
 mod verdicts;
 
 pub use judges::{Finding, Judge, JudgeFault, KeyIds};

@@ -1,0 +1,142 @@
+-- An engine that stands for a list stands for the list with the entry that it kept.
+use Rattle.std.proofs.Common.{◌≡◌, ◌≢◌, ◌⊎◌, ◌↔◌, ◌==◌, ◌&&◌, ◌<◌, ◌≤◌, ◌+◌, ◌-◌, ◌++◌, ℕ, suc, zero, Bool, true, false, cond, not, is_none, is_some, List, [], ◌∷◌, Option, Some, None, Result, Ok, Err, length, map, refl, ap, sym, subst, inl, inr, ◌∙◌, arith, rules}
+use Rattle.std.specs.Option.{option_map, unwrap_or}
+use Rattle.std.specs.Result.{result_err}
+use Rattle.std.specs.Str.{bytes_eq}
+use Rattle.std.specs.Cmp.Lexicographic.{bytes_decides}
+use Rattle.std.proofs.lemmas.Bool.{cases_Bool, cases_eq, cases_lt, true≢false}
+use Rattle.std.proofs.lemmas.List.{length-map, map_push}
+use Rattle.std.proofs.lemmas.List.Sums.{fold_push}
+use Rattle.log_entries.specs.Entries.{Taken, attestations_name, is_of, policy_name, target_of}
+use Rattle.log_entries.specs.declared.entries.EntryBody.{EntryBody}
+use Rattle.log_entries.specs.declared.entries.EntryBody.TheVariants.{Reference, Annotation}
+use Rattle.recovery.specs.Lanes.{Lane, lane_of}
+use Rattle.judging.specs.Books.{kept_fault, next_number, place_of}
+use Rattle.judging.specs.Rules.{Rules, same_tree}
+use Rattle.judging.specs.Decisions.{decision, epoch_decision, ordinary_decision}
+use Rattle.judging.specs.Engines.{IsTaken, KeepsNothing, KeepsReference, Stands, opened_or}
+use Rattle.judging.specs.Logs.{above, attested_after, before, body_fault, body_signers, completes, entry_at, fault_at, fault_of, from, has_id, lane, last_signers, next_attested, next_policy, opened, ordinary_fault, ordinary_signers, policy_after, signers_of}
+use Rattle.judging.specs.Steps.{recorded}
+use Rattle.judging.specs.declared.deciding.Decision.{Decision}
+use Rattle.judging.specs.declared.engine.Engine.{Engine}
+use Rattle.judging.proofs.Appends.{before_new, entry_new, entry_old, fault_new, fault_old, long, no_entry}
+use Rattle.judging.proofs.LaneSteps.{Decides, reference_lanes}
+
+module _ {P F : Type 0} (rules : Rules P F) (log : List Taken) (t : Taken) where
+  pub policy_push : policy_after rules (log ++ t ∷ []) ≡ next_policy rules (policy_after rules log) t
+  policy_push = fold_push (next_policy rules) None log t
+
+  pub attested_push : attested_after (log ++ t ∷ []) ≡ next_attested (attested_after log) t
+  attested_push = fold_push next_attested None log t
+
+  pub signers_push : last_signers rules (log ++ t ∷ []) ≡ signers_of rules log t
+  signers_push =
+      ap (λ n. unwrap_or (option_map (signers_of rules (before (log ++ t ∷ []) n)) (entry_at (log ++ t ∷ []) n)) []) (long log t)
+      ∙ ap (λ l. unwrap_or (option_map (signers_of rules l) (entry_at (log ++ t ∷ []) (suc (length log)))) []) (before_new log (t ∷ []))
+      ∙ ap (λ e. unwrap_or (option_map (signers_of rules log) e) []) (entry_new log t)
+
+  -- places with one id more, that no entry had
+  pub places_push : (old new : List ℕ → Option ℕ) → old t.entry.id ≡ None → ((id : List ℕ) → new id ≡ cond (bytes_eq t.entry.id id) (Some (suc (length log))) (old id)) → ((id : List ℕ) (i : ℕ) → (old id ≡ Some i) ↔ ((0 < i) × (i ≤ length log) × (has_id (entry_at log i) id ≡ true))) → (id : List ℕ) (i : ℕ) → (new id ≡ Some i) ↔ ((0 < i) × (i ≤ length (log ++ t ∷ [])) × (has_id (entry_at (log ++ t ∷ []) i) id ≡ true))
+  places_push old new none put are id i =
+      let n = long log t in
+      elim (cases_Bool (bytes_eq t.entry.id id)) [
+        | inl is ↦
+            let here : new id ≡ Some (suc (length log)) = put id ∙ ap (λ b. cond b (Some (suc (length log))) (old id)) is in
+            let gone : old id ≡ None = ap old (sym ((bytes_decides t.entry.id id).0 is)) ∙ none in (
+              λ e.
+                  let same : Some (suc (length log)) ≡ Some i = sym here ∙ e in
+                  let at : suc (length log) ≡ i = cc in
+                  (omega arith, omega arith, ap (λ k. has_id (entry_at (log ++ t ∷ []) k) id) (sym at) ∙ ap (λ x. has_id x id) (entry_new log t) ∙ is),
+              λ w.
+                  elim (cases_eq i (suc (length log))) [
+                    | inl at ↦ here ∙ ap Some (sym at)
+                    | inr apart ↦ let within : i ≤ length log = let l = w.1 in omega arith in absurd (let clash : None ≡ Some i = sym gone ∙ (are id i).1 (w.0, within, sym (ap (λ x. has_id x id) (entry_old log (t ∷ []) i w.0 within)) ∙ w.2) in cc)
+                  ],
+            )
+        | inr isnt ↦
+            let there : new id ≡ old id = put id ∙ ap (λ b. cond b (Some (suc (length log))) (old id)) isnt in (
+              λ e.
+                  let w = (are id i).0 (sym there ∙ e) in
+                  (w.0, let l = w.1 in omega arith, ap (λ x. has_id x id) (entry_old log (t ∷ []) i w.0 w.1) ∙ w.2),
+              λ w.
+                  elim (cases_eq i (suc (length log))) [
+                    | inl at ↦ absurd (true≢false (sym w.2 ∙ ap (λ k. has_id (entry_at (log ++ t ∷ []) k) id) at ∙ ap (λ x. has_id x id) (entry_new log t) ∙ isnt))
+                    | inr apart ↦ let within : i ≤ length log = let l = w.1 in omega arith in there ∙ (are id i).1 (w.0, within, sym (ap (λ x. has_id x id) (entry_old log (t ∷ []) i w.0 within)) ∙ w.2)
+                  ],
+            )
+      ]
+
+  module _ (name target : List ℕ) (body : t.entry.body ≡ Reference name target) where
+    abbrev pub found : Decision P F
+    found = decision rules t.repository (policy_after rules log) t.entry name (from rules log name) (attested_after log)
+
+    -- what is decided is what the definitions say
+    by_name : (b : Bool) → bytes_eq name policy_name ≡ b → (cond b (opened rules (policy_after rules log) (rules.epoch t.repository (policy_after rules log) t.entry)) (policy_after rules log) ≡ opened_or (cond b (epoch_decision rules t.repository (rules.epoch t.repository (policy_after rules log) t.entry)) (ordinary_decision rules t.repository (policy_after rules log) t.entry (from rules log name) (attested_after log))).opened (policy_after rules log))
+        × (cond b (result_err (rules.epoch t.repository (policy_after rules log) t.entry)) (ordinary_fault rules (policy_after rules log) t (from rules log name) (attested_after log)) ≡ (cond b (epoch_decision rules t.repository (rules.epoch t.repository (policy_after rules log) t.entry)) (ordinary_decision rules t.repository (policy_after rules log) t.entry (from rules log name) (attested_after log))).fault)
+        × (cond b [] (ordinary_signers rules (policy_after rules log) t (from rules log name) (attested_after log)) ≡ (cond b (epoch_decision rules t.repository (rules.epoch t.repository (policy_after rules log) t.entry)) (ordinary_decision rules t.repository (policy_after rules log) t.entry (from rules log name) (attested_after log))).signers)
+    by_name true _ = by_epoch (rules.epoch t.repository (policy_after rules log) t.entry) where
+      by_epoch : (e : Result P F) → (opened rules (policy_after rules log) e ≡ opened_or (epoch_decision rules t.repository e).opened (policy_after rules log)) × (result_err e ≡ (epoch_decision rules t.repository e).fault) × ([] ≡ (epoch_decision rules t.repository e).signers)
+      by_epoch (Ok p) = (refl, refl, refl)
+      by_epoch (Err f) = (refl, refl, refl)
+    by_name false _ = by_policy (policy_after rules log) where
+      by_policy : (p : Option P) → (p ≡ opened_or (ordinary_decision rules t.repository p t.entry (from rules log name) (attested_after log)).opened p) × (ordinary_fault rules p t (from rules log name) (attested_after log) ≡ (ordinary_decision rules t.repository p t.entry (from rules log name) (attested_after log)).fault) × (ordinary_signers rules p t (from rules log name) (attested_after log) ≡ (ordinary_decision rules t.repository p t.entry (from rules log name) (attested_after log)).signers)
+      by_policy None = (refl, refl, refl)
+      by_policy (Some p) = (refl, refl, refl)
+
+    pub policy_found : next_policy rules (policy_after rules log) t ≡ opened_or found.opened (policy_after rules log)
+    policy_found = ap (λ b. cond (is_of b policy_name) (opened rules (policy_after rules log) (rules.epoch t.repository (policy_after rules log) t.entry)) (policy_after rules log)) body ∙ (by_name (bytes_eq name policy_name) refl).0
+
+    pub fault_found : fault_of rules log (Some t) ≡ found.fault
+    fault_found = ap (body_fault rules log t) body ∙ (by_name (bytes_eq name policy_name) refl).1
+
+    pub signers_found : signers_of rules log t ≡ found.signers
+    signers_found = ap (body_signers rules log t) body ∙ (by_name (bytes_eq name policy_name) refl).2
+
+  pub next_is : (e : Engine P F) → Stands rules log e → next_number e.book ≡ suc (length log)
+  next_is e stands =
+      let a : length e.book.targets ≡ length (map (λ u. target_of u.entry.body) log) = ap length stands.targets in
+      let b = length-map log (λ (u : Taken). target_of u.entry.body) in
+      omega arith
+
+  module _ (name target : List ℕ) (body : t.entry.body ≡ Reference name target) (e now : Engine P F) (finishes : Bool) where
+    pub stands_reference : Stands rules log e → place_of e.book t.entry.id ≡ None → Decides rules log t name target body finishes → KeepsReference t.entry.id name target (above rules log name) finishes (found name target body) e now → Stands rules (log ++ t ∷ []) now
+    stands_reference stands fresh decides keeps =
+        let d = found name target body in
+        let n = next_is e stands in
+        record {
+          policy = keeps.policy ∙ ap (opened_or d.opened) stands.policy ∙ sym (policy_push ∙ policy_found name target body);
+          attested = keeps.attested ∙ ap (λ a. cond (bytes_eq name attestations_name) (Some target) a) stands.attested
+              ∙ sym (attested_push ∙ ap (λ b. cond (is_of b attestations_name) (Some (target_of b)) (attested_after log)) body);
+          signers = keeps.signers ∙ sym (signers_push ∙ signers_found name target body);
+          lanes = λ other. keeps.lanes other
+              ∙ ap (λ k. cond (bytes_eq name other) (recorded k (is_some d.fault) finishes (above rules log name) (lane_of e.book.marks other)) (lane_of e.book.marks other)) n
+              ∙ ap (λ f. cond (bytes_eq name other) (recorded (suc (length log)) (is_some f) finishes (above rules log name) (lane_of e.book.marks other)) (lane_of e.book.marks other)) (sym (fault_found name target body))
+              ∙ ap (λ (l : Lane). cond (bytes_eq name other) (recorded (suc (length log)) (is_some (fault_of rules log (Some t))) finishes (above rules log name) l) l) (stands.lanes other)
+              ∙ sym (reference_lanes rules log t name target body finishes decides other);
+          targets = keeps.targets_now ∙ ap (λ xs. xs ++ target ∷ []) stands.targets ∙ sym (map_push (λ u. target_of u.entry.body) log t ∙ ap (λ b. map (λ u. target_of u.entry.body) log ++ target_of b ∷ []) body);
+          places = places_push (place_of e.book) (place_of now.book) fresh (λ id. keeps.place id ∙ ap (λ k. cond (bytes_eq t.entry.id id) (Some k) (place_of e.book id)) n) stands.places;
+          faults = λ i fault a b is.
+              elim (cases_eq i (suc (length log))) [
+                | inl at ↦
+                    let here : d.fault ≡ Some fault = sym (fault_found name target body) ∙ sym (fault_new rules log t) ∙ ap (fault_at rules (log ++ t ∷ [])) (sym at) ∙ is in
+                    ap (kept_fault now.book) (at ∙ sym n) ∙ keeps.new_fault fault here
+                | inr apart ↦
+                    let l = long log t in
+                    let within : i ≤ length log = omega arith in
+                    keeps.old_fault i (λ x. apart (x ∙ n)) ∙ stands.faults i fault a within (sym (fault_old rules log (t ∷ []) i a within) ∙ is)
+              ];
+        }
+
+  -- nothing was kept
+  pub stands_still : (e now : Engine P F) → Stands rules log e → KeepsNothing e now → Stands rules log now
+  stands_still e now stands keeps =
+      let n = next_is e stands in
+      record {
+        policy = keeps.policy ∙ stands.policy;
+        attested = keeps.attested ∙ stands.attested;
+        signers = keeps.signers ∙ stands.signers;
+        lanes = λ name. keeps.book.lanes name ∙ stands.lanes name;
+        targets = keeps.book.target ∙ stands.targets;
+        places = λ id i. (λ x. (stands.places id i).0 (sym (keeps.book.place id) ∙ x), λ w. keeps.book.place id ∙ (stands.places id i).1 w);
+        faults = λ i fault a b is. keeps.book.fault i (λ x. absurd (let y = x ∙ n in omega arith)) ∙ stands.faults i fault a b is;
+      }
