@@ -1,26 +1,38 @@
 -- An engine that stands for a list stands for the list with the entry that it kept.
-use Rattle.std.proofs.Common.{◌≡◌, ◌≢◌, ◌⊎◌, ◌↔◌, ◌==◌, ◌&&◌, ◌<◌, ◌≤◌, ◌+◌, ◌-◌, ◌++◌, ℕ, suc, zero, Bool, true, false, cond, not, is_none, is_some, List, [], ◌∷◌, Option, Some, None, Result, Ok, Err, length, map, refl, ap, sym, subst, inl, inr, ◌∙◌, arith, rules}
-use Rattle.std.specs.Option.{option_map, unwrap_or}
-use Rattle.std.specs.Result.{result_err}
+use Rattle.std.proofs.Common.{◌≡◌, ◌≢◌, ◌⊎◌, ◌↔◌, ◌==◌, ◌&&◌, ◌<◌, ◌≤◌, ◌+◌, ◌-◌, ◌++◌, ℕ, suc, zero, Bool, true, false, cond, not, nat_lt, is_none, is_some, ⊎_elim, List, [], ◌∷◌, Option, Some, None, Result, Ok, Err, length, map, refl, ap, sym, subst, inl, inr, ◌∙◌, arith, rules}
+use Rattle.std.specs.List.{list_any, slice_get}
+use Rattle.std.specs.Option.{option_and_then, option_map, unwrap_or}
+use Rattle.std.specs.Result.{OnErr, result_err}
 use Rattle.std.specs.Str.{bytes_eq}
 use Rattle.std.specs.Cmp.Lexicographic.{bytes_decides}
-use Rattle.std.proofs.lemmas.Bool.{cases_Bool, cases_eq, cases_lt, true≢false}
+use Rattle.std.proofs.lemmas.Bool.{cases_Bool, cases_eq, cases_lt, ne_eqb, true≢false}
 use Rattle.std.proofs.lemmas.List.{length-map, map_push}
+use Rattle.std.proofs.lemmas.Option.{slice_get-map}
 use Rattle.std.proofs.lemmas.List.Sums.{fold_push}
+use Rattle.git_object.specs.Ids.{zeros}
 use Rattle.log_entries.specs.Entries.{Taken, attestations_name, is_of, policy_name, target_of}
 use Rattle.log_entries.specs.declared.entries.EntryBody.{EntryBody}
 use Rattle.log_entries.specs.declared.entries.EntryBody.TheVariants.{Reference, Annotation}
-use Rattle.recovery.specs.Lanes.{Lane, lane_of}
-use Rattle.judging.specs.Books.{kept_fault, next_number, place_of}
+use Rattle.recovery.specs.Lanes.{Lane, lane_of, last_of}
+use Rattle.judging.specs.Books.{kept_fault, kept_target, next_number, place_of}
 use Rattle.judging.specs.Rules.{Rules, same_tree}
-use Rattle.judging.specs.Decisions.{decision, epoch_decision, ordinary_decision}
+use Rattle.judging.specs.Decisions.{IsFinish, decision, epoch_decision, ordinary_decision}
 use Rattle.judging.specs.Engines.{IsTaken, KeepsNothing, KeepsReference, Stands, opened_or}
-use Rattle.judging.specs.Logs.{above, attested_after, before, body_fault, body_signers, completes, entry_at, fault_at, fault_of, from, has_id, lane, last_signers, next_attested, next_policy, opened, ordinary_fault, ordinary_signers, policy_after, signers_of}
+use Rattle.judging.specs.Logs.{above, attested_after, before, body_fault, body_signers, completes, entry_at, fault_at, fault_of, from, has_id, keeps_tree, lane, last_signers, next_attested, next_policy, opened, ordinary_fault, ordinary_signers, policy_after, prior, signers_of, target_at}
+use Rattle.judging.specs.Standings.{standing_at, standing_of}
 use Rattle.judging.specs.Steps.{recorded}
+use Rattle.judging.specs.Verdicts.{answer_of, body_verdict}
 use Rattle.judging.specs.declared.deciding.Decision.{Decision}
 use Rattle.judging.specs.declared.engine.Engine.{Engine}
+use Rattle.judging.specs.declared.references.Standing.{Standing}
+use Rattle.judging.specs.declared.verdicts.EntryVerdict.{EntryVerdict}
 use Rattle.judging.proofs.Appends.{before_new, entry_new, entry_old, fault_new, fault_old, long, no_entry}
+use Rattle.judging.proofs.Readers.{prior_reads}
 use Rattle.judging.proofs.LaneSteps.{Decides, reference_lanes}
+
+pub on_err : {T E : Type 0} {Q : Type 0} → (r : Result T E) → Q → OnErr r Q
+on_err (Ok x) q = tt
+on_err (Err x) q = q
 
 module _ {P F : Type 0} (rules : Rules P F) (log : List Taken) (t : Taken) where
   pub policy_push : policy_after rules (log ++ t ∷ []) ≡ next_policy rules (policy_after rules log) t
@@ -140,3 +152,39 @@ module _ {P F : Type 0} (rules : Rules P F) (log : List Taken) (t : Taken) where
         places = λ id i. (λ x. (stands.places id i).0 (sym (keeps.book.place id) ∙ x), λ w. keeps.book.place id ∙ (stands.places id i).1 w);
         faults = λ i fault a b is. keeps.book.fault i (λ x. absurd (let y = x ∙ n in omega arith)) ∙ stands.faults i fault a b is;
       }
+
+  -- where a reference stands
+  pub standing_is : (e : Engine P F) (name : List ℕ) → Stands rules log e → standing_of e.book name ≡ record { above = above rules log name; from = from rules log name }
+  standing_is e name stands = ap (λ (l : Lane). standing_at e.book (last_of l.unskipped)) (stands.lanes name) ∙ by_prior (prior rules log name) refl where
+    by_prior : (o : Option ℕ) → prior rules log name ≡ o → standing_at e.book o ≡ record { above = unwrap_or o 0; from = unwrap_or (option_and_then (target_at log) o) zeros }
+    by_prior None is = refl
+    by_prior (Some i) is =
+        let p = prior_reads rules log name i is in
+        let positive : (i == 0) ≡ false = ne_eqb i 0 (let f = p.first in λ x. absurd (omega arith)) in
+        let target : kept_target e.book i ≡ target_at log i = ap (λ b. cond b None (slice_get e.book.targets (i - 1))) positive ∙ ap (λ xs. slice_get xs (i - 1)) stands.targets ∙ slice_get-map (λ u. target_of u.entry.body) log (i - 1) in
+        ap (λ x. record { above = i; from = unwrap_or x zeros }) target
+
+  module _ (name target : List ℕ) (body : t.entry.body ≡ Reference name target) (e now : Engine P F) (finishes : Bool) where
+    -- an entry that was decided and kept is taken
+    pub taken_reference : (d : Decision P F) (s : Standing) (verdict : EntryVerdict F) → Stands rules log e → place_of e.book t.entry.id ≡ None → s ≡ standing_of e.book name → d ≡ decision rules t.repository e.policy t.entry name s.from e.attested → IsFinish rules t.repository e.book d name s target finishes → KeepsReference t.entry.id name target s.above finishes d e now → verdict ≡ answer_of d.fault → IsTaken rules log t now verdict
+    taken_reference d s verdict stands fresh at is finish keeps said =
+        let here : s ≡ record { above = above rules log name; from = from rules log name } = at ∙ standing_is e name stands in
+        let there : d ≡ found name target body =
+        is ∙ ap (λ p. decision rules t.repository p t.entry name s.from e.attested) stands.policy
+        ∙ ap (λ x. decision rules t.repository (policy_after rules log) t.entry name x.from e.attested) here
+        ∙ ap (decision rules t.repository (policy_after rules log) t.entry name (from rules log name)) stands.attested in
+        let up : s.above ≡ above rules log name = ap (λ x. x.above) here in
+        let fault : fault_of rules log (Some t) ≡ d.fault = fault_found name target body ∙ ap (λ x. x.fault) (sym there) in
+        let done : completes rules log (Some t) ≡ (is_none d.fault && same_tree rules t.repository s.from target) =
+        ap (λ f. is_none f && keeps_tree rules log t t.entry.body) fault ∙ ap (λ b. is_none d.fault && keeps_tree rules log t b) body
+        ∙ ap (λ x. is_none d.fault && same_tree rules t.repository x.from target) (sym here) in
+        let decides : Decides rules log t name target body finishes = ⊎_elim (λ y. inl (y ∙ sym done)) (λ n. inr (
+          n.0,
+          ap (λ a. list_any (nat_lt a) (lane rules log name).pending) (sym up) ∙ ap (λ (l : Lane). list_any (nat_lt s.above) l.pending) (sym (stands.lanes name)) ∙ n.1,
+        )) finish in
+        let K : ℕ → Type 0 = λ a. KeepsReference t.entry.id name target a finishes d e now in
+        let D : Decision P F → Type 0 = λ x. KeepsReference t.entry.id name target (above rules log name) finishes x e now in
+        record {
+          stands = stands_reference name target body e now finishes stands fresh decides (subst D there (subst K up keeps));
+          answer = said ∙ ap answer_of (sym fault) ∙ ap (body_verdict (fault_of rules log (Some t))) (sym body);
+        }

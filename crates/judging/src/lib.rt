@@ -15,6 +15,7 @@ mod judges;
 mod keeping;
 pub mod laws;
 mod references;
+mod taking;
 mod verdicts;
 
 pub use judges::{Finding, Judge, JudgeFault, KeyIds};

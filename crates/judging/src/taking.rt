@@ -1,0 +1,77 @@
+//! How an entry of a reference is taken.
+
+ghost use Rattle.std.specs.Prelude.{◌≡◌, ◌+◌, ◌≤◌, ℕ, List, Option, Some, None, IfOk, OnErr};
+ghost use Rattle.octets.specs.Causes.{HasCause};
+ghost use Rattle.git_object.specs.Repository.{Repository};
+ghost use Rattle.log_entries.specs.Entries.{Taken};
+ghost use Rattle.log_entries.specs.declared.entries.EntryBody.TheVariants.{Reference};
+ghost use Rattle.judging.specs.Books.{place_of};
+ghost use Rattle.judging.specs.Decisions.{decision_reads};
+ghost use Rattle.judging.specs.Engines.{IsTaken, Stands};
+ghost use Rattle.judging.specs.Judges.{IsSteady, judge_failed};
+ghost use Rattle.judging.specs.Rules.{Rules};
+ghost use Rattle.judging.specs.Standings.{standing_of};
+ghost use Rattle.judging.specs.Verdicts.{answer_of};
+
+use crate::deciding::decide;
+use crate::engine::Engine;
+use crate::keeping::keep_reference;
+use crate::references::{finishes, place_before};
+use crate::{EntryVerdict, Judge, JudgeFault};
+use git_object::{ObjectId, RefName};
+use log_entries::Entry;
+use octets::{Copied, Memory};
+use std::alloc::Global;
+
+// What is answered of an entry that has this fault, or none.
+fn answer<F: Copied>(fault: &Option<F>) -> Result<EntryVerdict<F>, Memory>
+    ensures { IfOk result (λ verdict. verdict ≡ answer_of fault.now) }
+{
+    match fault {
+        Some(fault) => Ok(EntryVerdict::Refused(fault.copied()?)),
+        None => Ok(EntryVerdict::Authorised),
+    }
+}
+
+/// Takes an entry of a reference. After a refusal the engine stands for what it stood for.
+pub fn take_reference<P: Drop, F: Copied, J: Judge<P, F>>(
+    alloc: Global,
+    engine: &mut Engine<P, F>,
+    judge: &mut J,
+    entry: &Entry,
+    name: &RefName,
+    target: &ObjectId,
+) -> Result<EntryVerdict<F>, JudgeFault>
+    requires { place_of engine.old.book entry.now.id ≡ None }
+    ensures taken { IfOk result (λ verdict. (r : Repository) (log : List Taken) → J.content judge.new ≡ Some r → Stands (J.rules judge.old) log engine.old
+        → entry.now.body ≡ Reference name.now target.now → IsTaken (J.rules judge.old) log (record { entry = entry.now; repository = r }) engine.new verdict) }
+    ensures refused { OnErr result ((rules : Rules P F) (log : List Taken) → Stands rules log engine.old → Stands rules log engine.new) }
+    ensures same { IsSteady (J.rules judge.old) (J.rules judge.new) (J.content judge.old) (J.content judge.new) }
+    ensures cause { HasCause judge_failed (J.faults judge.old) (J.faults judge.new) result }
+    ensures reads { (r : Repository) → J.content judge.new ≡ Some r → J.reads judge.new ≤ J.reads judge.old
+        + decision_reads (J.rules judge.old) r engine.old.policy entry.now name.now (standing_of engine.old.book name.now).from engine.old.attested
+        + (J.rules judge.old).tree_reads r (standing_of engine.old.book name.now).from target.now }
+{
+    let stands = place_before(&engine.book, name);
+    let found = decide(
+        alloc,
+        judge,
+        engine.policy.as_ref(),
+        entry,
+        name,
+        &stands.from,
+        engine.attested.as_ref(),
+    )?;
+    let finishes = finishes(alloc, judge, &engine.book, &found, name, &stands, target)?;
+    let verdict = answer(&found.fault)?;
+    keep_reference(
+        engine,
+        &entry.id,
+        name,
+        target,
+        stands.above,
+        finishes,
+        found,
+    )?;
+    Ok(verdict)
+}
