@@ -4,3 +4,4 @@ pub mod LaneSteps
 pub mod Readers
 pub mod Places
 pub mod Takes
+pub mod HitLemmas

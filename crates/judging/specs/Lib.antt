@@ -8,3 +8,4 @@ pub mod Judges
 pub mod Standings
 pub mod Decisions
 pub mod Engines
+pub mod Hits

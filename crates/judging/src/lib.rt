@@ -14,6 +14,7 @@ mod engine;
 mod judges;
 mod keeping;
 pub mod laws;
+mod noting;
 mod references;
 mod taking;
 mod verdicts;
