@@ -69,3 +69,8 @@ module _ {P F : Type 0} where
 
 pub hit_more : (hit : List ℕ → ℕ → Bool) (ids : List (List ℕ)) (k : ℕ) (id : List ℕ) (n : ℕ) → k < length ids → get_or ids k id ≡ id → (some_hit hit (take k ids) n || hit id n) ≡ some_hit hit (take (k + 1) ids) n
 hit_more hit ids k id n h is = sym (list_any_more (λ x. hit x n) ids k id h ∙ ap (λ x. some_hit hit (take k ids) n || hit x n) is)
+
+-- a test that nothing passes
+pub hit_never : (hit : List ℕ → ℕ → Bool) → ((id : List ℕ) (n : ℕ) → hit id n ≡ false) → (ids : List (List ℕ)) (n : ℕ) → some_hit hit ids n ≡ false
+hit_never hit h [] n = refl
+hit_never hit h (id ∷ ids) n = ap (λ b. b || some_hit hit ids n) (h id n) ∙ hit_never hit h ids n

@@ -42,7 +42,7 @@ outside_is a n i h =
 
 module _ {P F : Type 0} (rules : Rules P F) (log : List Taken) (t : Taken) where
   -- for numbers from the log, and for the new one
-  pushed_step : (name : List ℕ) → (lane rules (log ++ t ∷ []) name).pushed ≡ (lane rules log name).pushed ++ cond (is_of t.entry.body name) (suc (length log) ∷ []) []
+  pub pushed_step : (name : List ℕ) → (lane rules (log ++ t ∷ []) name).pushed ≡ (lane rules log name).pushed ++ cond (is_of t.entry.body name) (suc (length log) ∷ []) []
   pushed_step name =
       let now = log ++ t ∷ [] in
       let p : ℕ → Bool = λ i. is_entry_of (entry_at now i) name in
@@ -51,7 +51,7 @@ module _ {P F : Type 0} (rules : Rules P F) (log : List Taken) (t : Taken) where
       ∙ ap (λ xs. xs ++ cond (p (suc (length log))) (suc (length log) ∷ []) []) (filter_same p q (length log) (λ i a b. ap (λ x. is_entry_of x name) (entry_old log (t ∷ []) i a b)))
       ∙ ap (λ x. (lane rules log name).pushed ++ cond (is_entry_of x name) (suc (length log) ∷ []) []) (entry_new log t)
 
-  unskipped_step : (name : List ℕ) → (lane rules (log ++ t ∷ []) name).unskipped ≡ filter (λ i. not (skips rules log (Some t) (entry_at log i))) (lane rules log name).unskipped ++ cond (is_of t.entry.body name) (suc (length log) ∷ []) []
+  pub unskipped_step : (name : List ℕ) → (lane rules (log ++ t ∷ []) name).unskipped ≡ filter (λ i. not (skips rules log (Some t) (entry_at log i))) (lane rules log name).unskipped ++ cond (is_of t.entry.body name) (suc (length log) ∷ []) []
   unskipped_step name =
       let now = log ++ t ∷ [] in
       let n = length log in
@@ -69,7 +69,7 @@ module _ {P F : Type 0} (rules : Rules P F) (log : List Taken) (t : Taken) where
       ap (λ k. is_entry_of (entry_at now (suc n)) name && not k) (skipped_new rules log t)
       ∙ not_true (is_entry_of (entry_at now (suc n)) name) ∙ ap (λ x. is_entry_of x name) (entry_new log t))
 
-  pending_step : (name : List ℕ) → (lane rules (log ++ t ∷ []) name).pending ≡ filter (λ i. not (rescues_now rules log t i)) (lane rules log name).pending ++ cond (is_of t.entry.body name && not (is_none (fault_of rules log (Some t)))) (suc (length log) ∷ []) []
+  pub pending_step : (name : List ℕ) → (lane rules (log ++ t ∷ []) name).pending ≡ filter (λ i. not (rescues_now rules log t i)) (lane rules log name).pending ++ cond (is_of t.entry.body name && not (is_none (fault_of rules log (Some t)))) (suc (length log) ∷ []) []
   pending_step name =
       let now = log ++ t ∷ [] in
       let n = length log in

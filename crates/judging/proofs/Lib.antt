@@ -5,3 +5,4 @@ pub mod Readers
 pub mod Places
 pub mod Takes
 pub mod HitLemmas
+pub mod Notes

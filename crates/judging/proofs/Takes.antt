@@ -16,11 +16,12 @@ use Rattle.log_entries.specs.declared.entries.EntryBody.TheVariants.{Reference, 
 use Rattle.recovery.specs.Lanes.{Lane, lane_of, last_of}
 use Rattle.judging.specs.Books.{kept_fault, kept_target, next_number, place_of}
 use Rattle.judging.specs.Rules.{Rules, same_tree}
-use Rattle.judging.specs.Decisions.{IsFinish, decision, epoch_decision, ordinary_decision}
+use Rattle.judging.specs.Decisions.{IsFinish, decision, decision_reads, epoch_decision, ordinary_decision}
 use Rattle.judging.specs.Engines.{IsTaken, KeepsNothing, KeepsReference, Stands, opened_or}
 use Rattle.judging.specs.Logs.{above, attested_after, before, body_fault, body_signers, completes, entry_at, fault_at, fault_of, from, has_id, keeps_tree, lane, last_signers, next_attested, next_policy, opened, ordinary_fault, ordinary_signers, policy_after, prior, signers_of, target_at}
 use Rattle.judging.specs.Standings.{standing_at, standing_of}
 use Rattle.judging.specs.Steps.{recorded}
+use Rattle.judging.specs.Reading.{body_reads, reads_of}
 use Rattle.judging.specs.Verdicts.{answer_of, body_verdict}
 use Rattle.judging.specs.declared.deciding.Decision.{Decision}
 use Rattle.judging.specs.declared.engine.Engine.{Engine}
@@ -188,3 +189,17 @@ module _ {P F : Type 0} (rules : Rules P F) (log : List Taken) (t : Taken) where
           stands = stands_reference name target body e now finishes stands fresh decides (subst D there (subst K up keeps));
           answer = said ∙ ap answer_of (sym fault) ∙ ap (body_verdict (fault_of rules log (Some t))) (sym body);
         }
+
+pub none_there : {X : Type 0} (o : Option X) → is_some o ≡ false → o ≡ None
+none_there None h = refl
+none_there (Some x) h = absurd (true≢false h)
+
+module _ {P F : Type 0} (rules : Rules P F) (log : List Taken) (t : Taken) (name target : List ℕ) (body : t.entry.body ≡ Reference name target) (e : Engine P F) where
+  -- the reads of what is kept are those of the definitions
+  pub reads_are : Stands rules log e → reads_of rules log t ≡ decision_reads rules t.repository e.policy t.entry name (standing_of e.book name).from e.attested + rules.tree_reads t.repository (standing_of e.book name).from target
+  reads_are stands =
+      let here = ap (λ s. s.from) (standing_is rules log t e name stands) in
+      ap (body_reads rules log t) body
+      ∙ ap (λ f. decision_reads rules t.repository (policy_after rules log) t.entry name f (attested_after log) + rules.tree_reads t.repository f target) (sym here)
+      ∙ ap (λ p. decision_reads rules t.repository p t.entry name (standing_of e.book name).from (attested_after log) + rules.tree_reads t.repository (standing_of e.book name).from target) (sym stands.policy)
+      ∙ ap (λ a. decision_reads rules t.repository e.policy t.entry name (standing_of e.book name).from a + rules.tree_reads t.repository (standing_of e.book name).from target) (sym stands.attested)

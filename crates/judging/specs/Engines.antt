@@ -1,9 +1,11 @@
 -- What an engine stands for, and what its steps make of it.
-use Rattle.std.specs.Prelude.{◌≡◌, ◌≢◌, ◌↔◌, ◌<◌, ◌≤◌, ◌+◌, ◌++◌, ℕ, Bool, true, List, [], ◌∷◌, length, map, Option, Some, None, is_some, if◌then◌else◌}
+use Rattle.std.specs.Prelude.{◌≡◌, ◌≢◌, ◌&&◌, ◌↔◌, ◌<◌, ◌≤◌, ◌+◌, ◌++◌, ℕ, Bool, true, List, [], ◌∷◌, length, map, Option, Some, None, is_some, if◌then◌else◌}
 use Rattle.std.specs.Str.{bytes_eq}
 use Rattle.log_entries.specs.Entries.{Taken, attestations_name, target_of}
+use Rattle.log_entries.specs.declared.entries.Entry.{Entry}
 use Rattle.recovery.specs.Lanes.{lane_of}
-use Rattle.judging.specs.Books.{HasNote, IsPut, IsSame, Kept, kept_fault, next_number, place_of}
+use Rattle.judging.specs.Books.{HasLanes, HasNote, IsPut, IsSame, Kept, kept_fault, next_number, place_of}
+use Rattle.judging.specs.Hits.{IsHitBy, some_hit, without}
 use Rattle.judging.specs.Rules.{Rules}
 use Rattle.judging.specs.Logs.{attested_after, entry_at, fault_at, has_id, lane, last_signers, policy_after}
 use Rattle.judging.specs.Steps.{recorded}
@@ -59,3 +61,12 @@ module _ {P F : Type 0} where
     pub attested : now.attested ≡ was.attested
     pub signers : now.signers ≡ was.signers
     pub book : IsSame was.book now.book
+
+  -- an annotation is kept, and what it skips is skipped
+  pub record KeepsNote (rules : Rules P F) (annotation : Entry) (ids : List (List ℕ)) (skip : Bool) (was now : Engine P F) : Type 0 where
+    pub policy : now.policy ≡ was.policy
+    pub attested : now.attested ≡ was.attested
+    pub signers : now.signers ≡ []
+    pub mid : Kept F
+    pub noted : HasNote annotation.id was.book mid
+    pub skipped : (hit : List ℕ → ℕ → Bool) → IsHitBy rules was.policy annotation mid hit → HasLanes (λ name lane. without (λ n. skip && some_hit hit ids n) lane) mid now.book

@@ -1,6 +1,7 @@
 -- Which entries an annotation skips, by what is kept.
 use Rattle.std.specs.Prelude.{◌≡◌, ◌==◌, ℕ, Bool, true, false, not, List, Option, Some, None}
 use Rattle.std.specs.List.{filter, list_any}
+use Rattle.log_entries.specs.declared.entries.Entry.{Entry}
 use Rattle.recovery.specs.Lanes.{Lane, is_in, lane_of}
 use Rattle.judging.specs.Books.{Kept, place_of}
 use Rattle.judging.specs.Rules.{Rules}
@@ -20,3 +21,13 @@ without test lane = record { pushed = lane.pushed; unskipped = filter (λ n. not
 -- whether some id of the list hits a number
 abbrev pub some_hit : (List ℕ → ℕ → Bool) → List (List ℕ) → ℕ → Bool
 some_hit hit ids n = list_any (λ id. hit id n) ids
+
+module _ {P F : Type 0} (rules : Rules P F) where
+  -- the same, by the policy in force and the key that signed the annotation, where they are there
+  abbrev pub IsHitOf : P → Option (List ℕ) → Kept F → (List ℕ → ℕ → Bool) → Type 0
+  IsHitOf policy None kept hit = (id : List ℕ) (n : ℕ) → hit id n ≡ false
+  IsHitOf policy (Some key) kept hit = IsHit rules policy key kept hit
+
+  abbrev pub IsHitBy : Option P → Entry → Kept F → (List ℕ → ℕ → Bool) → Type 0
+  IsHitBy None annotation kept hit = (id : List ℕ) (n : ℕ) → hit id n ≡ false
+  IsHitBy (Some policy) annotation kept hit = IsHitOf policy (rules.skipper policy annotation) kept hit

@@ -9,3 +9,5 @@ pub mod Standings
 pub mod Decisions
 pub mod Engines
 pub mod Hits
+pub mod Tips
+pub mod Reading

@@ -1,17 +1,120 @@
 //! One forward pass over a log.
 
-use crate::KeyIds;
+ghost use Rattle.std.specs.Prelude.{◌≡◌, ◌↔◌, ◌<◌, ◌≤◌, ◌+◌, [], ℕ, List, Bool, Option, Some, None, true, false, IfOk, IsTrue, OnErr, OnOk};
+ghost use Rattle.std.specs.Option.{option_copied};
+ghost use Rattle.octets.specs.Causes.{HasCause};
+ghost use Rattle.git_object.specs.Repository.{Repository};
+ghost use Rattle.log_entries.specs.Entries.{Taken};
+ghost use Rattle.judging.specs.Judges.{IsSteady, judge_failed};
+ghost use Rattle.judging.specs.Rules.{Rules};
+ghost use Rattle.judging.specs.Logs.{is_entry_of, entry_at, last_signers, policy_after, prior_target, skipped};
+
 use crate::book::Book;
-use crate::deciding::Decision;
+use crate::deciding::decide;
+use crate::judged::{tip, violation};
+use crate::noting::take_note;
+use crate::references::place_before;
+use crate::taking::{answer, take_reference};
+use crate::{EntryVerdict, Judge, JudgeFault, KeyIds, Verdict};
 use git_object::{ObjectId, RefName};
-use octets::Memory;
+use log_entries::{Entry, EntryBody};
+use octets::{Copied, Memory};
 use std::alloc::Global;
 
-/// Judges the entries of a log one after the other, under policies `P`, and keeps of each what later ones need.
+/// Judges the entries of a log one after the other, under policies `P` and with faults `F`, and keeps of each what
+/// later ones need: the policy and the attestations' target now in force, the lanes of references, the target and
+/// the id of each entry, and the faults of those that were refused.
 #[derive(Drop)]
 pub struct Engine<P, F> {
     pub(crate) policy: Option<P>,
     pub(crate) attested: Option<ObjectId>,
     pub(crate) signers: KeyIds,
     pub(crate) book: Book<F>,
+}
+
+impl<P, F> Engine<P, F> {
+    ghost use Rattle.judging.specs.Engines.{Stands, has_taken, taken};
+
+    /// An engine that took no entry. It takes no memory.
+    pub fn new(alloc: Global) -> Engine<P, F>
+        ensures { (rules : Rules P F) → Stands rules [] result }
+    {
+        Engine {
+            policy: None,
+            attested: None,
+            signers: KeyIds::new(alloc),
+            book: Book::new(alloc),
+        }
+    }
+
+    /// How many entries were taken.
+    pub fn len(&self) -> u64
+        ensures { result ≡ taken self.now }
+    {
+        self.book.len()
+    }
+
+    /// Whether an entry of this id was taken.
+    pub fn has(&self, id: &ObjectId) -> bool
+        ensures { result ≡ has_taken self.now id.now }
+    {
+        self.book.place(id).is_some()
+    }
+
+    /// The policy in force after the entries taken.
+    pub fn policy(&self) -> Option<&P>
+        ensures { (rules : Rules P F) (log : List Taken) → Stands rules log self.now → option_copied result ≡ policy_after rules log }
+    {
+        self.policy.as_ref()
+    }
+
+    /// The keys that signed for the last entry taken. There are none for an annotation, for an entry of the
+    /// policy's reference, and where no policy was in force.
+    pub fn signers(&self) -> &KeyIds
+        ensures { (rules : Rules P F) (log : List Taken) → Stands rules log self.now → result.now ≡ last_signers rules log }
+    {
+        &self.signers
+    }
+}
+
+impl<P: Drop, F: Copied> Engine<P, F> {
+    ghost use Rattle.std.specs.Prelude.{◌++◌, ◌∷◌, unwrap_or};
+    ghost use Rattle.judging.specs.Decisions.{decision_reads};
+    ghost use Rattle.judging.specs.Engines.{IsTaken, Stands, has_taken, taken};
+    ghost use Rattle.judging.specs.Reading.{reads_of};
+    ghost use Rattle.judging.specs.Verdicts.{IsJudged, verdict_of};
+
+    /// Takes the next entry, of an id that no earlier one has, and answers whether it is authorised, refused for
+    /// a fault, or an annotation. After a refusal the engine stands for the list that it stood for.
+    pub fn extend<J: Judge<P, F>>(
+        &mut self,
+        alloc: Global,
+        judge: &mut J,
+        entry: &Entry,
+    ) -> Result<EntryVerdict<F>, JudgeFault>
+        requires next { entry.now.number ≡ taken self.old + 1 }
+        requires fresh { has_taken self.old entry.now.id ≡ false }
+        ensures taken { IfOk result (λ verdict. (r : Repository) (log : List Taken) → J.content judge.new ≡ Some r → Stands (J.rules judge.old) log self.old
+            → IsTaken (J.rules judge.old) log (record { entry = entry.now; repository = r }) self.new verdict) }
+        ensures count { OnOk result (taken self.new ≡ entry.now.number) }
+        ensures refused { OnErr result ((rules : Rules P F) (log : List Taken) → Stands rules log self.old → Stands rules log self.new) }
+        ensures same { IsSteady (J.rules judge.old) (J.rules judge.new) (J.content judge.old) (J.content judge.new) }
+        ensures cause { HasCause judge_failed (J.faults judge.old) (J.faults judge.new) result }
+        ensures reads { (r : Repository) (log : List Taken) → J.content judge.new ≡ Some r → Stands (J.rules judge.old) log self.old
+            → J.reads judge.new ≤ J.reads judge.old + reads_of (J.rules judge.old) log (record { entry = entry.now; repository = r }) }
+    {
+        match &entry.body {
+            EntryBody::Reference { name, target } => {
+                take_reference(alloc, self, judge, entry, name, target)
+            }
+            EntryBody::Annotation {
+                ids,
+                skip,
+                message: _,
+            } => {
+                take_note(alloc, self, judge, entry, ids.as_slice(), *skip)?;
+                Ok(EntryVerdict::Noted)
+            }
+        }
+    }
 }

@@ -11,6 +11,7 @@
 mod book;
 mod deciding;
 mod engine;
+mod judged;
 mod judges;
 mod keeping;
 pub mod laws;
@@ -19,5 +20,6 @@ mod references;
 mod taking;
 mod verdicts;
 
+pub use engine::Engine;
 pub use judges::{Finding, Judge, JudgeFault, KeyIds};
 pub use verdicts::{EntryVerdict, Verdict};

@@ -1,13 +1,13 @@
 //! How an entry of a reference is taken.
 
-ghost use Rattle.std.specs.Prelude.{◌≡◌, ◌+◌, ◌≤◌, ℕ, List, Option, Some, None, IfOk, OnErr};
+ghost use Rattle.std.specs.Prelude.{◌≡◌, ◌+◌, ◌≤◌, ℕ, List, Option, Some, None, IfOk, OnErr, OnOk};
 ghost use Rattle.octets.specs.Causes.{HasCause};
 ghost use Rattle.git_object.specs.Repository.{Repository};
 ghost use Rattle.log_entries.specs.Entries.{Taken};
 ghost use Rattle.log_entries.specs.declared.entries.EntryBody.TheVariants.{Reference};
 ghost use Rattle.judging.specs.Books.{place_of};
 ghost use Rattle.judging.specs.Decisions.{decision_reads};
-ghost use Rattle.judging.specs.Engines.{IsTaken, Stands};
+ghost use Rattle.judging.specs.Engines.{IsTaken, Stands, taken};
 ghost use Rattle.judging.specs.Judges.{IsSteady, judge_failed};
 ghost use Rattle.judging.specs.Rules.{Rules};
 ghost use Rattle.judging.specs.Standings.{standing_of};
@@ -23,8 +23,8 @@ use log_entries::Entry;
 use octets::{Copied, Memory};
 use std::alloc::Global;
 
-// What is answered of an entry that has this fault, or none.
-fn answer<F: Copied>(fault: &Option<F>) -> Result<EntryVerdict<F>, Memory>
+/// What is answered of an entry that has this fault, or none.
+pub fn answer<F: Copied>(fault: &Option<F>) -> Result<EntryVerdict<F>, Memory>
     ensures { IfOk result (λ verdict. verdict ≡ answer_of fault.now) }
 {
     match fault {
@@ -45,6 +45,7 @@ pub fn take_reference<P: Drop, F: Copied, J: Judge<P, F>>(
     requires { place_of engine.old.book entry.now.id ≡ None }
     ensures taken { IfOk result (λ verdict. (r : Repository) (log : List Taken) → J.content judge.new ≡ Some r → Stands (J.rules judge.old) log engine.old
         → entry.now.body ≡ Reference name.now target.now → IsTaken (J.rules judge.old) log (record { entry = entry.now; repository = r }) engine.new verdict) }
+    ensures count { OnOk result (taken engine.new ≡ taken engine.old + 1) }
     ensures refused { OnErr result ((rules : Rules P F) (log : List Taken) → Stands rules log engine.old → Stands rules log engine.new) }
     ensures same { IsSteady (J.rules judge.old) (J.rules judge.new) (J.content judge.old) (J.content judge.new) }
     ensures cause { HasCause judge_failed (J.faults judge.old) (J.faults judge.new) result }

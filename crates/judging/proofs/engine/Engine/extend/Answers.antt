@@ -1,0 +1,28 @@
+use Rattle.std.proofs.Common.{◌≡◌, ◌+◌, ◌≤◌, ℕ, Bool, List, Option, Some, None, ap, sym, subst, ◌∙◌, arith}
+use Rattle.git_object.specs.Repository.{Repository, empty_repository}
+use Rattle.log_entries.specs.Entries.{Taken}
+use Rattle.judging.specs.Books.{place_of}
+use Rattle.judging.specs.Engines.{KeepsNote}
+use Rattle.judging.specs.Rules.{Rules}
+use Rattle.judging.proofs.Notes.{taken_note}
+use Rattle.judging.proofs.Takes.{none_there, on_err, reads_are, stands_still}
+use Rattle.judging.proofs.engine.Engine.extend.Goals as goal
+
+pub returns-in_err-take_note-in-Annotation-clause-refused : goal.returns-in_err-take_note-in-Annotation-clause-refused
+returns-in_err-take_note-in-Annotation-clause-refused g c =
+    on_err c.from_residual.result (λ rules log stands. stands_still rules log (record { entry = c.args.entry.now; repository = empty_repository }) c.args.self.now c.take_note.new.engine stands c.in_err-take_note-in-Annotation.ensures.same)
+
+pub returns-in-Reference-clause-reads : goal.returns-in-Reference-clause-reads
+returns-in-Reference-clause-reads g c = λ r log told stands.
+    let t : Taken = record { entry = c.args.entry.now; repository = r } in
+    let bound = c.take_reference.ensures.reads r told in
+    let same = reads_are (g.J.Judge.rules c.args.judge.now) log t c.in-Reference.name c.in-Reference.target c.in-Reference.is c.args.self.now stands in
+    omega arith
+
+pub returns-in_ok-take_note-in-Annotation-clause-taken : goal.returns-in_ok-take_note-in-Annotation-clause-taken
+returns-in_ok-take_note-in-Annotation-clause-taken g c = λ r log told stands.
+    let t : Taken = record { entry = c.args.entry.now; repository = r } in
+    let rules = g.J.Judge.rules c.args.judge.now in
+    let K : List (List ℕ) → Type 0 = λ ids. KeepsNote rules c.args.entry.now ids c.in-Annotation.skip c.args.self.now c.take_note.new.engine in
+    let kept : K c.in-Annotation.ids = subst K c.as_slice.ensures c.in_ok-take_note-in-Annotation.ensures.kept in
+    taken_note rules log t c.in-Annotation.ids c.in-Annotation.skip c.in-Annotation.message c.in-Annotation.is c.args.self.now c.take_note.new.engine stands (none_there (place_of c.args.self.now.book c.args.entry.now.id) c.requires.fresh) kept

@@ -1,0 +1,17 @@
+-- The reads of objects that taking an entry may cost: those of the rules that decide it.
+use Rattle.std.specs.Prelude.{◌+◌, ℕ, List, Some}
+use Rattle.log_entries.specs.Entries.{Taken}
+use Rattle.log_entries.specs.declared.entries.EntryBody.{EntryBody}
+use Rattle.log_entries.specs.declared.entries.EntryBody.TheVariants.{Reference, Annotation}
+use Rattle.judging.specs.Rules.{Rules}
+use Rattle.judging.specs.Decisions.{decision_reads}
+use Rattle.judging.specs.Logs.{attested_after, from, policy_after}
+
+abbrev pub body_reads : {P F : Type 0} → Rules P F → List Taken → Taken → EntryBody → ℕ
+body_reads rules earlier t (Reference name target) =
+    decision_reads rules t.repository (policy_after rules earlier) t.entry name (from rules earlier name) (attested_after earlier) + rules.tree_reads t.repository (from rules earlier name) target
+body_reads rules earlier t (Annotation ids skip message) = 0
+
+-- of the entry that comes after these
+abbrev pub reads_of : {P F : Type 0} → Rules P F → List Taken → Taken → ℕ
+reads_of rules earlier t = body_reads rules earlier t t.entry.body
