@@ -1,0 +1,5 @@
+use Rattle.dsse_envelope.proofs.Counted.{count_is}
+use Rattle.dsse_envelope.proofs.reading.count.Goals as goal
+
+pub returns : goal.returns
+returns c = count_is c.args.values.now

@@ -1,0 +1,3 @@
+pub mod Authentication
+pub mod Base64
+pub mod Envelopes
