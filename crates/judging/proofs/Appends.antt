@@ -1,12 +1,11 @@
 -- What entries at the end of the list change of the earlier ones.
-use Rattle.std.proofs.Common.{◌≡◌, ◌≢◌, ◌⊎◌, ◌==◌, ◌&&◌, ◌||◌, ◌<◌, ◌≤◌, ◌+◌, ◌-◌, ◌++◌, ℕ, suc, zero, Bool, true, false, cond, not, nat_lt, ltb, is_none, List, [], ◌∷◌, Option, Some, None, length, take, map, refl, ap, sym, subst, inl, inr, ◌∙◌, arith, rules}
-use Rattle.std.specs.List.{filter, list_any, slice_get}
-use Rattle.std.proofs.lemmas.Bool.{cases_Bool, cases_eq, cases_lt, le-ltb, lt-ltb, true≢false}
-use Rattle.std.proofs.lemmas.List.{length_push, take-append-le, take_at, get_or_append_left, get_or_push}
-use Rattle.std.proofs.lemmas.Option.{slice_get-get_or}
-use Rattle.log_entries.specs.Entries.{Taken, is_of, skips_id}
+use Rattle.std.proofs.Common.{◌≡◌, ◌&&◌, ◌||◌, ◌<◌, ◌≤◌, ◌+◌, ◌-◌, ◌++◌, ℕ, suc, zero, Bool, true, false, not, nat_lt, is_none, List, [], ◌∷◌, Option, Some, None, length, refl, ap, ◌∙◌, arith}
+use Rattle.std.specs.List.{list_any, slice_get}
+use Rattle.std.proofs.lemmas.Bool.{le-ltb, lt-ltb}
+use Rattle.std.proofs.lemmas.List.{length_push, take-append-le, take_at}
+use Rattle.log_entries.specs.Entries.{Taken}
 use Rattle.judging.specs.Rules.{Rules}
-use Rattle.judging.specs.Logs.{above_of, authorised, before, completes, entry_at, fault_at, fault_of, is_entry_of, numbers, pending, rescued, rescues, share, skipped, skips}
+use Rattle.judging.specs.Logs.{above_of, authorised, before, completes, entry_at, fault_at, fault_of, numbers, pending, rescued, rescues, share, skipped, skips}
 use Rattle.judging.proofs.Counting.{any_none, any_same, any_suc}
 
 get_left : {X : Type 0} (xs ys : List X) (i : ℕ) → i < length xs → slice_get (xs ++ ys) i ≡ slice_get xs i

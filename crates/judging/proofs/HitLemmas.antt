@@ -1,12 +1,12 @@
 -- Tests of ids and numbers, and what they leave of lanes.
-use Rattle.std.proofs.Common.{◌≡◌, ◌==◌, ◌&&◌, ◌||◌, ◌<◌, ◌+◌, ◌++◌, ℕ, Bool, true, false, cond, not, List, [], ◌∷◌, Option, Some, None, length, get_or, take, refl, ap, sym, subst, ◌∙◌, arith}
-use Rattle.std.specs.List.{filter, list_any}
+use Rattle.std.proofs.Common.{◌≡◌, ◌&&◌, ◌||◌, ◌<◌, ◌+◌, ℕ, Bool, true, false, cond, not, List, [], ◌∷◌, length, get_or, take, refl, ap, sym, ◌∙◌}
+use Rattle.std.specs.List.{filter}
 use Rattle.std.specs.BTreeMap.{is_at}
 use Rattle.std.specs.Map.{lookup}
 use Rattle.std.proofs.lemmas.List.Elements.{filter_agree}
 use Rattle.std.proofs.lemmas.List.Folds.{list_any_more}
 use Rattle.octets.specs.BytesMap.{by_bytes}
-use Rattle.recovery.specs.Lanes.{Lane, is_in, lane_of, with_skip}
+use Rattle.recovery.specs.Lanes.{Lane, is_in, lane_of}
 use Rattle.judging.specs.Books.{HasLanes, Kept, place_of}
 use Rattle.judging.specs.Hits.{IsHit, some_hit, without}
 use Rattle.judging.specs.Rules.{Rules}

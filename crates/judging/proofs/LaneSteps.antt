@@ -1,17 +1,16 @@
 -- What one entry more makes of each reference's lane.
-use Rattle.std.proofs.Common.{◌≡◌, ◌≢◌, ◌⊎◌, ◌==◌, ◌&&◌, ◌||◌, ◌<◌, ◌≤◌, ◌+◌, ◌-◌, ◌++◌, ℕ, suc, zero, Bool, true, false, cond, not, nat_lt, nat_le, is_none, is_some, ltb-false, List, [], ◌∷◌, Option, Some, None, length, refl, ap, sym, subst, inl, inr, ◌∙◌, arith, rules}
+use Rattle.std.proofs.Common.{◌≡◌, ◌⊎◌, ◌&&◌, ◌||◌, ◌≤◌, ◌++◌, ℕ, suc, Bool, true, false, cond, not, nat_lt, nat_le, is_none, is_some, ltb-false, List, [], ◌∷◌, Option, Some, None, length, refl, ap, sym, subst, inl, inr, ◌∙◌, arith}
 use Rattle.std.specs.List.{filter, list_any}
 use Rattle.std.specs.Str.{bytes_eq}
 use Rattle.std.specs.Cmp.Lexicographic.{bytes_decides}
 use Rattle.std.proofs.lemmas.Bool.{and_parts, cases_Bool, cases_lt, le-leb, lt-leb, le-ltb, lt-ltb, true≢false}
 use Rattle.std.proofs.lemmas.List.{append-nil}
-use Rattle.std.proofs.lemmas.List.Elements.{filter-append}
 use Rattle.log_entries.specs.Entries.{Taken, is_of, shares, skips_id}
 use Rattle.log_entries.specs.declared.entries.EntryBody.{EntryBody}
 use Rattle.log_entries.specs.declared.entries.EntryBody.TheVariants.{Reference, Annotation}
-use Rattle.recovery.specs.Lanes.{Lane, is_outside, with_fix, with_number}
-use Rattle.judging.specs.Rules.{Rules, same_tree}
-use Rattle.judging.specs.Logs.{above, above_of, body_above, may_skip, policy_after, before, completes, entry_at, fault_of, from, is_entry_of, keeps_tree, lane, numbers, pending, share, skipped, skips}
+use Rattle.recovery.specs.Lanes.{Lane, is_outside}
+use Rattle.judging.specs.Rules.{Rules}
+use Rattle.judging.specs.Logs.{above, above_of, body_above, may_skip, policy_after, completes, entry_at, fault_of, is_entry_of, keeps_tree, lane, numbers, pending, share, skipped, skips}
 use Rattle.judging.specs.Steps.{recorded}
 use Rattle.judging.proofs.Appends.{entry_new, entry_old, long, pending_new, pending_old, rescues_now, skipped_new, skipped_old}
 use Rattle.judging.proofs.Counting.{filter_same, filter_suc, filter_twice}

@@ -1,5 +1,5 @@
 -- An annotation leaves the engine standing for the list with it.
-use Rattle.std.proofs.Common.{◌≡◌, ◌≢◌, ◌⊎◌, ◌↔◌, ◌==◌, ◌&&◌, ◌||◌, ◌<◌, ◌≤◌, ◌+◌, ◌-◌, ◌++◌, ℕ, suc, zero, Bool, true, false, cond, not, nat_lt, is_none, is_some, ltb-true, List, [], ◌∷◌, Option, Some, None, length, map, refl, ap, sym, subst, inl, inr, ◌∙◌, arith, rules}
+use Rattle.std.proofs.Common.{◌≡◌, ◌⊎◌, ◌↔◌, ◌==◌, ◌&&◌, ◌||◌, ◌<◌, ◌≤◌, ◌++◌, ℕ, suc, Bool, true, false, cond, not, nat_lt, is_none, ltb-true, List, [], ◌∷◌, Option, Some, None, length, map, refl, ap, sym, subst, inl, inr, ◌∙◌, arith}
 use Rattle.std.specs.List.{filter, list_any}
 use Rattle.std.specs.BTreeMap.{is_at}
 use Rattle.std.specs.Map.{lookup}
@@ -14,12 +14,12 @@ use Rattle.git_object.specs.Ids.{zeros}
 use Rattle.log_entries.specs.Entries.{Taken, attestations_name, is_of, policy_name, shares, skips_id, target_of}
 use Rattle.log_entries.specs.declared.entries.EntryBody.{EntryBody}
 use Rattle.log_entries.specs.declared.entries.EntryBody.TheVariants.{Reference, Annotation}
-use Rattle.recovery.specs.Lanes.{Lane, is_in, lane_of}
-use Rattle.judging.specs.Books.{HasLanes, HasNote, Kept, kept_fault, next_number, place_of}
+use Rattle.recovery.specs.Lanes.{Lane, is_in, is_skipped_in, lane_of}
+use Rattle.judging.specs.Books.{HasNote, Kept, next_number, place_of}
 use Rattle.judging.specs.Engines.{IsTaken, KeepsNote, Stands}
 use Rattle.judging.specs.Hits.{IsHit, IsHitBy, IsHitOf, some_hit, without}
 use Rattle.judging.specs.Rules.{Rules}
-use Rattle.judging.specs.Logs.{above_of, attested_after, body_fault, body_signers, completes, entry_at, fault_at, fault_of, has_id, is_entry_of, key_may_skip, lane, may_skip, numbers, opened, pending, policy_after, share, skipped, skips}
+use Rattle.judging.specs.Logs.{above_of, attested_after, body_fault, body_signers, completes, entry_at, fault_at, fault_of, has_id, is_entry_of, key_may_skip, lane, may_skip, numbers, opened, policy_after, share, skipped, skips}
 use Rattle.judging.specs.Verdicts.{body_verdict}
 use Rattle.judging.specs.declared.verdicts.EntryVerdict.TheVariants.{Noted}
 use Rattle.judging.specs.declared.engine.Engine.{Engine}
@@ -254,3 +254,36 @@ module _ {P F : Type 0} (rules : Rules P F) (log : List Taken) (t : Taken) where
     -- an annotation that was kept is taken
     pub taken_note : Stands rules log e → place_of e.book t.entry.id ≡ None → KeepsNote rules t.entry ids skip e now → IsTaken rules log t now Noted
     taken_note stands fresh keeps = record { stands = stands_note stands fresh keeps; answer = ap (body_verdict (fault_of rules log (Some t))) (sym body) }
+
+-- ---- whether an entry is skipped
+module _ {P F : Type 0} (rules : Rules P F) (log : List Taken) (e : Engine P F) (stands : Stands rules log e) where
+  pub skipped_is : (n : ℕ) → ((name : List ℕ) × (is_skipped_in n (lane_of e.book.marks name) ≡ true)) ↔ ((0 < n) × (name : List ℕ) × (is_entry_of (entry_at log n) name ≡ true) × (skipped rules log n ≡ true))
+  skipped_is n = (
+    λ w.
+        let name = w.0 in
+        let p = and_parts (is_in n (lane rules log name).pushed) (not (is_in n (lane rules log name).unskipped)) (ap (is_skipped_in n) (sym (stands.lanes name)) ∙ w.1) in
+        let q = in_numbers (λ i. is_entry_of (entry_at log i) name) (length log) n p.0 in (
+          q.0,
+          name,
+          q.2,
+          elim (cases_Bool (skipped rules log n)) [
+            | inl is ↦ is
+            | inr isnt ↦ absurd (true≢false (sym p.1 ∙ ap not (numbers_in (λ i. is_entry_of (entry_at log i) name && not (skipped rules log i)) (length log) n q.0 q.1 (ap (λ b. b && not (skipped rules log n)) q.2 ∙ ap not isnt))))
+          ],
+        ),
+    λ w.
+        let name = w.1 in
+        let within : n ≤ length log = elim (cases_lt (length log) n) [
+          | inl past ↦ absurd (true≢false (sym w.2 ∙ ap (λ x. is_entry_of x name) (no_entry log n past)))
+          | inr within ↦ within
+        ] in
+        let pushed : is_in n (lane rules log name).pushed ≡ true = numbers_in (λ i. is_entry_of (entry_at log i) name) (length log) n w.0 within w.2 in
+        let out : is_in n (lane rules log name).unskipped ≡ false = elim (cases_Bool (is_in n (lane rules log name).unskipped)) [
+          | inl is ↦
+              let q = in_numbers (λ i. is_entry_of (entry_at log i) name && not (skipped rules log i)) (length log) n is in
+              let r = and_parts (is_entry_of (entry_at log n) name) (not (skipped rules log n)) q.2 in
+              absurd (true≢false (sym r.1 ∙ ap not w.3))
+          | inr isnt ↦ isnt
+        ] in
+        (name, ap (is_skipped_in n) (stands.lanes name) ∙ ap (λ b. b && not (is_in n (lane rules log name).unskipped)) pushed ∙ ap not out),
+  )

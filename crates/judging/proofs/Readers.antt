@@ -1,20 +1,19 @@
 -- The definitions over the list, read aloud.
-use Rattle.std.proofs.Common.{◌≡◌, ◌≢◌, ◌⊎◌, ◌↔◌, ◌==◌, ◌&&◌, ◌||◌, ◌<◌, ◌≤◌, ◌+◌, ◌-◌, ◌++◌, ℕ, suc, zero, Bool, true, false, cond, not, nat_lt, nat_le, is_none, ltb-true, List, [], ◌∷◌, Option, Some, None, length, refl, ap, sym, subst, inl, inr, ◌∙◌, arith, rules}
-use Rattle.std.specs.List.{filter}
+use Rattle.std.proofs.Common.{◌≡◌, ◌≢◌, ◌⊎◌, ◌↔◌, ◌&&◌, ◌<◌, ◌≤◌, ◌++◌, ℕ, Bool, true, false, cond, not, nat_lt, is_none, ltb-true, List, Option, Some, None, length, refl, ap, sym, subst, inl, inr, ◌∙◌, arith}
 use Rattle.std.specs.Option.{unwrap_or}
 use Rattle.std.specs.Result.{result_err}
 use Rattle.std.specs.Str.{bytes_eq}
 use Rattle.std.specs.Cmp.Lexicographic.{bytes_decides}
-use Rattle.std.proofs.lemmas.Bool.{and_parts, cases_Bool, cases_lt, lt-ltb, true≢false}
+use Rattle.std.proofs.lemmas.Bool.{and_parts, cases_Bool, lt-ltb, true≢false}
 use Rattle.std.proofs.lemmas.List.{length-append}
 use Rattle.log_entries.specs.Entries.{Taken, is_of, policy_name, shares, skips_id}
 use Rattle.log_entries.specs.declared.entries.EntryBody.{EntryBody}
 use Rattle.log_entries.specs.declared.entries.EntryBody.TheVariants.{Reference, Annotation}
 use Rattle.recovery.specs.Lanes.{first_of}
 use Rattle.judging.specs.Rules.{Rules, same_tree}
-use Rattle.judging.specs.Logs.{above_of, attested_after, authorised, before, body_above, body_fault, completes, entry_at, fault_at, fault_of, from, is_entry_of, keeps_tree, lane, may_skip, numbers, ordinary_fault, pending, policy_after, prior, rescued, rescues, share, skipped, skips}
+use Rattle.judging.specs.Logs.{above_of, attested_after, authorised, before, body_above, body_fault, completes, entry_at, fault_at, fault_of, from, is_entry_of, keeps_tree, lane, may_skip, ordinary_fault, pending, policy_after, prior, rescued, rescues, share, skipped, skips}
 use Rattle.judging.specs.Readings.{HasFault, IsPrior, IsRescue, IsSkip, IsViolation, Stays}
-use Rattle.judging.proofs.Appends.{fault_old, rescues_old, entry_old, before_old}
+use Rattle.judging.proofs.Appends.{fault_old, rescues_old}
 use Rattle.judging.proofs.Counting.{first_number, last_number, no_first, no_last, number_some, some_number}
 
 is_none_from : {X : Type 0} (o : Option X) → is_none o ≡ true → o ≡ None

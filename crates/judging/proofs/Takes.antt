@@ -1,33 +1,36 @@
 -- An engine that stands for a list stands for the list with the entry that it kept.
-use Rattle.std.proofs.Common.{◌≡◌, ◌≢◌, ◌⊎◌, ◌↔◌, ◌==◌, ◌&&◌, ◌<◌, ◌≤◌, ◌+◌, ◌-◌, ◌++◌, ℕ, suc, zero, Bool, true, false, cond, not, nat_lt, is_none, is_some, ⊎_elim, List, [], ◌∷◌, Option, Some, None, Result, Ok, Err, length, map, refl, ap, sym, subst, inl, inr, ◌∙◌, arith, rules}
+use Rattle.std.proofs.Common.{◌≡◌, ◌↔◌, ◌==◌, ◌&&◌, ◌<◌, ◌≤◌, ◌+◌, ◌-◌, ◌++◌, ℕ, suc, Bool, true, false, cond, not, nat_lt, is_none, is_some, ⊎_elim, List, [], ◌∷◌, Option, Some, None, Result, Ok, Err, length, map, refl, ap, sym, subst, inl, inr, ◌∙◌, arith}
 use Rattle.std.specs.List.{list_any, slice_get}
 use Rattle.std.specs.Option.{option_and_then, option_map, unwrap_or}
 use Rattle.std.specs.Result.{OnErr, result_err}
 use Rattle.std.specs.Str.{bytes_eq}
 use Rattle.std.specs.Cmp.Lexicographic.{bytes_decides}
-use Rattle.std.proofs.lemmas.Bool.{cases_Bool, cases_eq, cases_lt, ne_eqb, true≢false}
+use Rattle.std.proofs.lemmas.Bool.{and_parts, cases_Bool, cases_eq, ne_eqb, true≢false}
 use Rattle.std.proofs.lemmas.List.{length-map, map_push}
 use Rattle.std.proofs.lemmas.Option.{slice_get-map}
 use Rattle.std.proofs.lemmas.List.Sums.{fold_push}
 use Rattle.git_object.specs.Ids.{zeros}
 use Rattle.log_entries.specs.Entries.{Taken, attestations_name, is_of, policy_name, target_of}
-use Rattle.log_entries.specs.declared.entries.EntryBody.{EntryBody}
-use Rattle.log_entries.specs.declared.entries.EntryBody.TheVariants.{Reference, Annotation}
-use Rattle.recovery.specs.Lanes.{Lane, lane_of, last_of}
+use Rattle.log_entries.specs.declared.entries.EntryBody.TheVariants.{Reference}
+use Rattle.recovery.specs.Lanes.{Lane, first_of, lane_of, last_of}
 use Rattle.judging.specs.Books.{kept_fault, kept_target, next_number, place_of}
 use Rattle.judging.specs.Rules.{Rules, same_tree}
 use Rattle.judging.specs.Decisions.{IsFinish, decision, decision_reads, epoch_decision, ordinary_decision}
 use Rattle.judging.specs.Engines.{IsTaken, KeepsNothing, KeepsReference, Stands, opened_or}
-use Rattle.judging.specs.Logs.{above, attested_after, before, body_fault, body_signers, completes, entry_at, fault_at, fault_of, from, has_id, keeps_tree, lane, last_signers, next_attested, next_policy, opened, ordinary_fault, ordinary_signers, policy_after, prior, signers_of, target_at}
+use Rattle.judging.specs.Logs.{above, attested_after, authorised, before, body_fault, body_signers, completes, entry_at, fault_at, fault_of, from, has_id, is_entry_of, keeps_tree, lane, last_signers, next_attested, next_policy, opened, ordinary_fault, ordinary_signers, pending, policy_after, prior, prior_target, rescued, signers_of, target_at}
 use Rattle.judging.specs.Standings.{standing_at, standing_of}
 use Rattle.judging.specs.Steps.{recorded}
 use Rattle.judging.specs.Reading.{body_reads, reads_of}
-use Rattle.judging.specs.Verdicts.{answer_of, body_verdict}
+use Rattle.judging.specs.Tips.{IsTip}
+use Rattle.judging.specs.Verdicts.{IsJudged, answer_of, body_verdict, verdict_of}
 use Rattle.judging.specs.declared.deciding.Decision.{Decision}
 use Rattle.judging.specs.declared.engine.Engine.{Engine}
 use Rattle.judging.specs.declared.references.Standing.{Standing}
 use Rattle.judging.specs.declared.verdicts.EntryVerdict.{EntryVerdict}
-use Rattle.judging.proofs.Appends.{before_new, entry_new, entry_old, fault_new, fault_old, long, no_entry}
+use Rattle.judging.specs.declared.verdicts.Verdict.{Verdict}
+use Rattle.judging.specs.declared.verdicts.Verdict.TheVariants.{Violation, TipDiffers, Accepted}
+use Rattle.judging.proofs.Counting.{first_number}
+use Rattle.judging.proofs.Appends.{before_new, entry_new, entry_old, fault_new, fault_old, long}
 use Rattle.judging.proofs.Readers.{prior_reads}
 use Rattle.judging.proofs.LaneSteps.{Decides, reference_lanes}
 
@@ -203,3 +206,66 @@ module _ {P F : Type 0} (rules : Rules P F) (log : List Taken) (t : Taken) (name
       ∙ ap (λ f. decision_reads rules t.repository (policy_after rules log) t.entry name f (attested_after log) + rules.tree_reads t.repository f target) (sym here)
       ∙ ap (λ p. decision_reads rules t.repository p t.entry name (standing_of e.book name).from (attested_after log) + rules.tree_reads t.repository (standing_of e.book name).from target) (sym stands.policy)
       ∙ ap (λ a. decision_reads rules t.repository e.policy t.entry name (standing_of e.book name).from a + rules.tree_reads t.repository (standing_of e.book name).from target) (sym stands.attested)
+
+  -- the verdict of a look
+  pub looked : (d : Decision P F) (s : Standing) (verdict : EntryVerdict F) → Stands rules log e → s ≡ standing_of e.book name → d ≡ decision rules t.repository e.policy t.entry name s.from e.attested → verdict ≡ answer_of d.fault → verdict ≡ verdict_of rules log t
+  looked d s verdict stands at is said =
+      let here : s ≡ record { above = above rules log name; from = from rules log name } = at ∙ standing_is rules log t e name stands in
+      let there : d ≡ found rules log t name target body =
+      is ∙ ap (λ p. decision rules t.repository p t.entry name s.from e.attested) stands.policy
+      ∙ ap (λ x. decision rules t.repository (policy_after rules log) t.entry name x.from e.attested) here
+      ∙ ap (decision rules t.repository (policy_after rules log) t.entry name (from rules log name)) stands.attested in
+      said ∙ ap (λ x. answer_of x.fault) there ∙ ap answer_of (sym (fault_found rules log t name target body)) ∙ ap (body_verdict (fault_of rules log (Some t))) (sym body)
+
+module _ {P F : Type 0} (rules : Rules P F) (log : List Taken) (e : Engine P F) (stands : Stands rules log e) where
+  -- ---- what an engine that stands for the list reads
+  some_prior : (name : List ℕ) (i : ℕ) → prior rules log name ≡ Some i → kept_target e.book i ≡ target_at log i
+  some_prior name i is =
+      let p = prior_reads rules log name i is in
+      let positive : (i == 0) ≡ false = ne_eqb i 0 (let f = p.first in λ x. absurd (omega arith)) in
+      ap (λ b. cond b None (slice_get e.book.targets (i - 1))) positive ∙ ap (λ xs. slice_get xs (i - 1)) stands.targets ∙ slice_get-map (λ u. target_of u.entry.body) log (i - 1)
+
+  pub prior_target_is : (name : List ℕ) → option_and_then (kept_target e.book) (last_of (lane_of e.book.marks name).unskipped) ≡ prior_target rules log name
+  prior_target_is name = ap (λ (l : Lane). option_and_then (kept_target e.book) (last_of l.unskipped)) (stands.lanes name) ∙ by_prior (prior rules log name) refl where
+    by_prior : (o : Option ℕ) → prior rules log name ≡ o → option_and_then (kept_target e.book) o ≡ option_and_then (target_at log) o
+    by_prior None is = refl
+    by_prior (Some i) is = some_prior name i is
+
+  standing_from : (name : List ℕ) → (standing_of e.book name).from ≡ from rules log name
+  standing_from name = by_last (last_of (lane_of e.book.marks name).unskipped) ∙ ap (λ o. unwrap_or o zeros) (prior_target_is name) where
+    by_last : (o : Option ℕ) → (standing_at e.book o).from ≡ unwrap_or (option_and_then (kept_target e.book) o) zeros
+    by_last None = refl
+    by_last (Some i) = refl
+
+  pub violation_is : (name kept : List ℕ) (number : ℕ) (fault : F) → first_of (lane_of e.book.marks name).pending ≡ Some number → kept_fault e.book number ≡ Some fault → IsJudged rules log name kept (Violation number fault)
+  violation_is name kept number fault first is =
+      let here : first_of (lane rules log name).pending ≡ Some number = ap (λ (l : Lane). first_of l.pending) (sym (stands.lanes name)) ∙ first in
+      let w = first_number (λ i. is_entry_of (entry_at log i) name && pending rules log i) (length log) number here in
+      let p = and_parts (is_entry_of (entry_at log number) name) (pending rules log number) w.2 in
+      let q = and_parts (not (authorised rules log number)) (not (rescued rules log number)) p.1 in
+      (here, by_fault (fault_at rules log number) refl q.0 w.0 w.1) where
+        by_fault : (o : Option F) → fault_at rules log number ≡ o → not (is_none (fault_at rules log number)) ≡ true → 0 < number → number ≤ length log → fault_at rules log number ≡ Some fault
+        by_fault None at h a b = absurd (true≢false (sym h ∙ ap (λ o. not (is_none o)) at))
+        by_fault (Some f) at h a b = let same : Some f ≡ Some fault = sym (stands.faults number f a b at) ∙ is in at ∙ same
+
+  pub no_violation : (name : List ℕ) → ((number : ℕ) → first_of (lane_of e.book.marks name).pending ≡ Some number → kept_fault e.book number ≡ None) → first_of (lane rules log name).pending ≡ None
+  no_violation name none = by_first (first_of (lane rules log name).pending) refl where
+    by_fault : (number : ℕ) (o : Option F) → fault_at rules log number ≡ o → not (is_none (fault_at rules log number)) ≡ true → 0 < number → number ≤ length log → kept_fault e.book number ≡ None → ⊥
+    by_fault number None at h a b k = true≢false (sym h ∙ ap (λ o. not (is_none o)) at)
+    by_fault number (Some f) at h a b k = let clash : None ≡ Some f = sym k ∙ stands.faults number f a b at in cc
+
+    by_first : (o : Option ℕ) → first_of (lane rules log name).pending ≡ o → first_of (lane rules log name).pending ≡ None
+    by_first None is = is
+    by_first (Some number) is =
+        let w = first_number (λ i. is_entry_of (entry_at log i) name && pending rules log i) (length log) number is in
+        let p = and_parts (is_entry_of (entry_at log number) name) (pending rules log number) w.2 in
+        let q = and_parts (not (authorised rules log number)) (not (rescued rules log number)) p.1 in
+        absurd (by_fault number (fault_at rules log number) refl q.0 w.0 w.1 (none number (ap (λ (l : Lane). first_of l.pending) (stands.lanes name) ∙ is)))
+
+  pub tip_is : (name kept : List ℕ) (v : Verdict F) → first_of (lane rules log name).pending ≡ None → IsTip e.book name kept v → IsJudged rules log name kept v
+  tip_is name kept (Violation number fault) none is = absurd is
+  tip_is name kept (TipDiffers stood recorded) none is =
+      let f = standing_from name in
+      (none, is.0, is.1 ∙ f, λ x. is.2 (x ∙ sym f))
+  tip_is name kept (Accepted count) none is =
+      (none, is.0 ∙ standing_from name, is.1 ∙ ap (λ (l : Lane). length l.pushed) (stands.lanes name))

@@ -1,6 +1,6 @@
 -- What is kept of entries: the lanes of references, targets in the order of numbers, numbers by id, and the faults of
 -- those that were refused.
-use Rattle.std.specs.Prelude.{◌≡◌, ◌≢◌, ◌==◌, ◌-◌, ◌+◌, ◌++◌, ℕ, Bool, List, [], ◌∷◌, length, Option, Some, None, is_some, if◌then◌else◌, refl}
+use Rattle.std.specs.Prelude.{◌≡◌, ◌≢◌, ◌==◌, ◌-◌, ◌+◌, ◌++◌, ℕ, List, [], ◌∷◌, length, Option, Some, None, is_some, if◌then◌else◌, refl}
 use Rattle.std.specs.BTreeMap.{is_at}
 use Rattle.std.specs.Coded.{Coded, code_by, coded×, coded_list, coded_ℕ}
 use Rattle.std.specs.FinMap.{code}
@@ -10,7 +10,7 @@ use Rattle.std.specs.Ordering.{nat_cmp}
 use Rattle.std.specs.Str.{bytes_eq}
 use Rattle.octets.specs.BytesMap.{BytesMap, by_bytes}
 use Rattle.git_object.specs.Ids.{zeros}
-use Rattle.recovery.specs.Lanes.{IsNew, Lane, lane_coded, lane_of, with_fix, with_number, with_skip}
+use Rattle.recovery.specs.Lanes.{Lane, lane_coded, lane_of, with_number}
 
 pub record Kept (F : Type 0) : Type 0 where
   pub marks : BytesMap Lane

@@ -1,9 +1,9 @@
 -- What is found of an entry of a reference before anything is kept.
-use Rattle.std.specs.Prelude.{◌≡◌, ◌⊎◌, ◌&&◌, ◌+◌, ◌≤◌, nat_lt, ℕ, Bool, true, false, List, [], Option, Some, None, Result, Ok, Err, if◌then◌else◌, is_none}
+use Rattle.std.specs.Prelude.{◌≡◌, ◌⊎◌, ◌&&◌, nat_lt, ℕ, Bool, false, List, [], Option, Some, None, Result, Ok, Err, if◌then◌else◌, is_none}
 use Rattle.std.specs.List.{list_any}
 use Rattle.std.specs.Str.{bytes_eq}
 use Rattle.git_object.specs.Repository.{Repository}
-use Rattle.log_entries.specs.Entries.{Taken, policy_name}
+use Rattle.log_entries.specs.Entries.{policy_name}
 use Rattle.log_entries.specs.declared.entries.Entry.{Entry}
 use Rattle.recovery.specs.Lanes.{lane_of}
 use Rattle.judging.specs.Books.{Kept}

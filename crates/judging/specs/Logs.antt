@@ -1,12 +1,11 @@
 -- What the whole list of entries says of each: who may skip it, what stood before it, its fault, whether it was
 -- rescued. Entries are numbered from 1. What concerns an entry is a function of the entries before it and of it.
-use Rattle.std.specs.Prelude.{◌==◌, ◌-◌, ◌&&◌, ◌++◌, ℕ, suc, zero, Bool, true, false, not, List, [], ◌∷◌, length, take, Option, Some, None, Result, Ok, Err, if◌then◌else◌, is_none, nat_lt, unwrap_or, option_and_then}
+use Rattle.std.specs.Prelude.{◌-◌, ◌&&◌, ◌++◌, ℕ, suc, zero, Bool, false, not, List, [], ◌∷◌, length, take, Option, Some, None, Result, Ok, Err, if◌then◌else◌, is_none, nat_lt, unwrap_or, option_and_then}
 use Rattle.std.specs.List.{filter, fold, list_any, slice_get}
 use Rattle.std.specs.Result.{result_err}
 use Rattle.std.specs.Option.{option_map}
 use Rattle.std.specs.Str.{bytes_eq}
 use Rattle.git_object.specs.Ids.{zeros}
-use Rattle.git_object.specs.Repository.{Repository}
 use Rattle.log_entries.specs.Entries.{Taken, attestations_name, is_of, policy_name, shares, skips_id, target_of}
 use Rattle.log_entries.specs.declared.entries.Entry.{Entry}
 use Rattle.log_entries.specs.declared.entries.EntryBody.{EntryBody}

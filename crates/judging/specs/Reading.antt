@@ -1,5 +1,5 @@
 -- The reads of objects that taking an entry may cost: those of the rules that decide it.
-use Rattle.std.specs.Prelude.{◌+◌, ℕ, List, Some}
+use Rattle.std.specs.Prelude.{◌+◌, ℕ, List}
 use Rattle.log_entries.specs.Entries.{Taken}
 use Rattle.log_entries.specs.declared.entries.EntryBody.{EntryBody}
 use Rattle.log_entries.specs.declared.entries.EntryBody.TheVariants.{Reference, Annotation}

@@ -1,13 +1,10 @@
 -- The definitions over the list, read aloud: each as a reader would say it, without tests and filters.
-use Rattle.std.specs.Prelude.{◌≡◌, ◌≢◌, ◌⊎◌, ◌<◌, ◌≤◌, ◌++◌, ◌-◌, ℕ, true, false, List, length, Option, Some, None, Result, Ok, Err, IsSome}
+use Rattle.std.specs.Prelude.{◌≡◌, ◌≢◌, ◌⊎◌, ◌<◌, ◌≤◌, ◌++◌, ℕ, true, false, List, length, Some, None, Ok, Err}
 use Rattle.std.specs.Result.{result_err}
-use Rattle.git_object.specs.Ids.{zeros}
-use Rattle.log_entries.specs.Entries.{Taken, policy_name, skips_id, target_of}
-use Rattle.log_entries.specs.declared.entries.EntryBody.TheVariants.{Reference, Annotation}
+use Rattle.log_entries.specs.Entries.{Taken, policy_name, skips_id}
+use Rattle.log_entries.specs.declared.entries.EntryBody.TheVariants.{Reference}
 use Rattle.judging.specs.Rules.{Rules, same_tree}
-use Rattle.judging.specs.Logs.{above_of, attested_after, authorised, before, completes, entry_at, fault_at, from, is_entry_of, may_skip, policy_after, prior, rescued, share, skipped, skips}
-use Rattle.judging.specs.declared.verdicts.Verdict.{Verdict}
-use Rattle.judging.specs.declared.verdicts.Verdict.TheVariants.{Violation, TipDiffers, Accepted}
+use Rattle.judging.specs.Logs.{attested_after, authorised, before, entry_at, fault_at, from, is_entry_of, may_skip, policy_after, prior, rescued, skipped}
 
 module _ {P F : Type 0} (rules : Rules P F) (log : List Taken) where
   -- annotation a is later, lists the entry's id to skip it, and its key may

@@ -1,5 +1,5 @@
 -- The rules of judging, as functions that are given: P is a policy, and F a fault.
-use Rattle.std.specs.Prelude.{◌&&◌, ℕ, Bool, false, List, Option, Some, None, Result, Ok, Err}
+use Rattle.std.specs.Prelude.{ℕ, Bool, false, List, Option, Some, None, Result}
 use Rattle.std.specs.Str.{bytes_eq}
 use Rattle.git_object.specs.Repository.{Repository}
 use Rattle.log_entries.specs.declared.entries.Entry.{Entry}

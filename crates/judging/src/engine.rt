@@ -10,11 +10,9 @@ ghost use Rattle.judging.specs.Rules.{Rules};
 ghost use Rattle.judging.specs.Logs.{is_entry_of, entry_at, last_signers, policy_after, prior_target, skipped};
 
 use crate::book::Book;
-use crate::deciding::decide;
 use crate::judged::{tip, violation};
 use crate::noting::take_note;
-use crate::references::place_before;
-use crate::taking::{answer, take_reference};
+use crate::taking::{look_reference, take_reference};
 use crate::{EntryVerdict, Judge, JudgeFault, KeyIds, Verdict};
 use git_object::{ObjectId, RefName};
 use log_entries::{Entry, EntryBody};
@@ -59,6 +57,22 @@ impl<P, F> Engine<P, F> {
         ensures { result ≡ has_taken self.now id.now }
     {
         self.book.place(id).is_some()
+    }
+
+    /// The target of a reference's last entry that is not skipped.
+    pub fn prior_target(&self, name: &RefName) -> Option<ObjectId>
+        ensures { (rules : Rules P F) (log : List Taken) → Stands rules log self.now → result ≡ prior_target rules log name.now }
+    {
+        let prior = self.book.prior(name)?;
+        self.book.target(prior)
+    }
+
+    /// Whether the entry of a number is a reference's and is skipped.
+    pub fn skipped(&self, number: u64) -> bool
+        ensures { (rules : Rules P F) (log : List Taken) → Stands rules log self.now
+            → IsTrue result ↔ ((0 < number) × (name : List ℕ) × (is_entry_of (entry_at log number) name ≡ true) × (skipped rules log number ≡ true)) }
+    {
+        self.book.is_skipped(number)
     }
 
     /// The policy in force after the entries taken.
@@ -115,6 +129,45 @@ impl<P: Drop, F: Copied> Engine<P, F> {
                 take_note(alloc, self, judge, entry, ids.as_slice(), *skip)?;
                 Ok(EntryVerdict::Noted)
             }
+        }
+    }
+
+    /// What `extend` would answer of the next entry. Nothing changes.
+    pub fn look<J: Judge<P, F>>(
+        &self,
+        alloc: Global,
+        judge: &mut J,
+        entry: &Entry,
+    ) -> Result<EntryVerdict<F>, JudgeFault>
+        requires next { entry.now.number ≡ taken self.now + 1 }
+        requires fresh { has_taken self.now entry.now.id ≡ false }
+        ensures answer { IfOk result (λ verdict. (r : Repository) (log : List Taken) → J.content judge.new ≡ Some r → Stands (J.rules judge.old) log self.now
+            → verdict ≡ verdict_of (J.rules judge.old) log (record { entry = entry.now; repository = r })) }
+        ensures same { IsSteady (J.rules judge.old) (J.rules judge.new) (J.content judge.old) (J.content judge.new) }
+        ensures cause { HasCause judge_failed (J.faults judge.old) (J.faults judge.new) result }
+        ensures reads { (r : Repository) (log : List Taken) → J.content judge.new ≡ Some r → Stands (J.rules judge.old) log self.now
+            → J.reads judge.new ≤ J.reads judge.old + reads_of (J.rules judge.old) log (record { entry = entry.now; repository = r }) }
+    {
+        match &entry.body {
+            EntryBody::Reference { name, target: _ } => {
+                look_reference(alloc, self, judge, entry, name)
+            }
+            EntryBody::Annotation {
+                ids: _,
+                skip: _,
+                message: _,
+            } => Ok(EntryVerdict::Noted),
+        }
+    }
+
+    /// The verdict on a reference that has this value, by the entries taken: the first entry that is neither
+    /// authorised nor rescued; else whether the reference stands where its last entry that is not skipped put it.
+    pub fn verdict(&self, name: &RefName, kept: &ObjectId) -> Result<Verdict<F>, Memory>
+        ensures { IfOk result (λ verdict. (rules : Rules P F) (log : List Taken) → Stands rules log self.now → IsJudged rules log name.now kept.now verdict) }
+    {
+        match violation(&self.book, name)? {
+            Some(verdict) => Ok(verdict),
+            None => Ok(tip(&self.book, name, kept)),
         }
     }
 }

@@ -11,7 +11,7 @@ ghost use Rattle.judging.specs.Engines.{IsTaken, Stands, taken};
 ghost use Rattle.judging.specs.Judges.{IsSteady, judge_failed};
 ghost use Rattle.judging.specs.Rules.{Rules};
 ghost use Rattle.judging.specs.Standings.{standing_of};
-ghost use Rattle.judging.specs.Verdicts.{answer_of};
+ghost use Rattle.judging.specs.Verdicts.{answer_of, verdict_of};
 
 use crate::deciding::decide;
 use crate::engine::Engine;
@@ -74,5 +74,34 @@ pub fn take_reference<P: Drop, F: Copied, J: Judge<P, F>>(
         finishes,
         found,
     )?;
+    Ok(verdict)
+}
+
+/// What would be answered of an entry of a reference. Nothing changes.
+pub fn look_reference<P: Drop, F: Copied, J: Judge<P, F>>(
+    alloc: Global,
+    engine: &Engine<P, F>,
+    judge: &mut J,
+    entry: &Entry,
+    name: &RefName,
+) -> Result<EntryVerdict<F>, JudgeFault>
+    ensures answer { IfOk result (λ verdict. (r : Repository) (log : List Taken) (target : List ℕ) → J.content judge.new ≡ Some r → Stands (J.rules judge.old) log engine.now
+        → entry.now.body ≡ Reference name.now target → verdict ≡ verdict_of (J.rules judge.old) log (record { entry = entry.now; repository = r })) }
+    ensures same { IsSteady (J.rules judge.old) (J.rules judge.new) (J.content judge.old) (J.content judge.new) }
+    ensures cause { HasCause judge_failed (J.faults judge.old) (J.faults judge.new) result }
+    ensures reads { (r : Repository) → J.content judge.new ≡ Some r → J.reads judge.new ≤ J.reads judge.old
+        + decision_reads (J.rules judge.old) r engine.now.policy entry.now name.now (standing_of engine.now.book name.now).from engine.now.attested }
+{
+    let stands = place_before(&engine.book, name);
+    let found = decide(
+        alloc,
+        judge,
+        engine.policy.as_ref(),
+        entry,
+        name,
+        &stands.from,
+        engine.attested.as_ref(),
+    )?;
+    let verdict = answer(&found.fault)?;
     Ok(verdict)
 }

@@ -1,4 +1,4 @@
-use Rattle.std.proofs.Common.{◌≡◌, ◌+◌, ℕ, List, Some, length}
+use Rattle.std.proofs.Common.{◌+◌, Some}
 use Rattle.std.specs.BTreeMap as tree
 use Rattle.octets.specs.BytesMap.{by_bytes}
 use Rattle.judging.proofs.Places.{taken_back}

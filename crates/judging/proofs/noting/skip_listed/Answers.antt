@@ -1,4 +1,4 @@
-use Rattle.std.proofs.Common.{◌≡◌, ℕ, Bool, false, List, Option, Some, None, Bor, ap, sym, subst, ◌∙◌}
+use Rattle.std.proofs.Common.{◌≡◌, ℕ, false, List, Option, Bor, sym, subst, ◌∙◌}
 use Rattle.std.specs.Option.{option_copied}
 use Rattle.judging.specs.Hits.{IsHitBy, IsHitOf, some_hit, without}
 use Rattle.judging.proofs.HitLemmas.{hit_never, lanes_still, without_none}

@@ -1,4 +1,4 @@
-use Rattle.std.proofs.Common.{◌≡◌, ◌==◌, ℕ, Bool, List, sym}
+use Rattle.std.proofs.Common.{◌==◌, sym}
 use Rattle.recovery.specs.Lanes.{with_skip}
 use Rattle.judging.specs.Hits.{without}
 use Rattle.judging.proofs.HitLemmas.{lanes_as, lanes_still, without_none, without_same}

@@ -1,4 +1,4 @@
-use Rattle.std.proofs.Common.{◌≡◌, ◌&&◌, ℕ, Bool, List, ap}
+use Rattle.std.proofs.Common.{◌&&◌, ap}
 use Rattle.judging.specs.Hits.{some_hit, without}
 use Rattle.judging.proofs.HitLemmas.{lanes_still, without_none}
 use Rattle.judging.proofs.noting.skip_where.Goals as goal

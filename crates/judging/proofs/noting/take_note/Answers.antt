@@ -1,4 +1,4 @@
-use Rattle.std.proofs.Common.{◌≡◌, ℕ, Bool, List, Option, refl, ap, sym, subst}
+use Rattle.std.proofs.Common.{Option, refl, sym, subst}
 use Rattle.judging.specs.Hits.{IsHitBy}
 use Rattle.judging.proofs.noting.take_note.Goals as goal
 

@@ -1,8 +1,7 @@
-use Rattle.std.proofs.Common.{◌≡◌, ℕ, List, Option, Some, None, ap, sym, subst, ◌∙◌}
+use Rattle.std.proofs.Common.{◌≡◌, ap, subst, ◌∙◌}
 use Rattle.std.specs.Option.{option_copied}
-use Rattle.git_object.specs.Repository.{Repository, empty_repository}
+use Rattle.git_object.specs.Repository.{empty_repository}
 use Rattle.log_entries.specs.Entries.{Taken}
-use Rattle.judging.specs.Books.{place_of}
 use Rattle.judging.specs.Decisions.{IsFinish, decision}
 use Rattle.judging.specs.Rules.{Rules}
 use Rattle.judging.proofs.Takes.{on_err, stands_still, taken_reference}

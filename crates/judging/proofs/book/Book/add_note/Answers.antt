@@ -1,4 +1,4 @@
-use Rattle.std.proofs.Common.{◌≡◌, ◌+◌, ◌++◌, ℕ, cond, List, [], ◌∷◌, Some, length, ap, ◌∙◌}
+use Rattle.std.proofs.Common.{◌+◌, ◌++◌, cond, [], ◌∷◌, Some, length, ap, ◌∙◌}
 use Rattle.std.specs.BTreeMap as tree
 use Rattle.std.specs.Str.{bytes_eq}
 use Rattle.octets.specs.BytesMap.{by_bytes}

@@ -1,9 +1,8 @@
-use Rattle.std.proofs.Common.{◌≡◌, ◌+◌, ◌≤◌, ℕ, Bool, List, Option, Some, None, ap, sym, subst, ◌∙◌, arith}
-use Rattle.git_object.specs.Repository.{Repository, empty_repository}
+use Rattle.std.proofs.Common.{ℕ, List, subst, arith}
+use Rattle.git_object.specs.Repository.{empty_repository}
 use Rattle.log_entries.specs.Entries.{Taken}
 use Rattle.judging.specs.Books.{place_of}
 use Rattle.judging.specs.Engines.{KeepsNote}
-use Rattle.judging.specs.Rules.{Rules}
 use Rattle.judging.proofs.Notes.{taken_note}
 use Rattle.judging.proofs.Takes.{none_there, on_err, reads_are, stands_still}
 use Rattle.judging.proofs.engine.Engine.extend.Goals as goal

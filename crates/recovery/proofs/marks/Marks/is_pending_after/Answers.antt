@@ -1,4 +1,4 @@
-use Rattle.std.proofs.Common.{◌≡◌, ◌<◌, ℕ, nat_lt, Some, None, length, refl, ap, sym, ◌∙◌, arith}
+use Rattle.std.proofs.Common.{nat_lt, ap, sym, ◌∙◌}
 use Rattle.std.specs.List.{list_any}
 use Rattle.recovery.specs.Lanes.{Lane, lane_of}
 use Rattle.recovery.proofs.LaneLemmas.{lane_for, lanes_are}

@@ -1,4 +1,4 @@
-use Rattle.std.proofs.Common.{◌≡◌, ◌-◌, ℕ, List, Option, Some, None, true, false, nat_lt, length, ap, sym, ◌∙◌}
+use Rattle.std.proofs.Common.{◌≡◌, ◌-◌, ℕ, List, Some, None, nat_lt, length, ap, sym, ◌∙◌}
 use Rattle.std.specs.List.{list_any, slice_get}
 use Rattle.recovery.proofs.Cuts.{none_passes, passes_last}
 use Rattle.recovery.proofs.pending.Pending.passes.Goals as goal
