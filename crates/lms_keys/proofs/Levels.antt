@@ -140,10 +140,10 @@ pub is_key : (n : ℕ) (public message s : List ℕ) (read : Result PublicKey Ke
 is_key n public message s read BadLength is short unknown signed = short.0 is (signed-long n public message s signed)
 is_key n public message s read BadType is short unknown signed = signed-known n public message s signed (unknown.0 is).1
 
-spelled-number : (n : ℕ) (bytes rest : List ℕ) → n < 2 ^ 32 → bytes ≡ to_be_bytes w32 n ++ rest → number_in bytes 0 ≡ n
+pub spelled-number : (n : ℕ) (bytes rest : List ℕ) → n < 2 ^ 32 → bytes ≡ to_be_bytes w32 n ++ rest → number_in bytes 0 ≡ n
 spelled-number n bytes rest small same = ap (λ l. number_in l 0) same ∙ from_be_bytes-to_be_bytes_4 n small
 
-spelled-rest : (n : ℕ) (bytes rest : List ℕ) → bytes ≡ to_be_bytes w32 n ++ rest → drop 4 bytes ≡ rest
+pub spelled-rest : (n : ℕ) (bytes rest : List ℕ) → bytes ≡ to_be_bytes w32 n ++ rest → drop 4 bytes ≡ rest
 spelled-rest n bytes rest same = ap (drop 4) same
 
 spelled : (n : ℕ) (bytes : List ℕ) → 4 ≤ length bytes → ((k : ℕ) → get_or bytes k 0 < 256) → n ≡ number_in bytes 0

@@ -4,6 +4,7 @@ pub mod KeyBytes
 pub mod SameKey
 pub mod OnBytes
 pub mod Levels
+pub mod Deciding
 pub mod Signing
 pub mod Written
 pub mod Filling

@@ -1,10 +1,11 @@
 //! What holds of all keys.
 
-ghost use Rattle.std.specs.Prelude.{◌≡◌, ◌+◌, ◌*◌, ◌^◌, ◌<◌, ◌≤◌};
+ghost use Rattle.std.specs.Prelude.{◌≡◌, ◌↔◌, ◌+◌, ◌*◌, ◌^◌, ◌<◌, ◌≤◌, ℕ, List, true};
 ghost use Rattle.lms_keys.specs.LmsType.{height};
 ghost use Rattle.lms_keys.specs.OneLeaf.{OneLeaf, OtherMessage};
 ghost use Rattle.lms_keys.specs.PublicKey.{OneKey};
-ghost use Rattle.lms_keys.specs.SigOk.{ByOneKey};
+ghost use Rattle.lms_keys.specs.Deciding.{is_good};
+ghost use Rattle.lms_keys.specs.SigOk.{ByOneKey, SigOk};
 ghost use Rattle.lms_keys.specs.Tree.{inner_value, leaf_of, tree_node};
 
 use crate::lms_type::LmsType;
@@ -30,6 +31,11 @@ pub fn one_key()
 /// By the bytes of an LMS key exactly those signatures are good that are good for the key.
 pub fn by_one_key()
     ensures { ByOneKey }
+{}
+
+/// A signature is good exactly where the test on its bytes says so, whatever the three texts are.
+pub fn decided()
+    ensures { (public message s : List ℕ) → (is_good public message s ≡ true) ↔ SigOk public message s }
 {}
 
 /// Two good signatures of a key with one leaf lead to the same ends of its chains and have the same

@@ -1,6 +1,7 @@
 //! Whether a signature is good.
 
-ghost use Rattle.std.specs.Prelude.{◌↔◌, IsTrue};
+ghost use Rattle.std.specs.Prelude.{◌≡◌, ◌↔◌, IsTrue};
+ghost use Rattle.lms_keys.specs.Deciding.{is_good};
 ghost use Rattle.lms_keys.specs.PublicKey.{key_bytes};
 ghost use Rattle.lms_keys.specs.Signature.{IsSignature};
 ghost use Rattle.lms_keys.specs.SigOk.{AreSignedKeys, HssSigOk, LmsSigOk, SigOk};
@@ -98,10 +99,8 @@ fn verify_hss(public: &[u8], message: &[u8], signature: &[u8]) -> bool
     verify_signed(levels - 1, first, message, rest)
 }
 
-/// Whether the bytes are a good signature of `message` by the public key that `public` spells: 56
-/// bytes of an LMS key (RFC 8554, section 5.3), or 60 of an HSS key of one to eight levels (section
-/// 6.1). Any other bytes are no key, and nothing is good by them.
-pub fn verify_any(public: &[u8], message: &[u8], signature: &[u8]) -> bool
+// By the bytes of either key, which their number tells apart.
+fn verify_by_length(public: &[u8], message: &[u8], signature: &[u8]) -> bool
     ensures { IsTrue result ↔ SigOk public.now message.now signature.now }
 {
     if public.len() == 56 {
@@ -109,4 +108,14 @@ pub fn verify_any(public: &[u8], message: &[u8], signature: &[u8]) -> bool
     } else {
         verify_hss(public, message, signature)
     }
+}
+
+/// Whether the bytes are a good signature of `message` by the public key that `public` spells: 56
+/// bytes of an LMS key (RFC 8554, section 5.3), or 60 of an HSS key of one to eight levels (section
+/// 6.1). Any other bytes are no key, and nothing is good by them.
+pub fn verify_any(public: &[u8], message: &[u8], signature: &[u8]) -> bool
+    ensures good { IsTrue result ↔ SigOk public.now message.now signature.now }
+    ensures test { result ≡ is_good public.now message.now signature.now }
+{
+    verify_by_length(public, message, signature)
 }
