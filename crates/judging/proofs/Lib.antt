@@ -6,3 +6,4 @@ pub mod Places
 pub mod Takes
 pub mod HitLemmas
 pub mod Notes
+pub mod Forces

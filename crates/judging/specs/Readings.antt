@@ -51,6 +51,10 @@ module _ {P F : Type 0} (rules : Rules P F) (log : List Taken) where
     -- and no earlier entry of the reference is like it
     pub least : (j : ℕ) → 0 < j → j < i → is_entry_of (entry_at log j) name ≡ true → (fault_at rules log j ≡ None) ⊎ (rescued rules log j ≡ true)
 
+  -- the entry of the policy's reference opens no policy
+  abbrev pub OpensNone : ℕ → Taken → Type 0
+  OpensNone j t = (fault : F) × (rules.epoch t.repository (policy_after rules (before log j)) t.entry ≡ Err fault)
+
   -- the policy that the entry opened, of which no later entry of the policy's reference opened another
   pub record IsInForce (policy : P) (k : ℕ) : Type 0 where
     pub first : 0 < k
@@ -59,7 +63,7 @@ module _ {P F : Type 0} (rules : Rules P F) (log : List Taken) where
     pub there : entry_at log k ≡ Some epoch
     pub own : is_entry_of (entry_at log k) policy_name ≡ true
     pub opens : rules.epoch epoch.repository (policy_after rules (before log k)) epoch.entry ≡ Ok policy
-    pub last : (j : ℕ) (t : Taken) → k < j → j ≤ length log → entry_at log j ≡ Some t → is_entry_of (entry_at log j) policy_name ≡ true → (fault : F) × (rules.epoch t.repository (policy_after rules (before log j)) t.entry ≡ Err fault)
+    pub last : (j : ℕ) (t : Taken) → k < j → j ≤ length log → entry_at log j ≡ Some t → is_entry_of (entry_at log j) policy_name ≡ true → OpensNone j t
 
   -- the entry has the fault of its rule
   pub record HasFault (i : ℕ) (t : Taken) : Type 0 where

@@ -2,11 +2,11 @@
 //! are the laws, over any policies `P`, any faults `F` and any rules over them.
 
 ghost use Rattle.std.specs.Prelude.{◌≡◌, ◌⊎◌, ◌↔◌, ◌<◌, ◌≤◌, ◌++◌, ℕ, List, length, true, Some, None};
-ghost use Rattle.log_entries.specs.Entries.{Taken};
+ghost use Rattle.log_entries.specs.Entries.{Taken, policy_name};
 ghost use Rattle.recovery.specs.Lanes.{first_of};
 ghost use Rattle.judging.specs.Rules.{Rules};
-ghost use Rattle.judging.specs.Logs.{entry_at, fault_at, is_entry_of, lane, prior, rescued, skipped};
-ghost use Rattle.judging.specs.Readings.{HasFault, IsPrior, IsRescue, IsSkip, IsViolation, Stays};
+ghost use Rattle.judging.specs.Logs.{entry_at, fault_at, is_entry_of, lane, policy_after, prior, rescued, skipped};
+ghost use Rattle.judging.specs.Readings.{HasFault, IsInForce, IsPrior, IsRescue, IsSkip, IsViolation, OpensNone, Stays};
 
 /// An entry is skipped exactly where some later annotation skips it.
 pub fn skipped_where<P, F>()
@@ -23,6 +23,14 @@ pub fn prior_greatest<P, F>()
     ensures some { (rules : Rules P F) (log : List Taken) (name : List ℕ) (i : ℕ) → prior rules log name ≡ Some i → IsPrior rules log name i }
     ensures none { (rules : Rules P F) (log : List Taken) (name : List ℕ) → prior rules log name ≡ None
         → (j : ℕ) → 0 < j → j ≤ length log → is_entry_of (entry_at log j) name ≡ true → skipped rules log j ≡ true }
+{}
+
+/// The policy in force is the one that an entry of the policy's reference opened, of which no later one opened
+/// another; where there is none, no entry opened any.
+pub fn policy_in_force<P, F>()
+    ensures some { (rules : Rules P F) (log : List Taken) (policy : P) → policy_after rules log ≡ Some policy → (k : ℕ) × IsInForce rules log policy k }
+    ensures none { (rules : Rules P F) (log : List Taken) → policy_after rules log ≡ None
+        → (j : ℕ) (t : Taken) → 0 < j → j ≤ length log → entry_at log j ≡ Some t → is_entry_of (entry_at log j) policy_name ≡ true → OpensNone rules log j t }
 {}
 
 /// The fault of an entry is the one that its rule gives, under the policy in force, from its prior's target.

@@ -1,0 +1,188 @@
+//! The judge.
+
+ghost use Rattle.std.specs.Prelude.{◌≡◌, ◌↔◌, ◌+◌, ◌≤◌, Some, IfOk, IsErrOf, IsTrue};
+ghost use Rattle.std.specs.Option.{option_copied};
+ghost use Rattle.octets.specs.Calls.{after_call, fails_next};
+ghost use Rattle.octets.specs.Causes.{HasCause};
+ghost use Rattle.git_object.specs.Repository.{empty_repository};
+ghost use Rattle.judging.specs.Judges.{IsSteady, judge_failed};
+ghost use Rattle.judging.specs.Rules.{same_tree};
+ghost use Rattle.log_entries.specs.Entries.{target_of};
+ghost use Rattle.small_judge.specs.SmallRules.{epoch, fault, opened_key, signers, signs, small_rules, tree};
+
+use crate::{Holder, SmallFault};
+use git_object::{KeyId, ObjectId, RefName};
+use judging::{Finding, Judge, JudgeFault, KeyIds};
+use log_entries::{Entry, EntryBody};
+use octets::{FailingCalls, Memory};
+use std::alloc::Global;
+
+/// Answers the small rules over an empty repository. The calls that may fail are counted from 1.
+#[derive(Drop)]
+pub struct SmallJudge {
+    calls: FailingCalls,
+}
+
+impl SmallJudge {
+    /// A judge of whose calls none fails. It takes no memory.
+    pub fn new(alloc: Global) -> SmallJudge {
+        SmallJudge {
+            calls: FailingCalls::none(alloc),
+        }
+    }
+
+    /// A judge of whose calls those with these numbers fail.
+    pub fn failing(calls: Vec<u64>) -> SmallJudge {
+        SmallJudge {
+            calls: FailingCalls::listed(calls),
+        }
+    }
+
+    // Counts a call, and refuses it where it is one that fails.
+    fn call(&mut self) -> Result<(), JudgeFault>
+        ensures cause { HasCause judge_failed self.old.calls.faults self.new.calls.faults result }
+        ensures listed { IsErrOf result JudgeFault.Failed ↔ IsTrue (fails_next self.old.calls) }
+        ensures after { self.new.calls ≡ after_call self.old.calls }
+    {
+        if self.calls.fails() {
+            return Err(JudgeFault::Failed);
+        }
+        Ok(())
+    }
+}
+
+// Whether the key is the signer's.
+fn is_signed_by(entry: &Entry, key: &KeyId) -> bool
+    ensures { result ≡ signs entry.now.signer key.now }
+{
+    match &entry.signer {
+        Some(signer) => signer.as_bytes() == key.as_bytes(),
+        None => false,
+    }
+}
+
+fn target_of(entry: &Entry) -> ObjectId
+    ensures { result ≡ target_of entry.now.body }
+{
+    match &entry.body {
+        EntryBody::Reference { name: _, target } => *target,
+        EntryBody::Annotation {
+            ids: _,
+            skip: _,
+            message: _,
+        } => ObjectId::zeros(),
+    }
+}
+
+fn opened(entry: &Entry) -> Holder
+    ensures { result ≡ opened_key entry.now }
+{
+    let target = target_of(entry);
+    Holder {
+        key: KeyId(target.0),
+    }
+}
+
+fn epoch(policy: Option<&Holder>, entry: &Entry) -> Result<Holder, SmallFault>
+    ensures { result ≡ epoch (option_copied policy.entry) entry.now }
+{
+    match policy {
+        None => match &entry.signer {
+            None => Err(SmallFault::Unsigned),
+            Some(_) => Ok(opened(entry)),
+        },
+        Some(holder) => {
+            if is_signed_by(entry, &holder.key) {
+                Ok(opened(entry))
+            } else {
+                Err(SmallFault::Stranger)
+            }
+        }
+    }
+}
+
+fn fault(holder: &Holder, entry: &Entry) -> Option<SmallFault>
+    ensures { result ≡ fault holder.now entry.now }
+{
+    if is_signed_by(entry, &holder.key) {
+        None
+    } else {
+        Some(SmallFault::Stranger)
+    }
+}
+
+fn signers(alloc: Global, holder: &Holder, entry: &Entry) -> Result<KeyIds, Memory>
+    ensures { IfOk result (λ ids. ids ≡ signers holder.now entry.now) }
+{
+    let mut ids = KeyIds::new(alloc);
+    if is_signed_by(entry, &holder.key) {
+        ids.push(holder.key)?;
+    }
+    Ok(ids)
+}
+
+fn tree(target: &ObjectId) -> &[u8]
+    ensures { result.now ≡ tree target.now }
+{
+    &target.as_bytes()[..31]
+}
+
+impl Judge<Holder, SmallFault> for SmallJudge {
+    ghost rules = { λ j. small_rules };
+
+    ghost content = { λ j. Some empty_repository };
+
+    ghost faults = { λ j. j.calls.faults };
+
+    ghost reads = { λ j. 0 };
+
+    fn epoch(
+        &mut self,
+        _alloc: Global,
+        policy: Option<&Holder>,
+        entry: &Entry,
+    ) -> Result<Result<Holder, SmallFault>, JudgeFault> {
+        self.call()?;
+        Ok(epoch(policy, entry))
+    }
+
+    fn find(
+        &mut self,
+        alloc: Global,
+        policy: &Holder,
+        entry: &Entry,
+        _from: &ObjectId,
+        _attested: Option<&ObjectId>,
+    ) -> Result<Finding<SmallFault>, JudgeFault> {
+        self.call()?;
+        let fault = fault(policy, entry);
+        let signers = signers(alloc, policy, entry)?;
+        Ok(Finding { fault, signers })
+    }
+
+    fn has_same_tree(
+        &mut self,
+        _alloc: Global,
+        from: &ObjectId,
+        to: &ObjectId,
+    ) -> Result<bool, JudgeFault> {
+        self.call()?;
+        Ok(tree(from) == tree(to))
+    }
+
+    fn no_policy(&self) -> SmallFault {
+        SmallFault::NoPolicy
+    }
+
+    fn skipper(&self, policy: &Holder, annotation: &Entry) -> Option<KeyId> {
+        if is_signed_by(annotation, &policy.key) {
+            Some(policy.key)
+        } else {
+            None
+        }
+    }
+
+    fn may_skip(&self, policy: &Holder, key: &KeyId, _name: &RefName) -> bool {
+        policy.key.as_bytes() == key.as_bytes()
+    }
+}
