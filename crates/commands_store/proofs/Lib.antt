@@ -1,4 +1,3 @@
-mod LogName
 mod SameOutcome
 mod StaysOpen
 mod ToldContent

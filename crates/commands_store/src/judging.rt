@@ -3,28 +3,14 @@
 ghost use Rattle.std.specs.Prelude.{◌≡◌, ◌↔◌, Some, IfOk, IsTrue, MatchOption};
 ghost use Rattle.octets.specs.Causes.{HasCause};
 ghost use Rattle.keeper_api.specs.Faults.{keeper_failed};
-ghost use Rattle.git_object.specs.Names.{log_name};
 ghost use Rattle.git_object.specs.Repository.{Repository, value_of};
 ghost use Rattle.keeper_api.specs.Undisturbed.{Undisturbed};
 ghost use Rattle.commands_store.specs.Verdicts.{HasLog, IsVerdict};
 
 use crate::verdicts::{Verdict, verdict_on};
-use command_words::LOG_NAME;
-use git_object::{ObjectId, RefFault, RefName};
+use git_object::{ObjectId, RefName};
 use keeper_api::{Keeper, KeeperFault};
-use octets::Memory;
 use std::alloc::Global;
-
-// The name of the log's reference.
-fn log_ref(alloc: Global) -> Result<RefName, Memory>
-    ensures { IfOk result (λ name. name ≡ log_name) }
-{
-    match RefName::read(alloc, LOG_NAME.as_bytes()) {
-        Ok(name) => Ok(name),
-        Err(RefFault::BadRef) => unreachable!(),
-        Err(RefFault::Memory) => Err(Memory),
-    }
-}
 
 // Whether the log's reference is there.
 fn has_log<R: Keeper>(alloc: Global, keeper: &mut R) -> Result<bool, KeeperFault>
@@ -33,7 +19,7 @@ fn has_log<R: Keeper>(alloc: Global, keeper: &mut R) -> Result<bool, KeeperFault
     ensures cause { HasCause keeper_failed (R.faults keeper.old) (R.faults keeper.new) result }
     ensures reads { R.reads keeper.new ≡ R.reads keeper.old }
 {
-    let name = log_ref(alloc)?;
+    let name = RefName::of_log(alloc)?;
     match keeper.read_ref(alloc, &name) {
         Ok(found) => Ok(found.is_some()),
         Err(fault) => Err(fault),

@@ -4,7 +4,9 @@ pub mod IdLemmas
 pub mod KeyLemmas
 pub mod LineLemmas
 pub mod NameLemmas
+pub mod NameTests
 pub mod NamesAloud
+pub mod ObjectAt
 pub mod PairLemmas
 pub mod Runs
 pub mod TagLemmas

@@ -2,7 +2,7 @@
 use Rattle.std.specs.Prelude.{◌≡◌, ◌≤◌, ◌↔◌, ◌++◌, ◌==◌, ◌&&◌, ◌||◌, ℕ, Bool, false, not, List, [], ◌∷◌, length, codes, IsTrue, nat_le}
 use Rattle.std.specs.Bool.{nat_eq}
 use Rattle.std.specs.List.{AllByRecursion, join_with_byte, slice_split, list_all, starts_with, ends_with}
-use Rattle.std.specs.Str.{IsUtf8}
+use Rattle.std.specs.Str.{IsUtf8, is_utf8}
 use Rattle.text_reader.specs.Line.{has_byte}
 
 -- the parts between slashes
@@ -39,6 +39,13 @@ pub record IsRefName (text : List ℕ) : Type 0 where
   pub no_dots : has_pair 46 46 text ≡ false
   pub no_at : has_pair 64 123 text ≡ false
   pub no_dot_last : ends_with nat_eq text (codes ".") ≡ false
+
+-- whether a text is a reference name
+abbrev pub is_ref_name : List ℕ → Bool
+is_ref_name text =
+    starts_with nat_eq text (codes "refs/") && is_utf8 text && nat_le (length text) 255 && nat_le (length (components text)) 16
+    && list_all is_component (components text) && list_all is_plain text
+    && not (has_pair 46 46 text) && not (has_pair 64 123 text) && not (ends_with nat_eq text (codes "."))
 
 -- what the words of this grammar say to a reader: the components are what is joined by slashes, and hold none; and
 -- two bytes stand together where there is something before them and something behind

@@ -32,7 +32,7 @@ pub use commits::Commit;
 pub use key_ids::KeyId;
 pub use kinds::Kind;
 pub use modes::Mode;
-pub use names::{RefFault, RefName};
+pub use names::{LOG_NAME, RefFault, RefName};
 pub use object_faults::ObjectFault;
 pub use object_ids::{ObjectId, id_of};
 pub use octets::{Items, Memory, Octets};

@@ -3,12 +3,15 @@
 ghost use Rattle.std.specs.Prelude.{◌≡◌, ◌≤◌, ◌↔◌, ◌==◌, ◌&&◌, ◌+◌, ◌<◌, slice_index, count_by, length, IfOk, IsErrOf, IsTrue};
 ghost use Rattle.std.specs.List.{list_all};
 ghost use Rattle.std.specs.Str.{IsUtf8};
-ghost use Rattle.git_object.specs.Names.{IsRefName, components, has_pair, is_component, is_plain};
+ghost use Rattle.git_object.specs.Names.{IsRefName, components, has_pair, is_component, is_plain, log_name};
 
 use octets::{Copied, Memory, Octets};
 use std::alloc::{AllocError, Global};
 use std::marker::Model;
 use std::str;
+
+/// The bytes of the name of the reference that the log's tip stands at.
+pub const LOG_NAME: &[u8] = b"refs/gittuf/reference-state-log";
 
 /// Why a text is no reference name.
 #[derive(Clone, Copy, Debug, PartialEq, Eq, Drop)]
@@ -63,6 +66,14 @@ impl RefName {
             return Err(RefFault::BadRef);
         }
         let text = Octets::from_slice(alloc, text)?;
+        Ok(RefName { text })
+    }
+
+    /// The name of the reference that the log's tip stands at.
+    pub fn of_log(alloc: Global) -> Result<RefName, Memory>
+        ensures { IfOk result (λ name. name ≡ log_name) }
+    {
+        let text = Octets::from_slice(alloc, LOG_NAME)?;
         Ok(RefName { text })
     }
 
