@@ -6,7 +6,7 @@ use Rattle.json_fields.specs.Json.{json_of, list_at, text_at, text_at_or_empty}
 use Rattle.dsse_envelope.specs.Base64.{decoded}
 use Rattle.dsse_envelope.specs.declared.envelope.Envelope.{Envelope}
 use Rattle.dsse_envelope.specs.declared.envelope.EnvelopeFault.{EnvelopeFault}
-use Rattle.dsse_envelope.specs.declared.envelope.EnvelopeFault.TheVariants.{NotJson, MissingField, BadCount, BadBase64, Memory}
+use Rattle.dsse_envelope.specs.declared.envelope.EnvelopeFault.TheVariants.{NotJson, MissingField, BadCount, BadBase64}
 use Rattle.dsse_envelope.specs.declared.envelope.Signature.{Signature}
 
 -- the texts of a signature: its key's id, which may be missing, and itself

@@ -1,9 +1,8 @@
 //! Base64 texts.
 
 ghost use Rattle.std.specs.Prelude.{◌≡◌, ◌⊎◌, IfOk, IfErr, Some, None, string_bytes};
-ghost use Rattle.base64.specs.Engines.{standard};
-ghost use Rattle.base64.specs.GeneralPurpose.{encode_of};
 ghost use Rattle.dsse_envelope.specs.Base64.{decoded};
+ghost use Rattle.dsse_envelope.specs.Written.{base64_text};
 ghost use Rattle.dsse_envelope.specs.declared.base64_texts.TextFault.TheVariants as fault;
 
 use base64::DecodeAllocError;
@@ -45,7 +44,8 @@ pub(crate) fn decode(alloc: Global, text: &[u8]) -> Result<Octets, TextFault>
 
 /// The standard base64 text of bytes.
 pub(crate) fn encode(alloc: Global, bytes: &[u8]) -> Result<String, Memory>
-    ensures { IfOk result (λ text. string_bytes text ≡ encode_of standard bytes.now) }
+    ensures text { IfOk result (λ text. string_bytes text ≡ base64_text bytes.now) }
+    ensures decodes { IfOk result (λ text. decoded (base64_text bytes.now) ≡ Some bytes.now) }
 {
     match STANDARD.encode(alloc, bytes) {
         Ok(text) => Ok(text),

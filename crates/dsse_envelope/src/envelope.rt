@@ -2,10 +2,12 @@
 
 ghost use Rattle.std.specs.Prelude.{◌≡◌, ◌⊎◌, IfOk, IfErr, Ok, Err};
 ghost use Rattle.dsse_envelope.specs.Envelopes.{reading};
+ghost use Rattle.dsse_envelope.specs.Written.{IsWritable, text_of};
 ghost use Rattle.dsse_envelope.specs.declared.envelope.EnvelopeFault.TheVariants as fault;
 
 use crate::reading::read_value;
-use json_fields::{ParseFault, parse};
+use crate::writing::envelope_value;
+use json_fields::{ParseFault, parse, write};
 use octets::{Copied, Items, Memory, Octets};
 use std::alloc::Global;
 
@@ -64,6 +66,7 @@ impl Envelope {
     /// URL-safe alphabet, with padding; a `keyid` that is not there is the empty text; other fields are passed over.
     pub fn read(alloc: Global, text: &[u8]) -> Result<Envelope, EnvelopeFault>
         ensures ok { IfOk result (λ envelope. reading text.now ≡ Ok envelope) }
+        ensures writable { IfOk result IsWritable }
         ensures refused { IfErr result (λ e. (e ≡ fault.Memory) ⊎ (reading text.now ≡ Err e)) }
     {
         let value = match parse(alloc, text) {
@@ -72,5 +75,17 @@ impl Envelope {
             Err(ParseFault::Memory) => return Err(EnvelopeFault::Memory),
         };
         read_value(alloc, &value)
+    }
+
+    /// The compact JSON text of the envelope: the fields stand in the order `payload`, `payloadType`, `signatures`, and
+    /// in a signature `keyid`, `sig`; bytes are standard base64 with padding. It asks for 1 to 64 signatures, and for a
+    /// type and ids of keys that are UTF-8.
+    pub fn write(&self, alloc: Global) -> Result<Octets, Memory>
+        requires { IsWritable self.now }
+        ensures exact { IfOk result (λ text. text ≡ text_of self.now) }
+        ensures reads_back { IfOk result (λ text. reading text ≡ Ok self.now) }
+    {
+        let value = envelope_value(alloc, self)?;
+        write(alloc, &value)
     }
 }

@@ -1,10 +1,11 @@
 //! Reading an envelope from its JSON value.
 
-ghost use Rattle.std.specs.Prelude.{◌≡◌, ◌⊎◌, ◌↔◌, ◌≤◌, ◌&&◌, IfOk, IfErr, IsTrue, Ok, Err, Some, None, length, nat_le};
+ghost use Rattle.std.specs.Prelude.{◌≡◌, ◌⊎◌, ◌↔◌, ◌≤◌, ◌&&◌, All, IfOk, IfErr, IfSome, IsTrue, IsUtf8, Ok, Err, Some, None, length, nat_le};
 ghost use Rattle.std.specs.Option.{option_map};
 ghost use Rattle.serde_json.specs.View.{items_view, view};
 ghost use Rattle.dsse_envelope.specs.Envelopes.{count_of, envelope_of, have_texts, signature_of, signatures_of, texts_of, with_bytes, with_count};
 ghost use Rattle.dsse_envelope.specs.Base64.{decoded};
+ghost use Rattle.dsse_envelope.specs.Written.{HasTextId, IsWritable};
 ghost use Rattle.dsse_envelope.specs.declared.base64_texts.TextFault.TheVariants as text_fault;
 ghost use Rattle.dsse_envelope.specs.declared.envelope.EnvelopeFault.TheVariants as fault;
 
@@ -16,11 +17,12 @@ use serde_json::Value;
 use std::alloc::Global;
 
 /// The most signatures of an envelope.
-const MOST_SIGNATURES: usize = 64;
+pub(crate) const MOST_SIGNATURES: usize = 64;
 
 // The texts of a signature: its key's id and itself.
 fn texts_in(value: &Value) -> Option<(&str, &str)>
-    ensures { option_map (λ texts. (texts.0.now, texts.1.now)) result ≡ texts_of (view value.now) }
+    ensures found { option_map (λ texts. (texts.0.now, texts.1.now)) result ≡ texts_of (view value.now) }
+    ensures id { IfSome result (λ texts. IsUtf8 texts.0.now) }
 {
     let Some(sig) = text_in(value, "sig") else {
         return None;
@@ -46,6 +48,7 @@ fn all_have_texts(values: &[Value]) -> bool
 // A signature whose text decodes.
 fn signature_in(alloc: Global, value: &Value) -> Result<Signature, TextFault>
     ensures ok { IfOk result (λ signature. signature_of (view value.now) ≡ Some signature) }
+    ensures id { IfOk result HasTextId }
     ensures refused { IfErr result (λ e. (e ≡ text_fault.Memory) ⊎ ((e ≡ text_fault.BadBase64) × (signature_of (view value.now) ≡ None))) }
 {
     let Some((keyid, sig)) = texts_in(value) else {
@@ -62,6 +65,8 @@ fn signature_in(alloc: Global, value: &Value) -> Result<Signature, TextFault>
 // All signatures, where each decodes.
 fn signatures_in(alloc: Global, values: &[Value]) -> Result<Signatures, TextFault>
     ensures ok { IfOk result (λ signatures. signatures_of (items_view values.now) ≡ Some signatures) }
+    ensures count { IfOk result (λ signatures. length signatures ≡ length values.now) }
+    ensures ids { IfOk result (λ signatures. All HasTextId signatures) }
     ensures refused { IfErr result (λ e. (e ≡ text_fault.Memory) ⊎ ((e ≡ text_fault.BadBase64) × (signatures_of (items_view values.now) ≡ None))) }
 {
     let mut signatures = Signatures::new(alloc);
@@ -77,7 +82,8 @@ fn signatures_in(alloc: Global, values: &[Value]) -> Result<Signatures, TextFaul
 
 // How many values there are.
 fn count(values: &[Value]) -> usize
-    ensures { result ≡ count_of (items_view values.now) }
+    ensures items { result ≡ count_of (items_view values.now) }
+    ensures values { result ≡ length values.now }
 {
     values.len()
 }
@@ -96,7 +102,9 @@ fn decode_parts(
     payload_type: &str,
     values: &[Value],
 ) -> Result<Envelope, EnvelopeFault>
+    requires { (1 ≤ length values.now) × (length values.now ≤ 64) }
     ensures ok { IfOk result (λ envelope. with_bytes payload_type.now (decoded payload.now) (signatures_of (items_view values.now)) ≡ Ok envelope) }
+    ensures writable { IfOk result IsWritable }
     ensures refused { IfErr result (λ e. (e ≡ fault.Memory) ⊎ (with_bytes payload_type.now (decoded payload.now) (signatures_of (items_view values.now)) ≡ Err e)) }
 {
     let payload = match decode(alloc, payload.as_bytes()) {
@@ -125,6 +133,7 @@ fn read_parts(
     values: &[Value],
 ) -> Result<Envelope, EnvelopeFault>
     ensures ok { IfOk result (λ envelope. with_count payload.now payload_type.now (items_view values.now) (count_of (items_view values.now)) ≡ Ok envelope) }
+    ensures writable { IfOk result IsWritable }
     ensures refused { IfErr result (λ e. (e ≡ fault.Memory) ⊎ (with_count payload.now payload_type.now (items_view values.now) (count_of (items_view values.now)) ≡ Err e)) }
 {
     let count = count(values);
@@ -140,6 +149,7 @@ fn read_parts(
 /// The envelope that a value is.
 pub(crate) fn read_value(alloc: Global, value: &Value) -> Result<Envelope, EnvelopeFault>
     ensures ok { IfOk result (λ envelope. envelope_of (view value.now) ≡ Ok envelope) }
+    ensures writable { IfOk result IsWritable }
     ensures refused { IfErr result (λ e. (e ≡ fault.Memory) ⊎ (envelope_of (view value.now) ≡ Err e)) }
 {
     let Some(payload) = text_in(value, "payload") else {

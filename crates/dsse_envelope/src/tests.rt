@@ -1,4 +1,4 @@
-use crate::{Envelope, EnvelopeFault, pae};
+use crate::{Envelope, EnvelopeFault, SealFault, Signature, pae};
 use octets::{Copied, Octets};
 use std::alloc::Global;
 use std::test::Fail;
@@ -65,6 +65,52 @@ fn an_envelope_is_read(rt: HostRuntime) -> Result<(), Fail> {
         assert_eq!(rt; signature.sig.as_slice(), [0xff, 0xef].as_slice());
         assert!(rt; signature.copied()?.keyid.is_empty());
     }
+    Ok(())
+}
+
+#[test]
+fn an_envelope_is_written(rt: HostRuntime) -> Result<(), Fail> {
+    let unnamed =
+        b"{\"signatures\":[{\"sig\":\"_-8=\"},{\"sig\":\"\",\"keyid\":\"\\u00e4\\\"\"}],\"payloadType\":\"t\\n\",\"payload\":\"aGVsbG8gd29ybGQ=\"}";
+    let written =
+        b"{\"payload\":\"aGVsbG8gd29ybGQ=\",\"payloadType\":\"t\\n\",\"signatures\":[{\"keyid\":\"\",\"sig\":\"/+8=\"},{\"keyid\":\"\xc3\xa4\\\"\",\"sig\":\"\"}]}";
+    for (text, wanted) in [(HELLO, HELLO), (unnamed.as_slice(), written.as_slice())] {
+        let envelope = Envelope::read(rt.alloc(), text)?;
+        let text = envelope.write(rt.alloc())?;
+        assert_eq!(rt; text.as_slice(), wanted);
+    }
+    Ok(())
+}
+
+// A signature of one byte.
+fn signature(alloc: Global, keyid: &[u8]) -> Result<Signature, Fail> {
+    Ok(Signature {
+        keyid: Octets::from_slice(alloc, keyid)?,
+        sig: Octets::from_slice(alloc, b"!")?,
+    })
+}
+
+#[test]
+fn an_envelope_is_sealed(rt: HostRuntime) -> Result<(), Fail> {
+    let alloc = rt.alloc();
+    let mut envelope = Envelope::read(alloc, HELLO)?;
+    assert!(rt; envelope.seal(alloc, signature(alloc, b"b")?).is_ok());
+    assert!(rt; envelope.seal(alloc, signature(alloc, b"a")?).is_ok());
+    assert_eq!(rt; envelope.signatures.len(), 2);
+    if let Some(first) = envelope.signatures.get(0) {
+        assert_eq!(rt; first.keyid.as_slice(), b"a".as_slice());
+        assert_eq!(rt; first.sig.as_slice(), b"!".as_slice());
+    }
+    let text = with_signatures(alloc, b"{\"sig\":\"\",\"keyid\":\"c\"}", 64)?;
+    let mut full = Envelope::read(alloc, text.as_slice())?;
+    assert!(rt;
+        matches!(
+            full.seal(alloc, signature(alloc, b"a")?),
+            Err(SealFault::Full)
+        )
+    );
+    assert!(rt; full.seal(alloc, signature(alloc, b"c")?).is_ok());
+    assert_eq!(rt; full.signatures.len(), 64);
     Ok(())
 }
 

@@ -21,3 +21,6 @@ json_of-none t h = none_by (is_utf8 t) (read t) (λ b. h (IsUtf8-from_is_utf8 t 
 -- what is written for a value reads as it
 pub reads_back : (s : String Global) (v d : Data) → v ≡ d → depth d ≤ max_depth → (depth v ≤ max_depth → read (string_bytes s) ≡ Some v) → json_of (string_bytes s) ≡ Some d
 reads_back s v d e deep h = json_of-some (string_bytes s) d (IsUtf8-string_bytes s) (h (rw e deep) ∙ ap Some e)
+
+pub reads_as : (t u : List ℕ) (d : Data) → t ≡ u → IsUtf8 u → (depth d ≤ max_depth → read u ≡ Some d) → depth d ≤ max_depth → json_of t ≡ Some d
+reads_as t u d e utf8 h deep = rw e (json_of-some u d utf8 (h deep))

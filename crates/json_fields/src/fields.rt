@@ -2,8 +2,9 @@
 
 ghost use Rattle.std.specs.Prelude.{◌≡◌};
 ghost use Rattle.std.specs.Option.{option_map};
+ghost use Rattle.serde_json.specs.Find.{get};
 ghost use Rattle.serde_json.specs.View.{items_view, view};
-ghost use Rattle.json_fields.specs.Json.{list_at, number_at, text_at, text_at_or_empty};
+ghost use Rattle.json_fields.specs.Json.{bool_at, list_at, number_at, text_at, text_at_or_empty};
 
 use serde_json::Value;
 
@@ -39,4 +40,18 @@ pub fn list_in<'v>(value: &'v Value, key: &str) -> Option<&'v [Value]>
         Some(list) => Some(list.as_slice()),
         None => None,
     }
+}
+
+/// What is under a key, or None where there is nothing.
+pub fn value_in<'v>(value: &'v Value, key: &str) -> Option<&'v Value>
+    ensures { option_map (λ found. view found.now) result ≡ get key.now (view value.now) }
+{
+    value.get(key)
+}
+
+/// Whether it is true or false that is under a key, or None where there is nothing or it is of another kind.
+pub fn bool_in(value: &Value, key: &str) -> Option<bool>
+    ensures { result ≡ bool_at key.now (view value.now) }
+{
+    value.get(key).and_then(Value::as_bool)
 }

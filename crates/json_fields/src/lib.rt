@@ -8,8 +8,12 @@
 
 mod fields;
 mod parsing;
+mod shapes;
 #[cfg(test)]
 mod tests;
+mod writing;
 
-pub use fields::{list_in, number_in, text_in, text_in_or_empty};
+pub use fields::{bool_in, list_in, number_in, text_in, text_in_or_empty, value_in};
 pub use parsing::{ParseFault, parse};
+pub use shapes::{FromJson, ShapeFault, each_in, key_id_in, read_hex};
+pub use writing::{text_value, write};

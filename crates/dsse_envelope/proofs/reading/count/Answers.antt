@@ -1,5 +1,5 @@
 use Rattle.dsse_envelope.proofs.Counted.{count_is}
 use Rattle.dsse_envelope.proofs.reading.count.Goals as goal
 
-pub returns : goal.returns
-returns c = count_is c.args.values.now
+pub returns-clause-items : goal.returns-clause-items
+returns-clause-items c = count_is c.args.values.now
