@@ -1,0 +1,2 @@
+mod Sortedness
+pub mod Listed

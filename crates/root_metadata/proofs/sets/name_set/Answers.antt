@@ -1,0 +1,6 @@
+use Rattle.root_metadata.proofs.Sortedness.{all_left, rising_keys}
+use Rattle.root_metadata.proofs.sets.name_set.Goals as goal
+
+pub from_rising-requires : goal.from_rising-requires
+from_rising-requires c =
+    rising_keys c.kept.list c.names.set.keys (all_left _ _ _ _ c.kept.invariant c.in-None.ensures.steps.0 c.into_iter-name-iterator.ensures.into_iter_gives.0) c.into_iter-name-iterator.ensures.into_iter_gives.4
