@@ -1,0 +1,15 @@
+mod Orders
+mod Families
+mod Turns
+mod Naming
+mod Exact
+mod Reaching
+mod Searched
+mod Tellings
+mod Seeing
+mod Linking
+mod Spreading
+mod Offcuts
+mod Deepening
+mod Faults
+mod Lawful

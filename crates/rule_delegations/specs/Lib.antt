@@ -1,0 +1,10 @@
+pub mod Chains
+pub mod Reached
+pub mod Assembling
+pub mod Seen
+pub mod Forests
+pub mod Deep
+pub mod Marks
+pub mod Telling
+pub mod Walks
+pub mod SchemaOne
