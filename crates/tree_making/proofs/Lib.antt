@@ -1,0 +1,5 @@
+pub mod Putting
+pub mod Runs
+pub mod Refusing
+pub mod Kept
+pub mod Lawful

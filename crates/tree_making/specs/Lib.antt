@@ -1,0 +1,8 @@
+-- What a listing says of its paths.
+pub mod Listings
+-- Which trees keep a list of objects.
+pub mod Keeping
+-- Which listings are no tree's.
+pub mod Matching
+-- What the paths of trees are.
+pub mod TreePaths

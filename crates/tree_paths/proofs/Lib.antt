@@ -1,0 +1,13 @@
+pub mod ObjectsRead
+pub mod Judging
+pub mod Merging
+pub mod Pieces
+pub mod Peels
+pub mod SideBySide
+pub mod Order
+pub mod Turns
+pub mod Differing
+pub mod Rising
+pub mod Ending
+pub mod Existence
+pub mod Led

@@ -1,0 +1,19 @@
+//! What peeling finds at an id, and where it ends.
+
+use git_object::{Kind, ObjectId};
+
+/// A commit with its tree, a tag with the object and the kind that it names, or anything else.
+#[derive(Clone, Copy, Debug, PartialEq, Eq)]
+pub enum Head {
+    Other,
+    Root(ObjectId),
+    Next(ObjectId, Kind),
+}
+
+/// Where peeling ends: there is nothing, an object is bad, or there is a commit of this tree.
+#[derive(Clone, Copy, Debug, PartialEq, Eq)]
+pub enum Peeled {
+    Nothing,
+    Bad(ObjectId),
+    At(ObjectId),
+}
