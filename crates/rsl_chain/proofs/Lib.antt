@@ -1,0 +1,14 @@
+pub mod WordLemmas
+pub mod LineLemmas
+pub mod Chains
+pub mod Valid
+pub mod Lookups
+pub mod Walks
+pub mod Live
+pub mod DraftLemmas
+pub mod PlainLines
+pub mod Runs
+pub mod Pieces
+pub mod WrittenWords
+pub mod WrittenMessages
+pub mod Written

@@ -1,0 +1,28 @@
+//! The log as one chain, and the bodies of its entries.
+//!
+//! This crate stands on `octets`, `text_reader`, `git_object`, `keeper_api`, `log_entries` and the library `base64`.
+//! A crate above may rely on `read_body` taking exactly the bodies that the table of an entry's lines takes and naming
+//! the first line that is not as wanted in any other, on `read_entry` being that of the commit at an id, and on
+//! `Log::load` giving the one list of ids that is a repository's log, or the one commit at which it breaks. The
+//! definitions are in `specs/`, and `laws` says what holds of them.
+
+#![tactic(auto)]
+
+mod chain;
+mod drafts;
+mod entry_faults;
+mod heads;
+pub mod laws;
+mod log_faults;
+mod parts;
+mod places;
+mod reading;
+mod rows;
+mod words;
+
+pub use chain::{Log, read_entry};
+pub use drafts::{Draft, join_signature};
+pub use entry_faults::EntryFault;
+pub use log_entries::{Entry, EntryBody};
+pub use log_faults::LogFault;
+pub use reading::read_body;
