@@ -1,0 +1,4 @@
+pub mod Files
+pub mod Opening
+pub mod Using
+pub mod Signing

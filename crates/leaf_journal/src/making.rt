@@ -1,0 +1,102 @@
+//! A new key file.
+
+ghost use Rattle.std.specs.Prelude.{◌≡◌, ◌<◌, ◌≤◌, ◌↔◌, [], ℕ, List, length, IfOk, OnOk, OnErr, IsErrOf, Some};
+ghost use Rattle.octets.specs.Causes.{HasCause, each};
+ghost use Rattle.edge_disk.specs.Disk.{IsKept, Written};
+ghost use Rattle.lms_keys.specs.LmsType.{height};
+ghost use Rattle.lms_keys.specs.Secret.{public_key_of};
+ghost use Rattle.leaf_journal.specs.Faults.{create_failed};
+ghost use Rattle.leaf_journal.specs.KeyFile.{IsNewKeyFile};
+ghost use Rattle.leaf_journal.specs.declared.faults.CreateFault.TheVariants as fault;
+
+use crate::CreateFault;
+use crate::headers::write_header;
+use edge_disk::Disk;
+use edge_io::Failed;
+use lmots::OtsType;
+use lms_keys::{LmsType, PublicKey, SecretKey};
+use std::alloc::{AllocError, Global};
+
+// The bytes of a new key file.
+fn new_file(
+    alloc: Global,
+    lms: LmsType,
+    ots: OtsType,
+    i: &[u8; 16],
+    seed: &[u8; 32],
+) -> Result<Vec<u8>, AllocError>
+    requires { height lms ≤ 15 }
+    ensures { IfOk result (λ file. IsNewKeyFile (record { lms = lms; ots = ots; i = i.now; seed = seed.now }) file.items) }
+{
+    let mut file = vec![in alloc; 0u8; 64 + lms.leaves() as usize]?;
+    let (head, _) = file.as_mut_slice().split_at_mut(64);
+    write_header(lms, ots, i, seed, head);
+    Ok(file)
+}
+
+// Writes what an empty disk is to hold, and makes it last.
+fn write_whole<D: Disk>(disk: &mut D, bytes: &[u8]) -> Result<(), Failed>
+    requires { (file : List ℕ) → D.seen disk.old ≡ Some file → file ≡ [] }
+    ensures only { OnOk result ((c : List ℕ) → D.may_leave disk.new c → c ≡ bytes.now) }
+    ensures file { OnOk result ((c : List ℕ) → D.seen disk.new ≡ Some c → (c ≡ bytes.now) × (D.seen disk.old ≡ Some [])) }
+    ensures cause { HasCause each (D.faults disk.old) (D.faults disk.new) result }
+{
+    disk.write_at(0, bytes)?;
+    disk.sync()?;
+    Ok(())
+}
+
+// That the disk holds nothing.
+fn expect_empty<D: Disk>(disk: &mut D) -> Result<(), CreateFault>
+    ensures empty { OnOk result ((file : List ℕ) → D.seen disk.new ≡ Some file → file ≡ []) }
+    ensures tall { IsErrOf result fault.TooTall → ⊥ }
+    ensures memory { IsErrOf result fault.Memory → ⊥ }
+    ensures not_empty { (len : ℕ) → IsErrOf result (fault.NotEmpty len) → (file : List ℕ) → D.seen disk.new ≡ Some file → (len ≡ length file) × (0 < len) }
+    ensures kept { IsKept (D.seen disk.old) (D.seen disk.new) (D.may_leave disk.old) (D.may_leave disk.new) }
+    ensures cause { HasCause create_failed (D.faults disk.old) (D.faults disk.new) result }
+{
+    let len = disk.len()?;
+    if len != 0 {
+        return Err(CreateFault::NotEmpty { len });
+    }
+    Ok(())
+}
+
+/// Writes the key file of a new key, of which no leaf is used, to a disk that holds nothing, and answers the key's
+/// public part. The key is drawn from an identifier, which RFC 8554 calls I, and a seed.
+///
+/// `TooTall` comes exactly for more than 15 levels, and `NotEmpty` exactly where the disk holds something; then, and
+/// at `Memory`, the disk is as it was. After `Disk` it may hold a part of the file. After Ok a crash leaves the file
+/// and nothing else.
+pub fn create<D: Disk>(
+    alloc: Global,
+    disk: &mut D,
+    lms: LmsType,
+    ots: OtsType,
+    i: [u8; 16],
+    seed: [u8; 32],
+) -> Result<PublicKey, CreateFault>
+    ensures key { IfOk result (λ key. key ≡ public_key_of (record { lms = lms; ots = ots; i = i; seed = seed })) }
+    ensures only { OnOk result ((c : List ℕ) → D.may_leave disk.new c → IsNewKeyFile (record { lms = lms; ots = ots; i = i; seed = seed }) c) }
+    ensures file { OnOk result ((c : List ℕ) → D.seen disk.new ≡ Some c → IsNewKeyFile (record { lms = lms; ots = ots; i = i; seed = seed }) c) }
+    ensures one { OnOk result ((a b : List ℕ) → D.may_leave disk.new a → D.may_leave disk.new b → a ≡ b) }
+    ensures was { OnOk result ((c : List ℕ) → D.seen disk.new ≡ Some c → D.seen disk.old ≡ Some []) }
+    ensures tall { IsErrOf result fault.TooTall ↔ (15 < height lms) }
+    ensures not_empty { (len : ℕ) → IsErrOf result (fault.NotEmpty len) → (file : List ℕ) → D.seen disk.new ≡ Some file → (len ≡ length file) × (0 < len) }
+    ensures untouched { OnErr result ((IsErrOf result fault.Disk → ⊥) → IsKept (D.seen disk.old) (D.seen disk.new) (D.may_leave disk.old) (D.may_leave disk.new)) }
+    ensures cause { HasCause create_failed (D.faults disk.old) (D.faults disk.new) result }
+{
+    if lms.height() > 15 {
+        return Err(CreateFault::TooTall);
+    }
+    match expect_empty(disk) {
+        Ok(()) => {}
+        Err(fault) => return Err(fault),
+    }
+    let file = new_file(alloc, lms, ots, &i, &seed)?;
+    let Ok(key) = SecretKey::of(alloc, lms, ots, i, seed) else {
+        return Err(CreateFault::Memory);
+    };
+    write_whole(disk, file.as_slice())?;
+    Ok(key.public())
+}
