@@ -8,29 +8,60 @@ use crate::Disk;
 use edge_io::Failed;
 use std::fs::{File, OpenOptions};
 use std::io;
-use std::os::unix::fs::{FileExt, OpenOptionsExt};
+use std::os::unix::fs::{FileExt, OpenOptionsExt, PermissionsExt};
+use std::path::Path;
 use std::rt::Files;
 
 // Of a file that is made its owner alone reads and writes.
 const OWNER_ALONE: u32 = 0o600;
 
+// The rights of all others.
+const OTHERS: u32 = 0o077;
+
 /// An open file. While it is open, no other `FileDisk` opens the same file.
 #[derive(Drop)]
 pub struct FileDisk {
     file: File,
+    shared: bool,
     faults: u64,
 }
 
-// The file at a path, locked. Where nothing stands there it is made, empty.
-fn open_locked<R: Files<File = File>>(rt: &R, path: &str) -> io::Result<File> {
+// Keeps the name of a file that was just made, which a crash may else lose.
+fn sync_folder<R: Files<File = File>>(rt: &R, path: &str) -> io::Result<()> {
+    let folder = match Path::new(path).parent() {
+        Some(folder) => folder.as_str(),
+        None => "",
+    };
+    let folder = if folder.is_empty() { "." } else { folder };
+    File::open(rt, folder)?.sync_all()
+}
+
+// The file at a path. Where nothing stands there it is made, empty.
+fn open_or_make<R: Files<File = File>>(rt: &R, path: &str) -> io::Result<File> {
     let mut how = OpenOptions::new();
-    how.read(true).write(true).create(true).mode(OWNER_ALONE);
-    let file = how.open(rt, path)?;
-    if !file.metadata()?.is_file() {
+    how.read(true).write(true).mode(OWNER_ALONE);
+    match how.open(rt, path) {
+        Ok(file) => return Ok(file),
+        Err(error) => {
+            if error.kind() != io::ErrorKind::NotFound {
+                return Err(error);
+            }
+        }
+    }
+    let file = how.create(true).open(rt, path)?;
+    sync_folder(rt, path)?;
+    Ok(file)
+}
+
+// The file at a path, locked, and whether others than its owner may read or write it.
+fn open_locked<R: Files<File = File>>(rt: &R, path: &str) -> io::Result<(File, bool)> {
+    let file = open_or_make(rt, path)?;
+    let found = file.metadata()?;
+    if !found.is_file() {
         return Err(io::Error::from(io::ErrorKind::InvalidInput));
     }
     file.try_lock()?;
-    Ok(file)
+    Ok((file, found.permissions().mode() & OTHERS != 0))
 }
 
 impl FileDisk {
@@ -39,9 +70,18 @@ impl FileDisk {
     /// it open.
     pub fn open<R: Files<File = File>>(rt: &R, path: &str) -> Result<FileDisk, Failed> {
         match open_locked(rt, path) {
-            Ok(file) => Ok(FileDisk { file, faults: 0 }),
+            Ok((file, shared)) => Ok(FileDisk {
+                file,
+                shared,
+                faults: 0,
+            }),
             Err(_) => Err(Failed),
         }
+    }
+
+    /// Whether others than its owner might read or write the file when it was opened.
+    pub fn is_shared(&self) -> bool {
+        self.shared
     }
 
     // What a call of the system came to, of which an error is a fault.

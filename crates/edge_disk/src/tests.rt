@@ -71,6 +71,7 @@ fn a_file_is_a_disk(rt: HostRuntime) -> Result<(), Fail> {
     };
     let made = fs::metadata(&rt, path.as_str())?;
     assert_eq!(rt; made.mode() % 512, 0o600);
+    assert!(rt; !disk.is_shared());
     assert_eq!(rt; disk.len(), Ok(0));
     assert!(rt; disk.write_at(0, b"abcd").is_ok());
     assert!(rt; disk.write_at(1, b"X").is_ok());
