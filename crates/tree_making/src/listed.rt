@@ -1,8 +1,8 @@
 //! A listing of paths, and what of it stands below one place.
 
-ghost use Rattle.std.specs.Prelude.{◌≡◌, ◌++◌, ◌∷◌, List, false, IfSome, IfNone};
+ghost use Rattle.std.specs.Prelude.{◌≡◌, ◌++◌};
 ghost use Rattle.std.specs.List.{AllByRecursion};
-ghost use Rattle.text_reader.specs.Line.{Begins, has_byte};
+ghost use Rattle.text_reader.specs.Line.{Begins};
 ghost use Rattle.tree_making.specs.Listings.{StopsAt};
 
 use git_object::{Mode, ObjectId, Octets};
@@ -14,22 +14,6 @@ pub struct Listed {
     pub path: Octets,
     pub mode: Mode,
     pub id: ObjectId,
-}
-
-/// What stands before the first slash and what stands after it, or None where there is none.
-pub fn split_at_slash(text: &[u8]) -> Option<(&[u8], &[u8])>
-    ensures found { IfSome result (λ parts. text.now ≡ parts.0.now ++ 47 ∷ parts.1.now) }
-    ensures first { IfSome result (λ parts. has_byte 47 parts.0.now ≡ false) }
-    ensures none { IfNone result (has_byte 47 text.now ≡ false) }
-{
-    'bytes: for i in 0..text.len() {
-        if text[i] == b'/' {
-            let (name, more) = text.split_at(i);
-            let (_, rest) = more.split_at(1);
-            return Some((name, rest));
-        }
-    }
-    None
 }
 
 /// The paths at the head of a listing that begin with a place, and what follows them.

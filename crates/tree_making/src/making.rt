@@ -11,10 +11,11 @@ ghost use Rattle.tree_making.specs.Listings.{StartsAt, values};
 ghost use Rattle.tree_making.specs.Matching.{AreFormed, IsNoTree, IsPlace, Matches};
 
 use crate::entries::{keep_tree, push_entry, push_listed};
-use crate::listed::{Listed, split_at_slash, split_run};
+use crate::listed::{Listed, split_run};
 use git_object::{Memory, Mode, ObjectId, Objects, Tree, TreeEntries};
 use std::alloc::Global;
 use text_reader::strip_front;
+use tree_paths::split_at_slash;
 
 /// The most levels of trees, the root's among them.
 const MOST_LEVELS: u32 = 32;

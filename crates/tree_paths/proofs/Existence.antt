@@ -4,18 +4,20 @@ use Rattle.std.specs.FinMap.{get}
 use Rattle.std.proofs.lemmas.Option.{same_Some}
 use Rattle.git_object.specs.Commits.{IsCommitText}
 use Rattle.git_object.specs.Objects.{Pair, pair_id}
-use Rattle.git_object.specs.Repository.{HasObject, Repository, largest_body}
+use Rattle.git_object.specs.Repository.{HasObject, Repository, largest_body, object_at}
 use Rattle.git_object.specs.Tags.{IsTagText}
 use Rattle.git_object.specs.Trees.{IsTreeText}
 use Rattle.git_object.specs.declared.kinds.Kind.{Kind}
 use Rattle.git_object.specs.declared.kinds.Kind.TheVariants as kind
 use Rattle.git_object.specs.declared.trees.TreeEntry.{TreeEntry}
 use Rattle.git_object.proofs.Decisions.{is_text, is_within}
+use Rattle.git_object.proofs.ObjectAt.{object_none, object_there}
 use Rattle.git_object.proofs.Totality.{commit_decided, tag_decided, tree_decided}
 use Rattle.git_object.proofs.CommitLemmas as commits
 use Rattle.git_object.proofs.TagLemmas as tags
 use Rattle.git_object.proofs.TreeLemmas as trees
 use Rattle.tree_paths.specs.Readings.{AreReadings, IsCommitOf, IsHeadAt, IsTagOf, IsTreeAt, Readings}
+use Rattle.tree_paths.specs.Repositories.{commit_read, head_in, head_of_kind, readings_of, tag_read, tree_in, tree_of_kind, tree_read}
 use Rattle.tree_paths.specs.declared.heads.Head.{Head}
 use Rattle.tree_paths.specs.declared.heads.Head.TheVariants.{Next, Other, Root}
 use Rattle.tree_paths.proofs.ObjectsRead.{same_pair}
@@ -43,26 +45,24 @@ module _ (r : Repository) (id : List ℕ) where
   other_tree : (pair : Pair) → HasObject r id pair → (pair.kind ≡ kind.Tree → ⊥) → IsTreeAt r id None
   other_tree pair has other = λ entries is. other (ap (λ (p : Pair). p.kind) (same_pair r id pair is.pair has is.kept) ∙ is.kind_is)
 
-  tree_by_body : (pair : Pair) → HasObject r id pair → pair.kind ≡ kind.Tree → (tree : Option (List TreeEntry)) × IsTreeAt r id tree
-  tree_by_body pair has is = elim (tree_decided pair.body) [
-    | inl found ↦ (Some found.0.entries, record { pair = pair; kept = has; kind_is = is; text = found.1 })
-    | inr bad ↦ (
-      None,
-      λ entries at. trees.apart (record { entries = entries }) pair.body bad.0
-          (subst (λ (p : Pair). IsTreeText (record { entries = entries }) p.body) (sym (same_pair r id pair at.pair has at.kept)) at.text) bad.1,
-    )
+  tree_by_body : (pair : Pair) → HasObject r id pair → pair.kind ≡ kind.Tree → IsTreeAt r id (tree_read pair.body (tree_decided pair.body))
+  tree_by_body pair has is = elim (tree_decided pair.body) as (λ d. IsTreeAt r id (tree_read pair.body d)) [
+    | inl found ↦ record { pair = pair; kept = has; kind_is = is; text = found.1 }
+    | inr bad ↦
+        λ entries at. trees.apart (record { entries = entries }) pair.body bad.0
+        (subst (λ (p : Pair). IsTreeText (record { entries = entries }) p.body) (sym (same_pair r id pair at.pair has at.kept)) at.text) bad.1
   ]
 
-  tree_by_kind : (pair : Pair) → HasObject r id pair → (k : Kind) → pair.kind ≡ k → (tree : Option (List TreeEntry)) × IsTreeAt r id tree
+  tree_by_kind : (pair : Pair) → HasObject r id pair → (k : Kind) → pair.kind ≡ k → IsTreeAt r id (tree_of_kind k pair.body)
   tree_by_kind pair has kind.Tree is = tree_by_body pair has is
-  tree_by_kind pair has kind.Blob is = (None, other_tree pair has (λ e. let f = sym is ∙ e in cc))
-  tree_by_kind pair has kind.Commit is = (None, other_tree pair has (λ e. let f = sym is ∙ e in cc))
-  tree_by_kind pair has kind.Tag is = (None, other_tree pair has (λ e. let f = sym is ∙ e in cc))
+  tree_by_kind pair has kind.Blob is = other_tree pair has (λ e. let f = sym is ∙ e in cc)
+  tree_by_kind pair has kind.Commit is = other_tree pair has (λ e. let f = sym is ∙ e in cc)
+  tree_by_kind pair has kind.Tag is = other_tree pair has (λ e. let f = sym is ∙ e in cc)
 
-  tree_at : (tree : Option (List TreeEntry)) × IsTreeAt r id tree
+  tree_at : IsTreeAt r id (tree_in (object_at r id))
   tree_at = elim object_decided [
-    | inl found ↦ tree_by_kind found.0 found.1 found.0.kind refl
-    | inr none ↦ (None, λ entries is. none is.pair is.kept)
+    | inl found ↦ subst (λ (o : Option Pair). IsTreeAt r id (tree_in o)) (sym (object_there r id found.0 found.1)) (tree_by_kind found.0 found.1 found.0.kind refl)
+    | inr none ↦ subst (λ (o : Option Pair). IsTreeAt r id (tree_in o)) (sym (object_none r id none)) (λ entries is. none is.pair is.kept)
   ]
 
   -- ---- commits and tags
@@ -73,48 +73,47 @@ module _ (r : Repository) (id : List ℕ) where
   no_tag : (pair : Pair) → HasObject r id pair → (pair.kind ≡ kind.Tag → ⊥) → (object : List ℕ) (names : Kind) → IsTagOf r id object names → ⊥
   no_tag pair has other object names is = other (ap (λ (p : Pair). p.kind) (same_pair r id pair is.pair has is.kept) ∙ is.kind_is)
 
-  commit_by_body : (pair : Pair) → HasObject r id pair → pair.kind ≡ kind.Commit → (head : Head) × IsHeadAt r id head
-  commit_by_body pair has is = elim (commit_decided pair.body) [
-    | inl found ↦ (Root found.0.tree, record { pair = pair; kept = has; kind_is = is; commit = found.0; text = found.1; tree_is = refl })
-    | inr bad ↦ (
-      Other,
-      record {
-        no_commit = λ tree at. commits.apart at.commit pair.body bad.0 (subst (λ (p : Pair). IsCommitText at.commit p.body) (sym (same_pair r id pair at.pair has at.kept)) at.text) bad.1;
-        no_tag = no_tag pair has (λ e. let f = sym is ∙ e in cc);
-      },
-    )
+  commit_by_body : (pair : Pair) → HasObject r id pair → pair.kind ≡ kind.Commit → IsHeadAt r id (commit_read pair.body (commit_decided pair.body))
+  commit_by_body pair has is = elim (commit_decided pair.body) as (λ d. IsHeadAt r id (commit_read pair.body d)) [
+    | inl found ↦ record { pair = pair; kept = has; kind_is = is; commit = found.0; text = found.1; tree_is = refl }
+    | inr bad ↦ record {
+      no_commit = λ tree at. commits.apart at.commit pair.body bad.0 (subst (λ (p : Pair). IsCommitText at.commit p.body) (sym (same_pair r id pair at.pair has at.kept)) at.text) bad.1;
+      no_tag = no_tag pair has (λ e. let f = sym is ∙ e in cc);
+    }
   ]
 
-  tag_by_body : (pair : Pair) → HasObject r id pair → pair.kind ≡ kind.Tag → (head : Head) × IsHeadAt r id head
-  tag_by_body pair has is = elim (tag_decided pair.body) [
-    | inl found ↦ (Next found.0.object found.0.kind, record { pair = pair; kept = has; kind_is = is; tag = found.0; text = found.1; object_is = refl; names_is = refl })
-    | inr bad ↦ (
-      Other,
-      record {
-        no_commit = no_commit pair has (λ e. let f = sym is ∙ e in cc);
-        no_tag = λ object names at. tags.apart at.tag pair.body bad.0 (subst (λ (p : Pair). IsTagText at.tag p.body) (sym (same_pair r id pair at.pair has at.kept)) at.text) bad.1;
-      },
-    )
+  tag_by_body : (pair : Pair) → HasObject r id pair → pair.kind ≡ kind.Tag → IsHeadAt r id (tag_read pair.body (tag_decided pair.body))
+  tag_by_body pair has is = elim (tag_decided pair.body) as (λ d. IsHeadAt r id (tag_read pair.body d)) [
+    | inl found ↦ record { pair = pair; kept = has; kind_is = is; tag = found.0; text = found.1; object_is = refl; names_is = refl }
+    | inr bad ↦ record {
+      no_commit = no_commit pair has (λ e. let f = sym is ∙ e in cc);
+      no_tag = λ object names at. tags.apart at.tag pair.body bad.0 (subst (λ (p : Pair). IsTagText at.tag p.body) (sym (same_pair r id pair at.pair has at.kept)) at.text) bad.1;
+    }
   ]
 
-  no_head : (pair : Pair) → HasObject r id pair → (pair.kind ≡ kind.Commit → ⊥) → (pair.kind ≡ kind.Tag → ⊥) → (head : Head) × IsHeadAt r id head
-  no_head pair has a b = (Other, record { no_commit = no_commit pair has a; no_tag = no_tag pair has b })
+  no_head : (pair : Pair) → HasObject r id pair → (pair.kind ≡ kind.Commit → ⊥) → (pair.kind ≡ kind.Tag → ⊥) → IsHeadAt r id Other
+  no_head pair has a b = record { no_commit = no_commit pair has a; no_tag = no_tag pair has b }
 
-  head_by_kind : (pair : Pair) → HasObject r id pair → (k : Kind) → pair.kind ≡ k → (head : Head) × IsHeadAt r id head
+  head_by_kind : (pair : Pair) → HasObject r id pair → (k : Kind) → pair.kind ≡ k → IsHeadAt r id (head_of_kind k pair.body)
   head_by_kind pair has kind.Commit is = commit_by_body pair has is
   head_by_kind pair has kind.Tag is = tag_by_body pair has is
   head_by_kind pair has kind.Blob is = no_head pair has (λ e. let f = sym is ∙ e in cc) (λ e. let f = sym is ∙ e in cc)
   head_by_kind pair has kind.Tree is = no_head pair has (λ e. let f = sym is ∙ e in cc) (λ e. let f = sym is ∙ e in cc)
 
-  head_at : (head : Head) × IsHeadAt r id head
+  head_at : IsHeadAt r id (head_in (object_at r id))
   head_at = elim object_decided [
-    | inl found ↦ head_by_kind found.0 found.1 found.0.kind refl
-    | inr none ↦ (Other, record { no_commit = λ tree is. none is.pair is.kept; no_tag = λ object names is. none is.pair is.kept })
+    | inl found ↦ subst (λ (o : Option Pair). IsHeadAt r id (head_in o)) (sym (object_there r id found.0 found.1)) (head_by_kind found.0 found.1 found.0.kind refl)
+    | inr none ↦
+        subst (λ (o : Option Pair). IsHeadAt r id (head_in o)) (sym (object_none r id none))
+        (let other : IsHeadAt r id Other = record { no_commit = λ tree is. none is.pair is.kept; no_tag = λ object names is. none is.pair is.kept } in other)
   ]
 
+pub are_readings : (r : Repository) → AreReadings r (readings_of r)
+unfolding readings_of
+are_readings r = record { trees = tree_at r; heads = head_at r }
+
 pub readings_are : (r : Repository) → (readings : Readings) × AreReadings r readings
-readings_are r =
-    (record { trees = λ id. (tree_at r id).0; heads = λ id. (head_at r id).0 }, record { trees = λ id. (tree_at r id).1; heads = λ id. (head_at r id).1 })
+readings_are r = (readings_of r, are_readings r)
 
 -- a repository has one reading of each id
 pub one_reading : (r : Repository) (a b : Readings) → AreReadings r a → AreReadings r b → (id : List ℕ) → (a.trees id ≡ b.trees id)

@@ -11,3 +11,5 @@ pub mod Rising
 pub mod Ending
 pub mod Existence
 pub mod Led
+pub mod PathNames
+pub mod Visits

@@ -24,11 +24,11 @@ module _ (heads : Heads) (n : ℕ) (wanted : Option Kind) (id : List ℕ) where
   pub peel_other : Other ≡ heads id → Bad id ≡ peeled heads n wanted id
   peel_other is = at Other is
 
-  pub peel_root : (tree : List ℕ) → Root tree ≡ heads id → may_be_commit wanted ≡ true → At tree ≡ peeled heads n wanted id
-  peel_root tree is may = ap (λ (b : Bool). cond b (At tree) (Bad id)) (sym may) ∙ at (Root tree) is
+  pub peel_root : (tree : List ℕ) → Root tree ≡ heads id → may_be_commit wanted ≡ true → At id tree ≡ peeled heads n wanted id
+  peel_root tree is may = ap (λ (b : Bool). cond b (At id tree) (Bad id)) (sym may) ∙ at (Root tree) is
 
   pub peel_no_commit : (tree : List ℕ) → Root tree ≡ heads id → may_be_commit wanted ≡ false → Bad id ≡ peeled heads n wanted id
-  peel_no_commit tree is may = ap (λ (b : Bool). cond b (At tree) (Bad id)) (sym may) ∙ at (Root tree) is
+  peel_no_commit tree is may = ap (λ (b : Bool). cond b (At id tree) (Bad id)) (sym may) ∙ at (Root tree) is
 
   pub peel_no_tag : (object : List ℕ) (names : Kind) → Next object names ≡ heads id → may_be_tag wanted ≡ false → Bad id ≡ peeled heads n wanted id
   peel_no_tag object names is may = ap (λ (b : Bool). cond b (next_of heads n id object names) (Bad id)) (sym may) ∙ at (Next object names) is

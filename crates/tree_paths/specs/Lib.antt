@@ -16,3 +16,6 @@ pub mod Listings
 pub mod Changes
 -- What a path names.
 pub mod Leading
+-- what stands at a path of a tree, and the readings of a repository
+pub mod Lookups
+pub mod Repositories

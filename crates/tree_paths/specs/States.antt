@@ -39,10 +39,10 @@ may_be_tag (Some kind.Commit) = false
 
 abbrev pub peel_step : (List ℕ → Kind → Peeled) → List ℕ → Option Kind → Head → Peeled
 peel_step next id wanted Other = Bad id
-peel_step next id wanted (Root tree) = cond (may_be_commit wanted) (At tree) (Bad id)
+peel_step next id wanted (Root tree) = cond (may_be_commit wanted) (At id tree) (Bad id)
 peel_step next id wanted (Next object names) = cond (may_be_tag wanted) (next object names) (Bad id)
 
--- a tag is followed to its object while so many tags are left, up to a commit's tree; one tag more is bad
+-- a tag is followed to its object while so many tags are left, up to a commit and its tree; one tag more is bad
 unfoldable pub peeled : Heads → ℕ → Option Kind → List ℕ → Peeled
 peeled heads Nat.zero wanted id = peel_step (λ object names. Bad id) id wanted (heads id)
 peeled heads (suc n) wanted id = peel_step (λ object names. peeled heads n (Some names) object) id wanted (heads id)
@@ -66,7 +66,7 @@ ended_by tree ss (walked.Counted c) = Sound tree ss c
 abbrev pub ended : Trees → Peeled → Ended
 ended trees Nothing = Gone
 ended trees (Bad id) = Faulty id
-ended trees (At tree) = ended_by tree (steps trees 32 [] tree) (judge trees (steps trees 32 [] tree) no_counts)
+ended trees (At commit tree) = ended_by tree (steps trees 32 [] tree) (judge trees (steps trees 32 [] tree) no_counts)
 
 abbrev pub walk_of : Readings → List ℕ → Ended
 walk_of readings target = ended readings.trees (root_of readings.heads target)

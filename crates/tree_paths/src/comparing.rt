@@ -102,7 +102,7 @@ fn compare_with<R: Keeper>(
             let comparison = compare_roots(alloc, keeper, from, &None)?;
             Ok(comparison)
         }
-        Peeled::At(tree) => {
+        Peeled::At { commit: _, tree } => {
             let comparison = compare_roots(alloc, keeper, from, &Some(tree))?;
             Ok(comparison)
         }
@@ -132,7 +132,7 @@ pub fn compare<R: Keeper>(
             let comparison = compare_with(alloc, keeper, &None, to)?;
             Ok(comparison)
         }
-        Peeled::At(tree) => {
+        Peeled::At { commit: _, tree } => {
             let comparison = compare_with(alloc, keeper, &Some(tree), to)?;
             Ok(comparison)
         }

@@ -10,10 +10,10 @@ pub enum Head {
     Next(ObjectId, Kind),
 }
 
-/// Where peeling ends: there is nothing, an object is bad, or there is a commit of this tree.
+/// Where peeling of a target ends: there is nothing, an object is bad, or there is a commit of this tree.
 #[derive(Clone, Copy, Debug, PartialEq, Eq)]
 pub enum Peeled {
     Nothing,
     Bad(ObjectId),
-    At(ObjectId),
+    At { commit: ObjectId, tree: ObjectId },
 }

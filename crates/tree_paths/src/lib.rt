@@ -15,6 +15,7 @@ mod heads;
 pub mod laws;
 mod listing;
 mod loading;
+mod lookups;
 mod pairing;
 mod pairs;
 mod peeling;
@@ -26,4 +27,10 @@ mod twice;
 mod walking;
 
 pub use comparing::compare;
+pub use counts::is_dir;
+pub use heads::Peeled;
+pub use loading::load_tree;
+pub use lookups::{entry_named, load_at, load_entry, split_at_slash};
+pub use peeling::root_of;
+pub use places::compare_entries;
 pub use states::{Comparison, Paths, State, state_of};

@@ -13,8 +13,8 @@ use git_object::{Commit, Kind, ObjectFault, ObjectId, Tag, Tree, TreeEntries};
 use keeper_api::{Keeper, KeeperFault, load_object};
 use std::alloc::Global;
 
-// The entries of the tree at an id, where there is a tree.
-fn load_tree<R: Keeper>(
+/// The entries of the tree at an id, or None where there is none. It makes at most one read.
+pub fn load_tree<R: Keeper>(
     alloc: Global,
     keeper: &mut R,
     id: &ObjectId,

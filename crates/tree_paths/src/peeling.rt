@@ -61,7 +61,7 @@ fn peel<R: Keeper>(
         Head::Other => Ok(Peeled::Bad(*id)),
         Head::Root(tree) => {
             if may_be_commit(wanted) {
-                return Ok(Peeled::At(tree));
+                return Ok(Peeled::At { commit: *id, tree });
             }
             Ok(Peeled::Bad(*id))
         }

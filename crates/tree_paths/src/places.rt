@@ -28,8 +28,8 @@ fn compare_keys(left: &[u8], left_mode: Mode, right: &[u8], right_mode: Mode) ->
         .cmp(right.iter().chain(right_mode.key_end()))
 }
 
-// How the places of two entries are ordered.
-fn compare_entries(left: &TreeEntry, right: &TreeEntry) -> Ordering
+/// How two entries are ordered in a tree.
+pub fn compare_entries(left: &TreeEntry, right: &TreeEntry) -> Ordering
     ensures { result ≡ by_bytes (sort_key left.now) (sort_key right.now) }
 {
     compare_keys(

@@ -6,6 +6,7 @@ ghost use Rattle.keeper_api.specs.Faults.{keeper_failed};
 ghost use Rattle.keeper_api.specs.Undisturbed.{Undisturbed};
 ghost use Rattle.tree_paths.specs.Readings.{Readings, Told};
 ghost use Rattle.tree_paths.specs.States.{IfWhole, state_at, walk_of};
+ghost use Rattle.tree_paths.specs.Listings.{walk_visits};
 
 use crate::counts::{MOST_LEVELS, Walked, no_counts};
 use crate::heads::Peeled;
@@ -55,7 +56,7 @@ pub enum Comparison {
 /// pre-order. `Broken` names the first object that is missing, has another id or kind than it should, or is malformed;
 /// the ninth tag; an empty tree below the root or a tree at depth 33; and the tree in which path number 262,145, a
 /// path of more than 4,096 bytes, or the one that takes the paths together past 64 MiB stands. It makes at most 9
-/// reads beside one for each visited tree.
+/// reads beside one for each tree of the walk, also where the walk is broken or does not end.
 pub fn state_of<R: Keeper>(
     alloc: Global,
     keeper: &mut R,
@@ -65,11 +66,19 @@ pub fn state_of<R: Keeper>(
     ensures same { Undisturbed R.Keeper keeper.old keeper.new }
     ensures cause { HasCause keeper_failed (R.faults keeper.old) (R.faults keeper.new) result }
     ensures reads { IfOk result (λ state. IfWhole state (λ paths dirs. R.reads keeper.new ≤ R.reads keeper.old + 9 + dirs)) }
+    ensures visited { (readings : Readings) → Told (R.content keeper.new) readings → R.reads keeper.new ≤ R.reads keeper.old + 9 + walk_visits readings target.now }
 {
     match root_of(alloc, keeper, target)? {
         Peeled::Nothing => Ok(State::Absent),
         Peeled::Bad(id) => Ok(State::Broken { id }),
-        Peeled::At(tree) => match walk_tree(alloc, keeper, &tree, MOST_LEVELS, 0, no_counts())? {
+        Peeled::At { commit: _, tree } => match walk_tree(
+            alloc,
+            keeper,
+            &tree,
+            MOST_LEVELS,
+            0,
+            no_counts(),
+        )? {
             Walked::Broken(id) => Ok(State::Broken { id }),
             Walked::Counted(counts) => Ok(State::Whole {
                 tree,

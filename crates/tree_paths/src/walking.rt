@@ -4,6 +4,7 @@ ghost use Rattle.std.specs.Prelude.{◌≡◌, ◌≤◌, ◌+◌, ◌-◌, ◌*
 ghost use Rattle.octets.specs.Causes.{HasCause};
 ghost use Rattle.keeper_api.specs.Faults.{keeper_failed};
 ghost use Rattle.keeper_api.specs.Undisturbed.{Undisturbed};
+ghost use Rattle.tree_paths.specs.Listings.{visits};
 ghost use Rattle.tree_paths.specs.Readings.{Readings, Told};
 ghost use Rattle.tree_paths.specs.Walks.{Grown, IfCounted, entry_steps, is_dir, judge, steps};
 
@@ -32,6 +33,8 @@ fn walk_entry<R: Keeper>(
     ensures steps { IfOk result (λ w. (readings : Readings) (front : List ℕ) → Told (R.content keeper.new) readings → len ≡ min (length front) 8192
         → w ≡ judge readings.trees (entry_steps (steps readings.trees (left - 1)) holder.now front entry.now (is_dir entry.now.mode)) counts) }
     ensures grown { IfOk result (λ w. IfCounted w (λ c. Grown 0 counts (R.reads keeper.old) c (R.reads keeper.new))) }
+    ensures visited { (readings : Readings) (front : List ℕ) → Told (R.content keeper.new) readings
+        → R.reads keeper.new ≤ R.reads keeper.old + visits (entry_steps (steps readings.trees (left - 1)) holder.now front entry.now (is_dir entry.now.mode)) }
     ensures same { Undisturbed R.Keeper keeper.old keeper.new }
     ensures cause { HasCause keeper_failed (R.faults keeper.old) (R.faults keeper.new) result }
 {
@@ -63,6 +66,7 @@ pub fn walk_tree<R: Keeper>(
     ensures steps { IfOk result (λ w. (readings : Readings) (front : List ℕ) → Told (R.content keeper.new) readings → len ≡ min (length front) 8192
         → w ≡ judge readings.trees (steps readings.trees left front id.now) start) }
     ensures grown { IfOk result (λ w. IfCounted w (λ c. Grown left start (R.reads keeper.old) c (R.reads keeper.new))) }
+    ensures visited { (readings : Readings) (front : List ℕ) → Told (R.content keeper.new) readings → R.reads keeper.new ≤ R.reads keeper.old + visits (steps readings.trees left front id.now) }
     ensures same { Undisturbed R.Keeper keeper.old keeper.new }
     ensures cause { HasCause keeper_failed (R.faults keeper.old) (R.faults keeper.new) result }
 {

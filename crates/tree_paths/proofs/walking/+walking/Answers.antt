@@ -1,9 +1,32 @@
 use Rattle.std.proofs.Common.{rules, true, ap, ◌≡◌, ◌∙◌, ◌==◌, ◌≤◌, ◌+◌, ◌-◌, List, arith, length, sym}
+use Rattle.git_object.specs.declared.trees.TreeEntry.{TreeEntry}
+use Rattle.tree_paths.specs.Listings.{visits}
 use Rattle.tree_paths.specs.Walks.{below, Grown, judge, steps}
 use Rattle.tree_paths.specs.declared.counts.Counts.{Counts}
 use Rattle.tree_paths.proofs.ObjectsRead.{kept_told, some_at}
 use Rattle.tree_paths.proofs.Judging.{counted_is, entry_broken, entry_counted, judge_open, judge_shut, root_cut, zero_test}
+use Rattle.tree_paths.proofs.Visits.{visited_once, visits_entry, visits_open}
 use Rattle.tree_paths.proofs.walking.+walking.Goals as goal
+
+pub walk_tree-returns-in_err-entries-clause-visited : goal.walk_tree-returns-in_err-entries-clause-visited
+walk_tree-returns-in_err-entries-clause-visited g t c = λ readings front told. visited_once readings.trees c.args.left front c.args.id.now _ _ c.in_err-entries.ensures.reads
+
+pub walk_tree-returns-in_default-clause-visited : goal.walk_tree-returns-in_default-clause-visited
+walk_tree-returns-in_default-clause-visited g t c = λ readings front told. visited_once readings.trees c.args.left front c.args.id.now _ _ c.in_ok-entries.ensures.reads
+
+pub walk_tree-returns-in_err-bad-clause-visited : goal.walk_tree-returns-in_err-bad-clause-visited
+walk_tree-returns-in_err-bad-clause-visited g t c = λ readings front told.
+    let before = c.entries.invariant.visited readings front (kept_told readings c.in_err-bad.ensures.same.content told) in
+    let one = c.in_err-bad.ensures.visited readings front told in
+    let parts = visits_entry (steps readings.trees (c.args.left - 1)) c.args.id.now front c.entries.rest.now c.in-Some-split_first.more.now c.in-Some-split_first.entry.now c.in-Some-split_first.ensures.cases.0 in
+    omega (arith, before, one, parts)
+
+pub walk_tree-returns-in-Broken-clause-visited : goal.walk_tree-returns-in-Broken-clause-visited
+walk_tree-returns-in-Broken-clause-visited g t c = λ readings front told.
+    let before = c.entries.invariant.visited readings front (kept_told readings c.in_ok-bad.ensures.same.content told) in
+    let one = c.in_ok-bad.ensures.visited readings front told in
+    let parts = visits_entry (steps readings.trees (c.args.left - 1)) c.args.id.now front c.entries.rest.now c.in-Some-split_first.more.now c.in-Some-split_first.entry.now c.in-Some-split_first.ensures.cases.0 in
+    omega (arith, before, one, parts)
 
 pub walk_tree-returns-in_default-clause-steps : goal.walk_tree-returns-in_default-clause-steps
 walk_tree-returns-in_default-clause-steps g t c = λ readings front told is.
@@ -28,6 +51,10 @@ walk_tree-entries-init g t c =
       quiet = search rules;
       few = omega (arith, paths, c.requires.few);
       room = omega (arith, paths, dirs, c.requires.room);
+      visited = λ readings front told.
+          let whole = visits_open readings.trees c.args.left front c.args.id.now (c.args.len == 0) c.in-Some.entries level (sym c.in-Some.is ∙ c.in_ok-entries.ensures.read readings told) in
+          let rest = ap (λ (es : List TreeEntry). visits (below (steps readings.trees (c.args.left - 1)) c.args.id.now front es)) c.as_slice-rest.ensures in
+          omega (arith, whole, rest, c.in_ok-entries.ensures.reads);
       full = λ none less. let root : c.args.len ≡ 0 = zero_test c.args.len (some (ap length (sym c.as_slice-rest.ensures) ∙ none)) in let all = c.requires.root root in absurd (omega arith);
       spent = let reads = c.in_ok-entries.ensures.reads in omega (arith, dirs, reads);
     }
@@ -52,6 +79,11 @@ walk_tree-entries-preserved g t c =
       quiet = search rules;
       few = omega (arith, grown.few);
       room = let room = grown.room (omega arith) in omega (arith, room, c.requires.levels);
+      visited = λ readings front told.
+          let before = c.entries.invariant.visited readings front (kept_told readings c.in_ok-bad.ensures.same.content told) in
+          let one = c.in_ok-bad.ensures.visited readings front told in
+          let parts = visits_entry (steps readings.trees (c.args.left - 1)) c.args.id.now front c.entries.rest.now c.in-Some-split_first.more.now c.in-Some-split_first.entry.now c.in-Some-split_first.ensures.cases.0 in
+          omega (arith, before, one, parts);
       full = λ none less. grown.room (omega arith);
       spent = omega (arith, grown.spent, c.entries.invariant.spent);
     }

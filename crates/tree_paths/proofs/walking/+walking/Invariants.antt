@@ -1,5 +1,6 @@
 use Rattle.std.proofs.Common.{◌≡◌, ◌≤◌, ◌<◌, ◌+◌, ◌-◌, ◌*◌, ℕ, List, length, min}
 use Rattle.keeper_api.specs.Undisturbed.{Undisturbed}
+use Rattle.tree_paths.specs.Listings.{visits}
 use Rattle.tree_paths.specs.Readings.{Readings, Told}
 use Rattle.tree_paths.specs.Walks.{below, judge, steps}
 use Rattle.tree_paths.proofs.walking.+walking.Given as goal
@@ -19,6 +20,8 @@ invariant-walk_tree-entries g l = record {
   few : l.counts.paths ≤ 262144;
   room : l.counts.dirs + l.left ≤ 32 * l.counts.paths + 33;
   full : length l.rest ≡ 0 → l.left < 32 → l.counts.dirs ≤ 32 * l.counts.paths;
+  visited : (readings : Readings) (front : List ℕ) → Told (g.R.Keeper.content l.keeper) readings
+      → g.R.Keeper.reads l.keeper + visits (below (steps readings.trees (l.left - 1)) l.id front l.rest) ≤ g.R.Keeper.reads l.fn.keeper + visits (steps readings.trees l.left front l.id);
   spent : g.R.Keeper.reads l.keeper + l.fn.start.dirs ≤ g.R.Keeper.reads l.fn.keeper + l.counts.dirs;
 }
 
