@@ -1,0 +1,14 @@
+-- why an approval is not put into the attestations
+pub mod Faults
+-- what stands under a name
+pub mod Named
+-- a tree with one entry put in its place
+pub mod Entries
+-- trees with a file put at a path, and nothing else changed
+pub mod Files
+pub mod Placing
+pub mod Finding
+-- the change that puts an approval into the attestations
+pub mod Attesting
+-- a repository with the new objects finds the approval
+pub mod Tied
