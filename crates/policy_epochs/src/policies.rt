@@ -1,5 +1,7 @@
 //! What is kept of a policy.
 
+ghost use Rattle.std.specs.Prelude.{◌≡◌};
+
 use dsse_envelope::Envelope;
 use octets::{Items, Octets};
 use root_metadata::{Keys, Root};
@@ -24,4 +26,25 @@ pub struct Policy {
     pub keys: Keys,
     pub(crate) envelope: Envelope,
     pub(crate) files: Items<PolicyFile>,
+}
+
+impl Policy {
+    /// The policy of these parts: the files stand with the top file first and the others by name, and no two have one name.
+    pub fn new(
+        root: Root,
+        rules: Rules,
+        keys: Keys,
+        envelope: Envelope,
+        files: Items<PolicyFile>,
+    ) -> Policy
+        ensures { result ≡ record { root = root; rules = rules; keys = keys; envelope = envelope; files = files } }
+    {
+        Policy {
+            root,
+            rules,
+            keys,
+            envelope,
+            files,
+        }
+    }
 }

@@ -12,4 +12,6 @@ mod Spreading
 mod Offcuts
 mod Deepening
 mod Faults
-mod Lawful
+pub mod Lawful
+mod Closing
+pub mod Faulty

@@ -78,7 +78,7 @@ module _ (files : List RuleFile) (marks : List Bool) where
           record { chain = chain; is_chain = leads; rule = found.rule; last = found.is; named = sym other.named ∙ ap (λ (f : RuleFile). f.name) one ∙ named.named }
     ]
 
-    off_cut : (name : List ℕ) → IsOff files marks (length files) name → IsCutOff files name
+    pub off_cut : (name : List ℕ) → IsOff files marks (length files) name → IsCutOff files name
     off_cut name off = record {
       at = off.at;
       is = off.is;
@@ -86,7 +86,7 @@ module _ (files : List RuleFile) (marks : List Bool) where
       off = λ on. off.unmarked (are.all off.at (on_chain off.at name off.is on));
     }
 
-    cut_off : (name : List ℕ) → IsCutOff files name → IsOff files marks (length files) name
+    pub cut_off : (name : List ℕ) → IsCutOff files name → IsOff files marks (length files) name
     cut_off name cut = record {
       at = cut.at;
       early = found_less files cut.at cut.is.file cut.is.is;

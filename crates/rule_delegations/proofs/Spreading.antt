@@ -120,7 +120,7 @@ module _ (files : List RuleFile) where
       ]
 
   -- what is below a chain is marked, where what is below a marked file's rules is
-  marked_below : (marks : List Bool) → ((file at other : ℕ) → IsMarked marks file → link_at files (record { file = file; rule = at }) ≡ Some other → IsMarked marks other)
+  pub marked_below : (marks : List Bool) → ((file at other : ℕ) → IsMarked marks file → link_at files (record { file = file; rule = at }) ≡ Some other → IsMarked marks other)
       → AreDistinct files → (from other : ℕ) (chain : Chain) → IsMarked marks from → Leads files from chain → link_at files (last_place chain) ≡ Some other → IsMarked marks other
   marked_below marks closed distinct from other [] marked leads link = absurd leads
   marked_below marks closed distinct from other (p ∷ []) marked leads link =

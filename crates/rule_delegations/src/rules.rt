@@ -17,7 +17,7 @@ use crate::{AssembleFault, RuleRef, Short};
 use octets::Memory;
 use ref_patterns::Space;
 use root_metadata::{KeyIds, count_in};
-use rule_files::{Rule, RuleFiles};
+use rule_files::{Rule, RuleFile, RuleFiles};
 use std::alloc::Global;
 use std::marker::Model;
 
@@ -54,6 +54,13 @@ impl Rules {
             Ok(forest) => Ok(Rules { forest }),
             Err(fault) => Err(fault),
         }
+    }
+
+    /// The files, of which the first is the top file, lent.
+    pub fn files(&self) -> &[RuleFile]
+        ensures { result.now ≡ self.now }
+    {
+        self.forest.files()
     }
 
     /// The rule at a place that `search` or `first_reached` gave.

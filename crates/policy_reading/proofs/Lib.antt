@@ -1,0 +1,5 @@
+pub mod InOrder
+pub mod FilesRead
+pub mod Counting
+pub mod TextsRead
+pub mod Assembled
