@@ -1,21 +1,12 @@
--- The words of each command.
-use Rattle.std.specs.Prelude.{◌≡◌, ◌≢◌, ◌∷◌, ℕ, Bool, List, Option, Some, codes}
+-- The words of each command behind its name.
+use Rattle.std.specs.Prelude.{◌≡◌, ◌≢◌, ℕ, Bool, List, Option, Some, codes}
 use Rattle.clap.specs.Simple.{App, with_rule}
 use Rattle.git_object.specs.Names.{IsRefName, log_name}
 use Rattle.command_words.specs.Grammars.{Takes, bare_app, flag_rule, is_given, positional_rule, value_of}
-use Rattle.command_words.specs.declared.commands.Command.{Command}
-use Rattle.command_words.specs.declared.commands.Command.TheVariants.{VerifyRef, Export, Import}
-
--- the first word is this one, and the words after it are such
-pub record Begins (first : List ℕ) (After : List (List ℕ) → Type 0) (words : List (List ℕ)) : Type 0 where
-  pub rest : List (List ℕ)
-  pub are : words ≡ first ∷ rest
-  pub after : After rest
-
--- ---- verify-ref <ref> [--stdin]
-
-abbrev pub verify_ref_app : App
-verify_ref_app = with_rule (with_rule (bare_app (codes "verify-ref")) (positional_rule (codes "ref"))) (flag_rule (codes "stdin"))
+use Rattle.command_words.specs.declared.commands.Height.{Height}
+use Rattle.command_words.specs.declared.commands.Height.TheVariants.{H5, H10, H15}
+use Rattle.command_words.specs.declared.commands.Width.{Width}
+use Rattle.command_words.specs.declared.commands.Width.TheVariants.{W1, W2, W4, W8}
 
 -- a value that is given is the name of a reference other than the log's own
 pub record IsAsked (given : Option (List ℕ)) (name : List ℕ) : Type 0 where
@@ -23,7 +14,12 @@ pub record IsAsked (given : Option (List ℕ)) (name : List ℕ) : Type 0 where
   pub is_name : IsRefName name
   pub not_log : name ≢ log_name
 
--- the words after the first: a reference other than the log's own, and whether the flag is given
+-- ---- verify-ref <ref> [--stdin]
+
+abbrev pub verify_ref_app : App
+verify_ref_app = with_rule (with_rule (bare_app (codes "verify-ref")) (positional_rule (codes "ref"))) (flag_rule (codes "stdin"))
+
+-- a reference other than the log's own, and whether the flag is given
 pub record AsksVerdict (name : List ℕ) (stdin : Bool) (words : List (List ℕ)) : Type 0 where
   pub takes : Takes verify_ref_app words
   pub given : value_of verify_ref_app (codes "ref") words ≡ Some name
@@ -31,27 +27,36 @@ pub record AsksVerdict (name : List ℕ) (stdin : Bool) (words : List (List ℕ)
   pub not_log : name ≢ log_name
   pub flag : is_given verify_ref_app (codes "stdin") words ≡ stdin
 
-abbrev pub IsVerifyRef : List (List ℕ) → List ℕ → Bool → Type 0
-IsVerifyRef words name stdin = Begins (codes "verify-ref") (AsksVerdict name stdin) words
+-- ---- record <ref>
 
--- ---- export
+abbrev pub record_app : App
+record_app = with_rule (bare_app (codes "record")) (positional_rule (codes "ref"))
 
-abbrev pub IsExport : List (List ℕ) → Type 0
-IsExport words = Begins (codes "export") (Takes (bare_app (codes "export"))) words
+-- a reference other than the log's own
+pub record AsksRecord (name : List ℕ) (words : List (List ℕ)) : Type 0 where
+  pub takes : Takes record_app words
+  pub given : value_of record_app (codes "ref") words ≡ Some name
+  pub is_name : IsRefName name
+  pub not_log : name ≢ log_name
 
--- ---- import
+-- ---- key-gen <height> <width>
 
-abbrev pub IsImport : List (List ℕ) → Type 0
-IsImport words = Begins (codes "import") (Takes (bare_app (codes "import"))) words
+abbrev pub key_gen_app : App
+key_gen_app = with_rule (with_rule (bare_app (codes "key-gen")) (positional_rule (codes "height"))) (positional_rule (codes "width"))
 
--- ---- all commands
+abbrev pub height_text : Height → List ℕ
+height_text H5 = codes "5"
+height_text H10 = codes "10"
+height_text H15 = codes "15"
 
--- the words ask for this command
-abbrev pub IsCommand : List (List ℕ) → Command → Type 0
-IsCommand words (VerifyRef name stdin) = IsVerifyRef words name stdin
-IsCommand words Export = IsExport words
-IsCommand words Import = IsImport words
+abbrev pub width_text : Width → List ℕ
+width_text W1 = codes "1"
+width_text W2 = codes "2"
+width_text W4 = codes "4"
+width_text W8 = codes "8"
 
--- the words are outside the grammar
-abbrev pub IsNoCommand : List (List ℕ) → Type 0
-IsNoCommand words = (command : Command) → IsCommand words command → ⊥
+-- the number of levels of the tree, and of bits of a digit
+pub record AsksKey (height : Height) (width : Width) (words : List (List ℕ)) : Type 0 where
+  pub takes : Takes key_gen_app words
+  pub is_height : value_of key_gen_app (codes "height") words ≡ Some (height_text height)
+  pub is_width : value_of key_gen_app (codes "width") words ≡ Some (width_text width)

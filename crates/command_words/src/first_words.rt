@@ -35,5 +35,14 @@ pub(crate) fn named(word: &str) -> Option<CommandName>
     if is_word(word, "import") {
         return Some(CommandName::Import);
     }
+    if is_word(word, "key-gen") {
+        return Some(CommandName::KeyGen);
+    }
+    if is_word(word, "log") {
+        return Some(CommandName::Log);
+    }
+    if is_word(word, "record") {
+        return Some(CommandName::Record);
+    }
     None
 }

@@ -1,7 +1,7 @@
-//! The two words in front of a command's: the store and the key.
+//! The two words in front of a command's: the store and the key file.
 
 ghost use Rattle.std.specs.Prelude.{◌≡◌, ◌≢◌, ◌↔◌, map, string_bytes, IfSome, IfNone, IsTrue};
-ghost use Rattle.command_words.specs.Places.{AreNoPlaces, ArePlaces, IsFolder, IsStore, store_text};
+ghost use Rattle.command_words.specs.Places.{AreNoPlaces, ArePlaces, IsFolder, IsKey, IsStore, key_text, store_text};
 
 use crate::first_words::{is_word, split_first};
 
@@ -12,6 +12,23 @@ pub enum Store<'a> {
     Memory,
     /// In a folder, named by a text that ends in `/`.
     Directory(&'a str),
+}
+
+/// Where the key file is.
+#[derive(Clone, Copy, Debug, PartialEq, Eq, Drop)]
+pub enum Key<'a> {
+    /// In memory, named `-`.
+    Memory,
+    /// The file at this path.
+    File(&'a str),
+}
+
+/// What stands in front of a command's words, and those words.
+#[derive(Clone, Copy, Debug, Drop)]
+pub struct Places<'a> {
+    pub store: Store<'a>,
+    pub key: Key<'a>,
+    pub command: &'a [String],
 }
 
 fn is_folder(text: &str) -> bool
@@ -34,17 +51,29 @@ fn store_at(text: &str) -> Option<Store>
     None
 }
 
-/// The store, and the words of a command, where the first word names a store and the second is the key `-`;
-/// None elsewhere. The words that are left may be none.
-pub fn after_places(words: &[String]) -> Option<(Store, &[String])>
-    ensures found { IfSome result (λ found. ArePlaces (map string_bytes words.now) found.0 (map string_bytes found.1.now)) }
+// The key file that a text stands for.
+fn key_at(text: &str) -> Key
+    ensures text { key_text result ≡ text.now }
+    ensures is_key { IsKey result }
+{
+    if is_word(text, "-") {
+        return Key::Memory;
+    }
+    Key::File(text)
+}
+
+/// The store and the key file that the first two words name, and the words after them, which may be none. None
+/// exactly where there are no two words, or the first names no store.
+pub fn after_places(words: &[String]) -> Option<Places>
+    ensures found { IfSome result (λ found. ArePlaces (map string_bytes words.now) found.store found.key (map string_bytes found.command.now)) }
     ensures none { IfNone result (AreNoPlaces (map string_bytes words.now)) }
 {
     let (first, after_store) = split_first(words)?;
-    let (key, rest) = split_first(after_store)?;
+    let (key, command) = split_first(after_store)?;
     let store = store_at(first)?;
-    if !is_word(key, "-") {
-        return None;
-    }
-    Some((store, rest))
+    Some(Places {
+        store,
+        key: key_at(key),
+        command,
+    })
 }

@@ -1,21 +1,16 @@
 //! The words of `verify-ref`.
 
-ghost use Rattle.std.specs.Prelude.{◌≡◌, ℕ, Bool, List, codes, map, string_bytes, IfOk, IsErrOf, OnOk};
-ghost use Rattle.clap.specs.Words.{app_of, first_of, found_of, matches_of, rows_of};
-ghost use Rattle.command_words.specs.Commands.{AsksVerdict, IsAsked, verify_ref_app};
+ghost use Rattle.std.specs.Prelude.{◌≡◌, ℕ, Bool, List, map, string_bytes, IfOk, IsErrOf, OnOk};
+ghost use Rattle.clap.specs.Words.{app_of, found_of, matches_of, rows_of};
+ghost use Rattle.command_words.specs.Commands.{AsksVerdict, verify_ref_app};
 ghost use Rattle.command_words.specs.Grammars.{Takes};
 
-use crate::arguments::{
-    bare_command, flag, has_flag, positional, take_words, value_in, with_argument,
-};
-use crate::first_words::is_word;
+use crate::arguments::{bare_command, flag, has_flag, positional, take_words, with_argument};
+use crate::references::reference_in;
 use crate::words_fault::WordsFault;
 use clap::ArgMatches;
-use git_object::{RefFault, RefName};
+use git_object::RefName;
 use std::alloc::{AllocError, Global};
-
-/// The name of the reference that the reference state log's tip stands at.
-pub const LOG_NAME: &str = "refs/gittuf/reference-state-log";
 
 fn verify_ref_command<'a>(alloc: Global) -> Result<clap::Command<'a>, AllocError>
     ensures { IfOk result (λ c. app_of c ≡ verify_ref_app) }
@@ -34,25 +29,6 @@ fn take_verify_ref<'a>(alloc: Global, words: &'a [String]) -> Result<ArgMatches<
         return Err(WordsFault::Memory);
     };
     take_words(command, words)
-}
-
-// The reference whose verdict is asked for: any but the log's own. What is none is `Outside`, and takes no memory.
-fn reference_in(alloc: Global, matches: &ArgMatches) -> Result<RefName, WordsFault>
-    ensures found { IfOk result (IsAsked (first_of (codes "ref") (rows_of (found_of matches.now)))) }
-    ensures outside { IsErrOf result WordsFault.Outside → (name : List ℕ) → IsAsked (first_of (codes "ref") (rows_of (found_of matches.now))) name → ⊥ }
-    ensures memory { IsErrOf result WordsFault.Memory → (name : List ℕ) × IsAsked (first_of (codes "ref") (rows_of (found_of matches.now))) name }
-{
-    let Some(text) = value_in(matches, "ref") else {
-        return Err(WordsFault::Outside);
-    };
-    if is_word(text, LOG_NAME) {
-        return Err(WordsFault::Outside);
-    }
-    match RefName::read(alloc, text.as_bytes()) {
-        Ok(name) => Ok(name),
-        Err(RefFault::BadRef) => Err(WordsFault::Outside),
-        Err(RefFault::Memory) => Err(WordsFault::Memory),
-    }
 }
 
 /// The reference of which the words after `verify-ref` ask, and whether `--stdin` is given. `Outside` comes

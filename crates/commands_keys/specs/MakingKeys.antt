@@ -1,5 +1,5 @@
 -- What each outcome of `key-gen` means.
-use Rattle.std.specs.Prelude.{◌≡◌, ◌<◌, ℕ, Bool, true, false, List, [], length, Option, Some, Result, Ok, Err}
+use Rattle.std.specs.Prelude.{◌≡◌, ◌<◌, ℕ, List, [], length, Option, Some, Result, Ok, Err}
 use Rattle.octets.specs.Content.{GainsPart, with_end, with_front}
 use Rattle.edge_disk.specs.Disk.{IsKept}
 use Rattle.edge_disk.specs.declared.disks.Disk as disk
@@ -7,31 +7,22 @@ use Rattle.lmots.specs.declared.ots_type.OtsType.{OtsType}
 use Rattle.lms_keys.specs.Secret.{Secret, public_key_of}
 use Rattle.lms_keys.specs.declared.lms_type.LmsType.{LmsType}
 use Rattle.leaf_journal.specs.KeyFile.{IsNewKeyFile}
+use Rattle.endings.specs.declared.ending.Ending.{Ending}
+use Rattle.endings.specs.declared.ending.Ending.TheVariants.{Done, Refused}
+use Rattle.endings.specs.declared.ending.Part.TheVariants as part
+use Rattle.endings.specs.declared.ending.Refusal.TheVariants as refusal
 use Rattle.commands_keys.specs.KeyLines.{key_line}
 use Rattle.commands_keys.specs.declared.making_keys.KeyGenFault.{KeyGenFault}
 use Rattle.commands_keys.specs.declared.making_keys.KeyGenFault.TheVariants.{NotEmpty, EntropyFailed, DiskFailed, SinkFailed, Memory}
 
--- which refusals are a fault of the sink, of the disk, of the entropy
-abbrev pub sink_failed : KeyGenFault → Bool
-sink_failed NotEmpty = false
-sink_failed EntropyFailed = false
-sink_failed DiskFailed = false
-sink_failed SinkFailed = true
-sink_failed Memory = false
-
-abbrev pub disk_failed : KeyGenFault → Bool
-disk_failed NotEmpty = false
-disk_failed EntropyFailed = false
-disk_failed DiskFailed = true
-disk_failed SinkFailed = false
-disk_failed Memory = false
-
-abbrev pub entropy_failed : KeyGenFault → Bool
-entropy_failed NotEmpty = false
-entropy_failed EntropyFailed = true
-entropy_failed DiskFailed = false
-entropy_failed SinkFailed = false
-entropy_failed Memory = false
+-- how the program ends
+abbrev pub key_gen_ending : Result (Unit {0}) KeyGenFault → Ending
+key_gen_ending (Ok done) = Done
+key_gen_ending (Err NotEmpty) = Refused refusal.NotEmpty
+key_gen_ending (Err EntropyFailed) = Refused (refusal.Fault part.Entropy)
+key_gen_ending (Err DiskFailed) = Refused (refusal.Fault part.Disk)
+key_gen_ending (Err SinkFailed) = Refused (refusal.Fault part.Sink)
+key_gen_ending (Err Memory) = Refused refusal.Memory
 
 module _ {D : Type 0} (disk_of : disk.Ghosts D) (lms : LmsType) (ots : OtsType) (left left_now : Option (List ℕ)) (old new : D) where
   -- a key was made of what was drawn: the disk held nothing, and a crash leaves the new key file and nothing else

@@ -1,15 +1,16 @@
 //! The commands that work on the key file: `key-gen`.
 //!
-//! This crate stands on `edge_disk`, `edge_io`, `leaf_journal`, `lms_keys` and `git_object`. Each command is a function
-//! over exactly the objects that it needs, with outcomes of its own. A crate above may rely on each outcome's meaning,
-//! which stands as one table a command in `specs/`, and on each object counting a fault exactly where the outcome
-//! names it.
+//! This crate stands on `edge_disk`, `edge_io`, `leaf_journal`, `lms_keys`, `git_object` and `endings`. Each command is
+//! a function over exactly the objects that it needs, with outcomes of its own. A crate above may rely on each
+//! outcome's meaning, which stands as one table a command in `specs/`, on each object counting a fault exactly where
+//! the outcome names it, and on one outcome at most for what the objects hold (`laws`).
 
 #![tactic(auto)]
 
 mod key_lines;
+pub mod laws;
 mod making_keys;
 #[cfg(test)]
 mod tests;
 
-pub use making_keys::{KeyGenFault, key_gen};
+pub use making_keys::{KeyGenFault, key_gen, key_gen_ending};

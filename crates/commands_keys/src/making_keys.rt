@@ -3,12 +3,14 @@
 ghost use Rattle.std.specs.Prelude.{◌≡◌, ◌≤◌, OnOk};
 ghost use Rattle.octets.specs.Causes.{HasCause, each};
 ghost use Rattle.octets.specs.Content.{with_front};
+ghost use Rattle.endings.specs.Counts.{Faults, IsCounted};
 ghost use Rattle.lms_keys.specs.LmsType.{height};
-ghost use Rattle.commands_keys.specs.MakingKeys.{KeyGenEnds, disk_failed, entropy_failed, sink_failed};
+ghost use Rattle.commands_keys.specs.MakingKeys.{KeyGenEnds, key_gen_ending};
 
 use crate::key_lines::{KEY_LINE, write_key_line};
 use edge_disk::{Disk, Entropy};
 use edge_io::{Failed, Sink, write_all};
+use endings::{Ending, Part, Refusal};
 use leaf_journal::{CreateFault, create};
 use lmots::OtsType;
 use lms_keys::LmsType;
@@ -24,6 +26,23 @@ pub enum KeyGenFault {
     /// The key was made, and could not be told.
     SinkFailed,
     Memory,
+}
+
+/// How the program ends.
+pub fn key_gen_ending(outcome: &Result<(), KeyGenFault>) -> Ending
+    ensures { result ≡ key_gen_ending outcome.now }
+{
+    let refusal = match outcome {
+        Ok(()) => return Ending::Done,
+        Err(KeyGenFault::NotEmpty) => Refusal::NotEmpty,
+        Err(KeyGenFault::EntropyFailed) => Refusal::Fault {
+            part: Part::Entropy,
+        },
+        Err(KeyGenFault::DiskFailed) => Refusal::Fault { part: Part::Disk },
+        Err(KeyGenFault::SinkFailed) => Refusal::Fault { part: Part::Sink },
+        Err(KeyGenFault::Memory) => Refusal::Memory,
+    };
+    Ending::Refused { refusal }
 }
 
 // Draws an identifier, and then a seed.
@@ -49,9 +68,9 @@ pub fn key_gen<K: Sink, D: Disk, E: Entropy>(
 ) -> Result<(), KeyGenFault>
     requires low { height lms ≤ 15 }
     ensures ends { KeyGenEnds D.Disk lms ots (E.left entropy.old) (E.left entropy.new) disk.old disk.new (K.contents sink.old) (K.contents sink.new) result }
-    ensures sink { HasCause sink_failed (K.faults sink.old) (K.faults sink.new) result }
-    ensures disk { HasCause disk_failed (D.faults disk.old) (D.faults disk.new) result }
-    ensures entropy { HasCause entropy_failed (E.faults entropy.old) (E.faults entropy.new) result }
+    ensures counted { (rest : Faults) → IsCounted (key_gen_ending result)
+        (record rest { sink = K.faults sink.old; disk = D.faults disk.old; entropy = E.faults entropy.old })
+        (record rest { sink = K.faults sink.new; disk = D.faults disk.new; entropy = E.faults entropy.new }) }
 {
     let Ok(mut line) = Vec::with_capacity(alloc, KEY_LINE) else {
         return Err(KeyGenFault::Memory);

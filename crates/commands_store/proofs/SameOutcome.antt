@@ -6,13 +6,15 @@ use Rattle.std.proofs.lemmas.Bool.{false≢true}
 use Rattle.std.proofs.lemmas.List.{append-nil}
 use Rattle.git_object.specs.Names.{log_name}
 use Rattle.git_object.specs.Repository.{Repository, value_of}
+use Rattle.rsl_chain.specs.Chain.{IsBreak, NeverBoth, OneBreak}
+use Rattle.rsl_chain.specs.Logs.{IsBreakOf, heads_of}
 use Rattle.clone_stream.specs.ExportLaws.{OneExport}
 use Rattle.clone_stream.specs.Faults.{fault_number}
 use Rattle.clone_stream.specs.Laws.{OneRefusal}
 use Rattle.clone_stream.specs.Streams.{IsStreamText, OneSpelling}
 use Rattle.clone_stream.specs.declared.export_faults.ExportFault.{ExportFault}
 use Rattle.clone_stream.specs.declared.export_faults.ExportFault.TheVariants as export
-use Rattle.commands_store.specs.Contents.{ExportComes, ImportComes, IsJudged, IsLogged, IsNotTaken, IsOpened, IsTaken, TakeComes, VerifyComes}
+use Rattle.commands_store.specs.Contents.{ExportComes, ImportComes, IsBrokenLog, IsJudged, IsLogged, IsNotTaken, IsOpened, IsTaken, TakeComes, VerifyComes}
 use Rattle.commands_store.specs.Verdicts.{IsVerdictOn}
 use Rattle.commands_store.specs.declared.importing.ImportFault.{ImportFault}
 use Rattle.commands_store.specs.declared.importing.ImportFault.TheVariants as import
@@ -88,11 +90,13 @@ module _ (spelling : OneSpelling) (refusal : OneRefusal) (was : Repository) (byt
     judged : (verdict : Verdict) → outcome ≡ Ok verdict → IsJudged name stdin was bytes verdict → Judging name stdin outcome
     refused : (fault : TakeFault) → outcome ≡ Err (verify.Unopened fault) → IsTrue stdin → TakeComes was bytes fault → Judging name stdin outcome
     logged : outcome ≡ Err verify.Logged → IsLogged stdin was bytes → Judging name stdin outcome
+    broken : (id : List ℕ) → outcome ≡ Err (verify.LogBroken id) → IsBrokenLog stdin was bytes id → Judging name stdin outcome
 
   judging : (name : List ℕ) (stdin : Bool) (outcome : Result Verdict VerifyFault) → VerifyComes name stdin was bytes outcome → Judging name stdin outcome
   judging name stdin (Ok verdict) is = judged verdict refl is
   judging name stdin (Err (verify.Unopened fault)) is = refused fault refl is.0 is.1
   judging name stdin (Err verify.Logged) is = logged refl is
+  judging name stdin (Err (verify.LogBroken id)) is = broken id refl is
   judging name stdin (Err verify.KeeperFailed) is = absurd is
   judging name stdin (Err verify.SinkFailed) is = absurd is
   judging name stdin (Err verify.Memory) is = absurd is
@@ -106,18 +110,44 @@ module _ (spelling : OneSpelling) (refusal : OneRefusal) (was : Repository) (byt
   judged_or_logged : {X : Type 0} (name : List ℕ) (stdin : Bool) (verdict : Verdict) → IsJudged name stdin was bytes verdict → IsLogged stdin was bytes → X
   judged_or_logged name stdin verdict is other =
       let repository = same_opened stdin is.repository other.repository is.opened other.opened in
-      absurd (no_value (get other.repository.refs log_name) (ap (λ (r : Repository). get r.refs log_name) (sym repository) ∙ is.judged.no_log) other.log)
+      absurd (no_value (get other.repository.refs log_name) (ap (λ (r : Repository). get r.refs log_name) (sym repository) ∙ is.judged.no_log) other.log.there)
 
-  one_judging : (name : List ℕ) (stdin : Bool) (a b : Result Verdict VerifyFault) → Judging name stdin a → Judging name stdin b → a ≡ b
-  one_judging name stdin a b (judged v e is) (judged w f other) = e ∙ ap Ok (judged_once name stdin v w is other) ∙ sym f
-  one_judging name stdin a b (judged v e is) (refused n f given other) = opened_or_declined stdin is.repository n is.opened given other
-  one_judging name stdin a b (judged v e is) (logged f other) = judged_or_logged name stdin v is other
-  one_judging name stdin a b (refused m e given is) (judged w f other) = opened_or_declined stdin other.repository m other.opened given is
-  one_judging name stdin a b (refused m e given is) (refused n f also other) = e ∙ ap (λ (k : TakeFault). Err (verify.Unopened k)) (same_fault m n is other) ∙ sym f
-  one_judging name stdin a b (refused m e given is) (logged f other) = opened_or_declined stdin other.repository m other.opened given is
-  one_judging name stdin a b (logged e is) (judged w f other) = judged_or_logged name stdin w other is
-  one_judging name stdin a b (logged e is) (refused n f given other) = opened_or_declined stdin is.repository n is.opened given other
-  one_judging name stdin a b (logged e is) (logged f other) = e ∙ sym f
+  judged_or_broken : {X : Type 0} (name : List ℕ) (stdin : Bool) (verdict : Verdict) (id : List ℕ) → IsJudged name stdin was bytes verdict → IsBrokenLog stdin was bytes id → X
+  judged_or_broken name stdin verdict id is other =
+      let repository = same_opened stdin is.repository other.repository is.opened other.opened in
+      let none = ap (λ (r : Repository). get r.refs log_name) (sym repository) ∙ is.judged.no_log in
+      absurd (subst (λ (tip : Option (List ℕ)). IsBreak (heads_of other.repository) tip id) none other.breaks)
+
+  module _ (one_break : OneBreak) (never_both : NeverBoth) (stdin : Bool) where
+    logged_or_broken : {X : Type 0} (id : List ℕ) → IsLogged stdin was bytes → IsBrokenLog stdin was bytes id → X
+    logged_or_broken id is other =
+        let repository = same_opened stdin is.repository other.repository is.opened other.opened in
+        let chain = is.log in
+        absurd (never_both (heads_of is.repository) (get is.repository.refs log_name) chain.ids id chain.log
+        (subst (λ (r : Repository). IsBreakOf r id) (sym repository) other.breaks))
+
+    broken_once : (id found : List ℕ) → IsBrokenLog stdin was bytes id → IsBrokenLog stdin was bytes found → id ≡ found
+    broken_once id found is other =
+        let repository = same_opened stdin is.repository other.repository is.opened other.opened in
+        one_break (heads_of is.repository) (get is.repository.refs log_name) id found is.breaks (subst (λ (r : Repository). IsBreakOf r found) (sym repository) other.breaks)
+
+  one_judging : OneBreak → NeverBoth → (name : List ℕ) (stdin : Bool) (a b : Result Verdict VerifyFault) → Judging name stdin a → Judging name stdin b → a ≡ b
+  one_judging once apart name stdin a b (judged v e is) (judged w f other) = e ∙ ap Ok (judged_once name stdin v w is other) ∙ sym f
+  one_judging once apart name stdin a b (judged v e is) (refused n f given other) = opened_or_declined stdin is.repository n is.opened given other
+  one_judging once apart name stdin a b (judged v e is) (logged f other) = judged_or_logged name stdin v is other
+  one_judging once apart name stdin a b (judged v e is) (broken id f other) = judged_or_broken name stdin v id is other
+  one_judging once apart name stdin a b (refused m e given is) (judged w f other) = opened_or_declined stdin other.repository m other.opened given is
+  one_judging once apart name stdin a b (refused m e given is) (refused n f also other) = e ∙ ap (λ (k : TakeFault). Err (verify.Unopened k)) (same_fault m n is other) ∙ sym f
+  one_judging once apart name stdin a b (refused m e given is) (logged f other) = opened_or_declined stdin other.repository m other.opened given is
+  one_judging once apart name stdin a b (refused m e given is) (broken id f other) = opened_or_declined stdin other.repository m other.opened given is
+  one_judging once apart name stdin a b (logged e is) (judged w f other) = judged_or_logged name stdin w other is
+  one_judging once apart name stdin a b (logged e is) (refused n f given other) = opened_or_declined stdin is.repository n is.opened given other
+  one_judging once apart name stdin a b (logged e is) (logged f other) = e ∙ sym f
+  one_judging once apart name stdin a b (logged e is) (broken id f other) = logged_or_broken once apart stdin id is other
+  one_judging once apart name stdin a b (broken id e is) (judged w f other) = judged_or_broken name stdin w id other is
+  one_judging once apart name stdin a b (broken id e is) (refused n f given other) = opened_or_declined stdin is.repository n is.opened given other
+  one_judging once apart name stdin a b (broken id e is) (logged f other) = logged_or_broken once apart stdin id other is
+  one_judging once apart name stdin a b (broken id e is) (broken found f other) = e ∙ ap (λ (i : List ℕ). Err (verify.LogBroken i)) (broken_once once apart stdin id found is other) ∙ sym f
 
   one_import : (a b : Result (Unit {0}) ImportFault) → ImportComes was bytes a → ImportComes was bytes b → a ≡ b
   one_import (Ok done) (Ok also) is other = refl
@@ -127,10 +157,10 @@ module _ (spelling : OneSpelling) (refusal : OneRefusal) (was : Repository) (byt
   one_import (Err import.SinkFailed) b is other = absurd is
   one_import a (Err import.SinkFailed) is other = absurd other
 
-pub same_judging : OneSpelling → OneRefusal → (name : List ℕ) (stdin : Bool) (was : Repository) (bytes : List ℕ) (a b : Result Verdict VerifyFault)
+pub same_judging : OneSpelling → OneRefusal → OneBreak → NeverBoth → (name : List ℕ) (stdin : Bool) (was : Repository) (bytes : List ℕ) (a b : Result Verdict VerifyFault)
     → VerifyComes name stdin was bytes a → VerifyComes name stdin was bytes b → a ≡ b
-same_judging spelling refusal name stdin was bytes a b is other =
-    one_judging spelling refusal was bytes name stdin a b (judging spelling refusal was bytes name stdin a is) (judging spelling refusal was bytes name stdin b other)
+same_judging spelling refusal once apart name stdin was bytes a b is other =
+    one_judging spelling refusal was bytes once apart name stdin a b (judging spelling refusal was bytes name stdin a is) (judging spelling refusal was bytes name stdin b other)
 
 pub same_import : OneSpelling → OneRefusal → (was : Repository) (bytes : List ℕ) (a b : Result (Unit {0}) ImportFault) → ImportComes was bytes a → ImportComes was bytes b → a ≡ b
 same_import spelling refusal was bytes a b is other = one_import spelling refusal was bytes a b is other

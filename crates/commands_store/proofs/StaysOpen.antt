@@ -1,14 +1,23 @@
--- A store that was opened stays open where it is only looked at, and a verdict is no fault.
-use Rattle.std.proofs.Common.{◌≡◌, inl, inr, List, ℕ, refl, ◌∙◌}
-use Rattle.std.specs.Prelude.{Bool, Option, None, Ok}
+-- A store that was opened stays open where it is only looked at, and what looking there comes to.
+use Rattle.std.proofs.Common.{◌≡◌, inl, inr, List, ℕ, refl, subst}
+use Rattle.std.specs.Prelude.{Bool, Option, None, Result, Ok, Err}
+use Rattle.octets.specs.Causes.{HasCause}
+use Rattle.git_object.specs.Repository.{Repository}
 use Rattle.keeper_api.specs.Undisturbed.{Undisturbed}
 use Rattle.keeper_api.specs.declared.keepers.Keeper as keeper
 use Rattle.clone_stream.specs.Taking.{TakesInto}
+use Rattle.endings.specs.Counts.{Faults, IsCounted}
 use Rattle.endings.specs.Endings.{part_of}
+use Rattle.endings.specs.declared.ending.Ending.TheVariants as ending
+use Rattle.endings.specs.declared.ending.Refusal.TheVariants as refusal
+use Rattle.endings.proofs.Counting.{keeper_failed, keeper_quiet}
+use Rattle.commands_store.specs.Judging.{Judges, judge_failed}
 use Rattle.commands_store.specs.Taking.{Opens}
-use Rattle.commands_store.specs.Verifying.{verify_ending}
+use Rattle.commands_store.specs.Verifying.{LookEnds, verify_ending}
 use Rattle.commands_store.specs.declared.verdicts.Verdict.{Verdict}
 use Rattle.commands_store.specs.declared.verdicts.Verdict.TheVariants.{Accepted, TipDiffers}
+use Rattle.commands_store.specs.declared.verifying.VerifyFault.{VerifyFault}
+use Rattle.commands_store.specs.declared.verifying.VerifyFault.TheVariants.{Unopened, Logged, LogBroken, KeeperFailed, SinkFailed, Memory}
 
 pub verdict_quiet : (verdict : Verdict) → part_of (verify_ending (Ok verdict)) ≡ None
 verdict_quiet (Accepted count) = refl
@@ -44,3 +53,29 @@ module _ {R : Type 0} (keeper_of : keeper.Ghosts R) (left left_now : Option (Lis
   pub still_open : (stdin : Bool) → Opens stdin keeper_of left left_now old mid → Opens stdin keeper_of left left_now old new
   still_open stdin (inl took) = inl (took.0, still_taken took.1)
   still_open stdin (inr unread) = inr (unread.0, unread.1, still_same unread.2)
+
+  -- what judging comes to in a store that was opened
+  pub looked : (name : List ℕ) (stdin : Bool) (outcome : Result Verdict VerifyFault) → Opens stdin keeper_of left left_now old mid → Judges name (keeper_of.content new) outcome
+      → LookEnds name stdin keeper_of left left_now old new outcome
+  looked name stdin (Ok verdict) opens judges = record { opens = still_open stdin opens; is = judges }
+  looked name stdin (Err (Unopened fault)) opens judges = absurd judges
+  looked name stdin (Err Logged) opens judges = record { opens = still_open stdin opens; log = judges }
+  looked name stdin (Err (LogBroken id)) opens judges = record { opens = still_open stdin opens; breaks = judges }
+  looked name stdin (Err KeeperFailed) opens judges = still_open stdin opens
+  looked name stdin (Err SinkFailed) opens judges = absurd judges
+  looked name stdin (Err Memory) opens judges = still_open stdin opens
+
+-- what it counts
+pub judge_counted : (name : List ℕ) (held : Option Repository) (f : Faults) (now : ℕ) (outcome : Result Verdict VerifyFault) → Judges name held outcome → HasCause judge_failed f.keeper now outcome
+    → IsCounted (verify_ending outcome) f (record f { keeper = now })
+judge_counted name held f now (Ok verdict) judges cause = keeper_quiet (verify_ending (Ok verdict)) f now (verdict_quiet verdict) cause.later cause.is
+judge_counted name held f now (Err (Unopened fault)) judges cause = absurd judges
+judge_counted name held f now (Err Logged) judges cause = keeper_quiet (ending.Refused refusal.NotBuiltLog) f now refl cause.later cause.is
+judge_counted name held f now (Err (LogBroken id)) judges cause = keeper_quiet ending.Broken f now refl cause.later cause.is
+judge_counted name held f now (Err KeeperFailed) judges cause = keeper_failed f now cause.later cause.is
+judge_counted name held f now (Err SinkFailed) judges cause = absurd judges
+judge_counted name held f now (Err Memory) judges cause = keeper_quiet (ending.Refused refusal.Memory) f now refl cause.later cause.is
+
+-- an outcome that is another's
+pub counted_by : (looked outcome : Result Verdict VerifyFault) (before after : Faults) → looked ≡ outcome → IsCounted (verify_ending looked) before after → IsCounted (verify_ending outcome) before after
+counted_by looked outcome before after same counted = subst (λ (o : Result Verdict VerifyFault). IsCounted (verify_ending o) before after) same counted

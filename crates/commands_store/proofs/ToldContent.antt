@@ -6,7 +6,6 @@ use Rattle.octets.specs.Content.{with_front}
 use Rattle.edge_io.specs.Read.{IsAtEnd}
 use Rattle.git_object.specs.Repository.{Repository, empty_repository}
 use Rattle.keeper_api.specs.declared.keepers.Keeper as keeper
-use Rattle.clone_stream.specs.Exporting.{IsDamagedAt, PassesFirst}
 use Rattle.clone_stream.specs.Streams.{IsStreamText}
 use Rattle.clone_stream.specs.Taking.{TakesInto, WasRead}
 use Rattle.clone_stream.specs.declared.export_faults.ExportFault.{ExportFault}
@@ -80,6 +79,7 @@ module _ {R : Type 0} (keeper_of : keeper.Ghosts R) (bytes : List ℕ) (left_now
       | inr stops ↦ inr stops
     ]
     verify_told name stdin (Err verify.Logged) ends = inl (record { repository = now; opened = told_opened stdin ends.why.opens; log = ends.why.log now holds })
+    verify_told name stdin (Err (verify.LogBroken id)) ends = inl (record { repository = now; opened = told_opened stdin ends.finds.opens; breaks = ends.finds.breaks now holds })
     verify_told name stdin (Err verify.KeeperFailed) ends = inr tt
     verify_told name stdin (Err verify.SinkFailed) ends = inr tt
     verify_told name stdin (Err verify.Memory) ends = inr tt

@@ -8,7 +8,8 @@ use Rattle.clone_stream.specs.Streams.{IsStreamText, largest_stream}
 use Rattle.clone_stream.specs.declared.export_faults.ExportFault.{ExportFault}
 use Rattle.clone_stream.specs.declared.export_faults.ExportFault.TheVariants as export
 use Rattle.clone_stream.specs.declared.stream_faults.StreamFault.{StreamFault}
-use Rattle.commands_store.specs.Verdicts.{HasLog, IsVerdict}
+use Rattle.rsl_chain.specs.Logs.{IsBreakOf}
+use Rattle.commands_store.specs.Verdicts.{HasChain, IsVerdict}
 use Rattle.commands_store.specs.declared.importing.ImportFault.{ImportFault}
 use Rattle.commands_store.specs.declared.importing.ImportFault.TheVariants as import
 use Rattle.commands_store.specs.declared.taking.TakeFault.{TakeFault}
@@ -51,17 +52,24 @@ pub record IsJudged (name : List ℕ) (stdin : Bool) (was : Repository) (bytes :
   pub opened : IsOpened stdin was bytes repository
   pub judged : IsVerdict repository name verdict
 
--- a repository is opened, and has a log
+-- a repository is opened, and has a log, which is one chain
 pub record IsLogged (stdin : Bool) (was : Repository) (bytes : List ℕ) : Type 0 where
   pub repository : Repository
   pub opened : IsOpened stdin was bytes repository
-  pub log : HasLog repository
+  pub log : HasChain repository
+
+-- a repository is opened, and its log breaks at this id
+pub record IsBrokenLog (stdin : Bool) (was : Repository) (bytes : List ℕ) (id : List ℕ) : Type 0 where
+  pub repository : Repository
+  pub opened : IsOpened stdin was bytes repository
+  pub breaks : IsBreakOf repository id
 
 -- what `verify-ref` comes to
 abbrev pub VerifyComes : List ℕ → Bool → Repository → List ℕ → Result Verdict VerifyFault → Type 0
 VerifyComes name stdin was bytes (Ok verdict) = IsJudged name stdin was bytes verdict
 VerifyComes name stdin was bytes (Err (verify.Unopened fault)) = IsTrue stdin × TakeComes was bytes fault
 VerifyComes name stdin was bytes (Err verify.Logged) = IsLogged stdin was bytes
+VerifyComes name stdin was bytes (Err (verify.LogBroken id)) = IsBrokenLog stdin was bytes id
 VerifyComes name stdin was bytes (Err verify.KeeperFailed) = ⊥
 VerifyComes name stdin was bytes (Err verify.SinkFailed) = ⊥
 VerifyComes name stdin was bytes (Err verify.Memory) = ⊥

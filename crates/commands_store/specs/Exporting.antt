@@ -1,5 +1,5 @@
 -- What each outcome of `export` means.
-use Rattle.std.specs.Prelude.{◌≡◌, ℕ, List, Option, Result, Ok, Err}
+use Rattle.std.specs.Prelude.{ℕ, List, Option, Result, Ok, Err}
 use Rattle.git_object.specs.Repository.{Repository}
 use Rattle.clone_stream.specs.Exporting.{Exports, RefusesExport}
 use Rattle.clone_stream.specs.declared.export_faults.ExportFault.{ExportFault}

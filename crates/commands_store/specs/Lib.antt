@@ -1,5 +1,6 @@
 pub mod Taking
 pub mod Verdicts
+pub mod Judging
 pub mod Verifying
 pub mod Importing
 pub mod Exporting

@@ -5,12 +5,19 @@ use Rattle.hex.specs.Hex.{encode_lower}
 use Rattle.git_object.specs.Ids.{zeros}
 use Rattle.git_object.specs.Names.{log_name}
 use Rattle.git_object.specs.Repository.{Repository, value_of}
+use Rattle.rsl_chain.specs.Logs.{IsLogOf}
 use Rattle.commands_store.specs.declared.verdicts.Verdict.{Verdict}
 use Rattle.commands_store.specs.declared.verdicts.Verdict.TheVariants.{Accepted, TipDiffers}
 
 -- the log's reference is there, whatever its value
 abbrev pub HasLog : Repository → Type 0
 HasLog r = IsSome (get r.refs log_name)
+
+-- the log's reference is there, and the log is one chain
+pub record HasChain (r : Repository) : Type 0 where
+  pub there : HasLog r
+  pub ids : List (List ℕ)
+  pub log : IsLogOf r ids
 
 -- the verdict on a reference that stands at this value, and of which no entry of a log speaks
 abbrev pub IsVerdictOn : List ℕ → Verdict → Type 0

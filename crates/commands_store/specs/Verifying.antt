@@ -1,18 +1,20 @@
 -- What each outcome of `verify-ref` means.
-use Rattle.std.specs.Prelude.{◌≡◌, ℕ, List, Option, Some, Result, Ok, Err, Bool, IsTrue}
+use Rattle.std.specs.Prelude.{◌≡◌, ◌⊎◌, ℕ, List, Option, Some, Result, Ok, Err, Bool, IsTrue}
 use Rattle.octets.specs.Content.{GainsPart, with_end}
 use Rattle.git_object.specs.Repository.{Repository}
 use Rattle.keeper_api.specs.declared.keepers.Keeper as keeper
+use Rattle.rsl_chain.specs.Logs.{IsBreakOf}
+use Rattle.commands_history.specs.Lines.{break_line}
 use Rattle.endings.specs.declared.ending.Ending.{Ending}
-use Rattle.endings.specs.declared.ending.Ending.TheVariants.{Done, Differs, Refused}
+use Rattle.endings.specs.declared.ending.Ending.TheVariants.{Done, Differs, Broken, Refused}
 use Rattle.endings.specs.declared.ending.Part.TheVariants as part
 use Rattle.endings.specs.declared.ending.Refusal.TheVariants as refusal
 use Rattle.commands_store.specs.Taking.{DeclinesTaking, Opens, take_refusal}
-use Rattle.commands_store.specs.Verdicts.{HasLog, IsVerdict, line}
+use Rattle.commands_store.specs.Verdicts.{HasChain, IsVerdict, line}
 use Rattle.commands_store.specs.declared.verdicts.Verdict.{Verdict}
 use Rattle.commands_store.specs.declared.verdicts.Verdict.TheVariants.{Accepted, TipDiffers}
 use Rattle.commands_store.specs.declared.verifying.VerifyFault.{VerifyFault}
-use Rattle.commands_store.specs.declared.verifying.VerifyFault.TheVariants.{Unopened, Logged, KeeperFailed, SinkFailed, Memory}
+use Rattle.commands_store.specs.declared.verifying.VerifyFault.TheVariants.{Unopened, Logged, LogBroken, KeeperFailed, SinkFailed, Memory}
 
 -- how the program ends
 abbrev pub verify_ending : Result Verdict VerifyFault → Ending
@@ -20,6 +22,7 @@ verify_ending (Ok (Accepted count)) = Done
 verify_ending (Ok (TipDiffers kept recorded)) = Differs
 verify_ending (Err (Unopened fault)) = Refused (take_refusal fault)
 verify_ending (Err Logged) = Refused refusal.NotBuiltLog
+verify_ending (Err (LogBroken id)) = Broken
 verify_ending (Err KeeperFailed) = Refused (refusal.Fault part.Keeper)
 verify_ending (Err SinkFailed) = Refused (refusal.Fault part.Sink)
 verify_ending (Err Memory) = Refused refusal.Memory
@@ -30,16 +33,22 @@ module _ (name : List ℕ) (stdin : Bool) {R : Type 0} (keeper_of : keeper.Ghost
     pub opens : Opens stdin keeper_of left left_now old new
     pub is : (r : Repository) → keeper_of.content new ≡ Some r → IsVerdict r name verdict
 
-  -- the repository is open, and has a log
+  -- the repository is open, and has a log, which is one chain
   pub record FindsLog : Type 0 where
     pub opens : Opens stdin keeper_of left left_now old new
-    pub log : (r : Repository) → keeper_of.content new ≡ Some r → HasLog r
+    pub log : (r : Repository) → keeper_of.content new ≡ Some r → HasChain r
+
+  -- the repository is open, and its log breaks at this id
+  pub record FindsBreak (id : List ℕ) : Type 0 where
+    pub opens : Opens stdin keeper_of left left_now old new
+    pub breaks : (r : Repository) → keeper_of.content new ≡ Some r → IsBreakOf r id
 
   -- what looking for the verdict comes to, before anything is printed
   abbrev pub LookEnds : Result Verdict VerifyFault → Type 0
   LookEnds (Ok verdict) = FindsVerdict verdict
   LookEnds (Err (Unopened fault)) = IsTrue stdin × DeclinesTaking keeper_of left left_now old new fault
   LookEnds (Err Logged) = FindsLog
+  LookEnds (Err (LogBroken id)) = FindsBreak id
   LookEnds (Err KeeperFailed) = Opens stdin keeper_of left left_now old new
   LookEnds (Err SinkFailed) = ⊥
   LookEnds (Err Memory) = Opens stdin keeper_of left left_now old new
@@ -56,6 +65,17 @@ module _ (name : List ℕ) (stdin : Bool) {R : Type 0} (keeper_of : keeper.Ghost
       pub finds : FindsVerdict verdict
       pub part : GainsPart printed printed_now (line name verdict)
 
+    -- a break was found, and exactly the line that tells it was printed
+    pub record AnswersBreak (id : List ℕ) : Type 0 where
+      pub finds : FindsBreak id
+      pub printed_is : printed_now ≡ with_end printed (break_line id)
+
+    -- a break was found, and a front of its line was printed, and not all
+    pub record AnswersBreakPart : Type 0 where
+      pub id : List ℕ
+      pub finds : FindsBreak id
+      pub part : GainsPart printed printed_now (break_line id)
+
     -- there is no verdict, and nothing was printed
     pub record AnswersNothing (fault : VerifyFault) : Type 0 where
       pub why : LookEnds (Err fault)
@@ -65,6 +85,7 @@ module _ (name : List ℕ) (stdin : Bool) {R : Type 0} (keeper_of : keeper.Ghost
     VerifyEnds (Ok verdict) = AnswersVerdict verdict
     VerifyEnds (Err (Unopened fault)) = AnswersNothing (Unopened fault)
     VerifyEnds (Err Logged) = AnswersNothing Logged
+    VerifyEnds (Err (LogBroken id)) = AnswersBreak id
     VerifyEnds (Err KeeperFailed) = AnswersNothing KeeperFailed
-    VerifyEnds (Err SinkFailed) = AnswersPart
+    VerifyEnds (Err SinkFailed) = AnswersPart ⊎ AnswersBreakPart
     VerifyEnds (Err Memory) = AnswersNothing Memory

@@ -4,6 +4,7 @@ ghost use Rattle.commands_store.specs.Laws.{OneOfStore, TellsOfStore};
 
 use clone_stream::laws::{one_export, one_refusal, one_spelling};
 use keeper_api::Keeper;
+use rsl_chain::laws::logs;
 
 /// Each command comes to one outcome at most for the same words and content.
 pub fn one_of_store()
@@ -12,6 +13,7 @@ pub fn one_of_store()
     one_spelling();
     one_refusal();
     one_export();
+    logs();
 }
 
 /// Where source and store tell their content, what ended is what the command comes to, unless it stopped for a

@@ -1,9 +1,10 @@
 //! The commands that read or fill the store: `verify-ref`, `export` and `import`.
 //!
-//! This crate stands on `clone_stream`, `keeper_api`, `edge_io`, `endings` and `git_object`. Each command is a
-//! function over exactly the objects that it needs, with outcomes of its own. A crate above may rely on each
-//! outcome's meaning, which stands as one table a command in `specs/`, on the counts of faults that its ending
-//! says, and on `laws`: where the objects tell their content, a command comes to one outcome at most.
+//! This crate stands on `clone_stream`, `keeper_api`, `edge_io`, `endings` and `git_object`, on `rsl_chain` for the
+//! log and on `commands_history` for the line of its break. Each command is a function over exactly the objects that
+//! it needs, with outcomes of its own. A crate above may rely on each outcome's meaning, which stands as one table a
+//! command in `specs/`, on the counts of faults that its ending says, and on `laws`: where the objects tell their
+//! content, a command comes to one outcome at most.
 
 #![tactic(auto)]
 

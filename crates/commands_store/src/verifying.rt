@@ -1,6 +1,6 @@
 //! The command `verify-ref`.
 
-ghost use Rattle.std.specs.Prelude.{◌≡◌, ◌≤◌, false};
+ghost use Rattle.std.specs.Prelude.{◌≡◌, ◌≤◌, ◌+◌, OnOk, false};
 ghost use Rattle.endings.specs.Counts.{Faults, IsCounted};
 ghost use Rattle.commands_store.specs.Verifying.{LookEnds, VerifyEnds, verify_ending};
 
@@ -8,10 +8,11 @@ use crate::judging::judge;
 use crate::opening::open;
 use crate::taking::{TakeFault, take_refusal};
 use crate::verdicts::{Verdict, line_of};
+use commands_history::print_break;
 use edge_io::{Failed, Sink, Source, write_all};
 use endings::{Ending, Part, Refusal};
-use git_object::RefName;
-use keeper_api::{Keeper, KeeperFault};
+use git_object::{ObjectId, RefName};
+use keeper_api::Keeper;
 use std::alloc::Global;
 
 /// Why there is no verdict.
@@ -19,8 +20,10 @@ use std::alloc::Global;
 pub enum VerifyFault {
     /// A stream was to be judged, and none was taken.
     Unopened { fault: TakeFault },
-    /// The repository has a log, which is not read yet.
+    /// The repository has a log, by which nothing is judged yet.
     Logged,
+    /// The log breaks at the commit of this id, and the line that says so was printed.
+    LogBroken { id: ObjectId },
     KeeperFailed,
     SinkFailed,
     Memory,
@@ -44,6 +47,7 @@ pub fn verify_ending(outcome: &Result<Verdict, VerifyFault>) -> Ending
         Err(VerifyFault::Logged) => Ending::Refused {
             refusal: Refusal::NotBuiltLog,
         },
+        Err(VerifyFault::LogBroken { id: _ }) => Ending::Broken,
         Err(VerifyFault::KeeperFailed) => Ending::Refused {
             refusal: Refusal::Fault { part: Part::Keeper },
         },
@@ -69,22 +73,19 @@ fn look<S: Source, R: Keeper>(
     ensures counted { (rest : Faults) → IsCounted (verify_ending result)
         (record rest { source = S.faults source.old; keeper = R.faults keeper.old })
         (record rest { source = S.faults source.new; keeper = R.faults keeper.new }) }
-    ensures reads { R.reads keeper.new ≡ R.reads keeper.old }
+    ensures reads { OnOk result (R.reads keeper.new ≡ R.reads keeper.old) }
+    ensures most { R.reads keeper.new ≤ R.reads keeper.old + 1000000 }
 {
     match open(alloc, stdin, source, keeper) {
         Ok(()) => {}
         Err(fault) => return Err(VerifyFault::Unopened { fault }),
     }
-    match judge(alloc, keeper, name) {
-        Ok(Some(verdict)) => Ok(verdict),
-        Ok(None) => Err(VerifyFault::Logged),
-        Err(KeeperFault::Failed) => Err(VerifyFault::KeeperFailed),
-        Err(KeeperFault::Memory) => Err(VerifyFault::Memory),
-    }
+    judge(alloc, keeper, name)
 }
 
 /// Opens the repository - the source's stream where `stdin` asks for it, else what the store holds -, judges the
-/// reference, and prints the verdict's line. Where no stream is asked for, the source is not touched.
+/// reference, and prints the verdict's line, or the line that says at which commit the log breaks. Where no stream is
+/// asked for, the source is not touched. No object is read for a verdict, and at most a million for a log.
 pub fn verify_ref<S: Source, K: Sink, R: Keeper>(
     alloc: Global,
     name: &RefName,
@@ -98,17 +99,29 @@ pub fn verify_ref<S: Source, K: Sink, R: Keeper>(
     ensures counted { (rest : Faults) → IsCounted (verify_ending result)
         (record rest { source = S.faults source.old; sink = K.faults sink.old; keeper = R.faults keeper.old })
         (record rest { source = S.faults source.new; sink = K.faults sink.new; keeper = R.faults keeper.new }) }
-    ensures reads { R.reads keeper.new ≡ R.reads keeper.old }
+    ensures reads { OnOk result (R.reads keeper.new ≡ R.reads keeper.old) }
+    ensures most { R.reads keeper.new ≤ R.reads keeper.old + 1000000 }
 {
-    let verdict = match look(alloc, name, stdin, source, keeper) {
+    let looked = look(alloc, name, stdin, source, keeper);
+    let verdict = match &looked {
         Ok(verdict) => verdict,
-        Err(fault) => return Err(fault),
+        Err(VerifyFault::Unopened { fault }) => {
+            return Err(VerifyFault::Unopened { fault: *fault });
+        }
+        Err(VerifyFault::Logged) => return Err(VerifyFault::Logged),
+        Err(VerifyFault::LogBroken { id }) => match print_break(sink, id) {
+            Ok(()) => return Err(VerifyFault::LogBroken { id: *id }),
+            Err(Failed) => return Err(VerifyFault::SinkFailed),
+        },
+        Err(VerifyFault::KeeperFailed) => return Err(VerifyFault::KeeperFailed),
+        Err(VerifyFault::SinkFailed) => return Err(VerifyFault::SinkFailed),
+        Err(VerifyFault::Memory) => return Err(VerifyFault::Memory),
     };
-    let Ok(line) = line_of(alloc, name, &verdict) else {
+    let Ok(line) = line_of(alloc, name, verdict) else {
         return Err(VerifyFault::Memory);
     };
     match write_all(sink, line.as_slice()) {
-        Ok(()) => Ok(verdict),
+        Ok(()) => Ok(*verdict),
         Err(Failed) => Err(VerifyFault::SinkFailed),
     }
 }

@@ -11,7 +11,14 @@ use Rattle.endings.specs.declared.ending.Part.TheVariants as part
 use Rattle.endings.specs.declared.ending.Refusal.TheVariants as refusal
 
 later_still : {b m a : Faults} → NoneFalls b m → NoneFalls m a → NoneFalls b a
-later_still first next = record { source = le_trans first.source next.source; sink = le_trans first.sink next.sink; keeper = le_trans first.keeper next.keeper }
+later_still first next = record {
+  source = le_trans first.source next.source;
+  sink = le_trans first.sink next.sink;
+  keeper = le_trans first.keeper next.keeper;
+  disk = le_trans first.disk next.disk;
+  entropy = le_trans first.entropy next.entropy;
+  clock = le_trans first.clock next.clock;
+}
 
 -- a step, after steps that counted none
 pub after : {b m a : Faults} (first next : Ending) → part_of first ≡ None → IsCounted first b m → IsCounted next m a → IsCounted next b a
@@ -30,31 +37,70 @@ as_ended before now told ending same counted = subst (λ (e : Ending). IsCounted
 pub quiet : (ending : Ending) (f : Faults) → part_of ending ≡ None → IsCounted ending f f
 quiet ending f none = record {
   is = ap (λ (p : _). with_fault p f) (sym none);
-  later = record { source = le_refl f.source; sink = le_refl f.sink; keeper = le_refl f.keeper };
+  later = record { source = le_refl f.source; sink = le_refl f.sink; keeper = le_refl f.keeper; disk = le_refl f.disk; entropy = le_refl f.entropy; clock = le_refl f.clock };
 }
 
 -- a step of the sink
 pub sink_quiet : (ending : Ending) (f : Faults) (now : ℕ) → part_of ending ≡ None → f.sink ≤ now → now ≡ f.sink → IsCounted ending f (record f { sink = now })
 sink_quiet ending f now none later same = record {
   is = (λ i. record f { sink = same i }) ∙ ap (λ (p : _). with_fault p f) (sym none);
-  later = record { source = le_refl f.source; sink = later; keeper = le_refl f.keeper };
+  later = record { source = le_refl f.source; sink = later; keeper = le_refl f.keeper; disk = le_refl f.disk; entropy = le_refl f.entropy; clock = le_refl f.clock };
 }
 
 pub sink_failed : (f : Faults) (now : ℕ) → f.sink ≤ now → now ≡ one_more f.sink → IsCounted (Refused (refusal.Fault part.Sink)) f (record f { sink = now })
 sink_failed f now later more = record {
   is = λ i. record f { sink = more i };
-  later = record { source = le_refl f.source; sink = later; keeper = le_refl f.keeper };
+  later = record { source = le_refl f.source; sink = later; keeper = le_refl f.keeper; disk = le_refl f.disk; entropy = le_refl f.entropy; clock = le_refl f.clock };
 }
 
 -- a step of the keeper
 pub keeper_quiet : (ending : Ending) (f : Faults) (now : ℕ) → part_of ending ≡ None → f.keeper ≤ now → now ≡ f.keeper → IsCounted ending f (record f { keeper = now })
 keeper_quiet ending f now none later same = record {
   is = (λ i. record f { keeper = same i }) ∙ ap (λ (p : _). with_fault p f) (sym none);
-  later = record { source = le_refl f.source; sink = le_refl f.sink; keeper = later };
+  later = record { source = le_refl f.source; sink = le_refl f.sink; keeper = later; disk = le_refl f.disk; entropy = le_refl f.entropy; clock = le_refl f.clock };
 }
 
 pub keeper_failed : (f : Faults) (now : ℕ) → f.keeper ≤ now → now ≡ one_more f.keeper → IsCounted (Refused (refusal.Fault part.Keeper)) f (record f { keeper = now })
 keeper_failed f now later more = record {
   is = λ i. record f { keeper = more i };
-  later = record { source = le_refl f.source; sink = le_refl f.sink; keeper = later };
+  later = record { source = le_refl f.source; sink = le_refl f.sink; keeper = later; disk = le_refl f.disk; entropy = le_refl f.entropy; clock = le_refl f.clock };
+}
+
+-- a step of the disk
+pub disk_quiet : (ending : Ending) (f : Faults) (now : ℕ) → part_of ending ≡ None → f.disk ≤ now → now ≡ f.disk → IsCounted ending f (record f { disk = now })
+disk_quiet ending f now none later same = record {
+  is = (λ i. record f { disk = same i }) ∙ ap (λ (p : _). with_fault p f) (sym none);
+  later = record { source = le_refl f.source; sink = le_refl f.sink; keeper = le_refl f.keeper; disk = later; entropy = le_refl f.entropy; clock = le_refl f.clock };
+}
+
+pub disk_failed : (f : Faults) (now : ℕ) → f.disk ≤ now → now ≡ one_more f.disk → IsCounted (Refused (refusal.Fault part.Disk)) f (record f { disk = now })
+disk_failed f now later more = record {
+  is = λ i. record f { disk = more i };
+  later = record { source = le_refl f.source; sink = le_refl f.sink; keeper = le_refl f.keeper; disk = later; entropy = le_refl f.entropy; clock = le_refl f.clock };
+}
+
+-- a step of the entropy
+pub entropy_quiet : (ending : Ending) (f : Faults) (now : ℕ) → part_of ending ≡ None → f.entropy ≤ now → now ≡ f.entropy → IsCounted ending f (record f { entropy = now })
+entropy_quiet ending f now none later same = record {
+  is = (λ i. record f { entropy = same i }) ∙ ap (λ (p : _). with_fault p f) (sym none);
+  later = record { source = le_refl f.source; sink = le_refl f.sink; keeper = le_refl f.keeper; disk = le_refl f.disk; entropy = later; clock = le_refl f.clock };
+}
+
+pub entropy_failed : (f : Faults) (now : ℕ) → f.entropy ≤ now → now ≡ one_more f.entropy → IsCounted (Refused (refusal.Fault part.Entropy)) f (record f { entropy = now })
+entropy_failed f now later more = record {
+  is = λ i. record f { entropy = more i };
+  later = record { source = le_refl f.source; sink = le_refl f.sink; keeper = le_refl f.keeper; disk = le_refl f.disk; entropy = later; clock = le_refl f.clock };
+}
+
+-- a step of the clock
+pub clock_quiet : (ending : Ending) (f : Faults) (now : ℕ) → part_of ending ≡ None → f.clock ≤ now → now ≡ f.clock → IsCounted ending f (record f { clock = now })
+clock_quiet ending f now none later same = record {
+  is = (λ i. record f { clock = same i }) ∙ ap (λ (p : _). with_fault p f) (sym none);
+  later = record { source = le_refl f.source; sink = le_refl f.sink; keeper = le_refl f.keeper; disk = le_refl f.disk; entropy = le_refl f.entropy; clock = later };
+}
+
+pub clock_failed : (f : Faults) (now : ℕ) → f.clock ≤ now → now ≡ one_more f.clock → IsCounted (Refused (refusal.Fault part.Clock)) f (record f { clock = now })
+clock_failed f now later more = record {
+  is = λ i. record f { clock = more i };
+  later = record { source = le_refl f.source; sink = le_refl f.sink; keeper = le_refl f.keeper; disk = le_refl f.disk; entropy = le_refl f.entropy; clock = later };
 }

@@ -11,12 +11,18 @@ pub record Faults : Type 0 where
   pub source : ℕ
   pub sink : ℕ
   pub keeper : ℕ
+  pub disk : ℕ
+  pub entropy : ℕ
+  pub clock : ℕ
 
 -- one fault more of this object, and of no other
 abbrev pub with_fault_of : Part → Faults → Faults
 with_fault_of part.Source f = record f { source = one_more f.source }
 with_fault_of part.Sink f = record f { sink = one_more f.sink }
 with_fault_of part.Keeper f = record f { keeper = one_more f.keeper }
+with_fault_of part.Disk f = record f { disk = one_more f.disk }
+with_fault_of part.Entropy f = record f { entropy = one_more f.entropy }
+with_fault_of part.Clock f = record f { clock = one_more f.clock }
 
 -- one fault more of the object that failed, if one did
 abbrev pub with_fault : Option Part → Faults → Faults
@@ -28,6 +34,9 @@ pub record NoneFalls (before after : Faults) : Type 0 where
   pub source : before.source ≤ after.source
   pub sink : before.sink ≤ after.sink
   pub keeper : before.keeper ≤ after.keeper
+  pub disk : before.disk ≤ after.disk
+  pub entropy : before.entropy ≤ after.entropy
+  pub clock : before.clock ≤ after.clock
 
 -- the object that failed counted one fault, and no other object any
 pub record IsCounted (ending : Ending) (before after : Faults) : Type 0 where

@@ -2,10 +2,10 @@
 use Rattle.std.specs.Prelude.{◌++◌, ℕ, List, Option, Some, None, codes, decimal}
 use Rattle.hex.specs.Hex.{encode_lower}
 use Rattle.endings.specs.declared.ending.Ending.{Ending}
-use Rattle.endings.specs.declared.ending.Ending.TheVariants.{Done, Differs, Refused}
+use Rattle.endings.specs.declared.ending.Ending.TheVariants.{Done, Differs, Broken, Refused}
 use Rattle.endings.specs.declared.ending.Part.{Part}
 use Rattle.endings.specs.declared.ending.Refusal.{Refusal}
-use Rattle.endings.specs.declared.ending.Refusal.TheVariants.{Words, Stream, NotBuiltLog, Object, TooLarge, Fault, Memory}
+use Rattle.endings.specs.declared.ending.Refusal.TheVariants.{Words, Stream, NotBuiltLog, Object, TooLarge, NotEmpty, KeyFile, Fault, Memory, Exhausted}
 
 -- the status of a refusal
 abbrev pub refusal_status : Refusal → ℕ
@@ -14,13 +14,17 @@ refusal_status (Stream number) = 3
 refusal_status NotBuiltLog = 3
 refusal_status (Object id) = 3
 refusal_status TooLarge = 3
+refusal_status NotEmpty = 3
+refusal_status KeyFile = 3
 refusal_status (Fault part) = 4
 refusal_status Memory = 5
+refusal_status Exhausted = 6
 
 -- the status of the program
 abbrev pub status_of : Ending → ℕ
 status_of Done = 0
 status_of Differs = 1
+status_of Broken = 3
 status_of (Refused refusal) = refusal_status refusal
 
 -- the line that tells a refusal
@@ -30,8 +34,11 @@ refusal_line (Stream number) = codes "stream " ++ decimal number ++ codes "\n"
 refusal_line NotBuiltLog = codes "not built log\n"
 refusal_line (Object id) = codes "object " ++ encode_lower id ++ codes "\n"
 refusal_line TooLarge = codes "too large\n"
+refusal_line NotEmpty = codes "not empty\n"
+refusal_line KeyFile = codes "key file\n"
 refusal_line (Fault part) = codes "fault\n"
 refusal_line Memory = codes "memory\n"
+refusal_line Exhausted = codes "exhausted\n"
 
 -- the object that failed
 abbrev pub part_in : Refusal → Option Part
@@ -40,12 +47,16 @@ part_in (Stream number) = None
 part_in NotBuiltLog = None
 part_in (Object id) = None
 part_in TooLarge = None
+part_in NotEmpty = None
+part_in KeyFile = None
 part_in (Fault part) = Some part
 part_in Memory = None
+part_in Exhausted = None
 
 abbrev pub part_of : Ending → Option Part
 part_of Done = None
 part_of Differs = None
+part_of Broken = None
 part_of (Refused refusal) = part_in refusal
 
 -- the command stopped: an object failed, or memory was wanting
@@ -55,10 +66,14 @@ IsStop (Stream number) = ⊥
 IsStop NotBuiltLog = ⊥
 IsStop (Object id) = ⊥
 IsStop TooLarge = ⊥
+IsStop NotEmpty = ⊥
+IsStop KeyFile = ⊥
 IsStop (Fault part) = Unit {0}
 IsStop Memory = Unit {0}
+IsStop Exhausted = ⊥
 
 abbrev pub IsStopped : Ending → Type 0
 IsStopped Done = ⊥
 IsStopped Differs = ⊥
+IsStopped Broken = ⊥
 IsStopped (Refused refusal) = IsStop refusal

@@ -11,9 +11,12 @@ pub enum Part {
     Source,
     Sink,
     Keeper,
+    Disk,
+    Entropy,
+    Clock,
 }
 
-/// Why a command is refused, in the order of its statuses: one variant for each line that the program can say.
+/// Why a command is refused, in the order of its statuses: one variant for each line that the program can say there.
 #[derive(Clone, Copy, Debug, PartialEq, Eq)]
 pub enum Refusal {
     /// The words are outside the grammar.
@@ -24,11 +27,17 @@ pub enum Refusal {
     NotBuiltLog,
     /// What is kept under this id is not its object.
     Object { id: ObjectId },
-    /// The stream of the repository is longer than a stream may be.
+    /// The stream of the repository is longer than a stream may be, or its log has as many entries as a log may.
     TooLarge,
+    /// The disk holds something already.
+    NotEmpty,
+    /// The disk holds no key file.
+    KeyFile,
     /// This object outside failed.
     Fault { part: Part },
     Memory,
+    /// Each leaf of the key file is used.
+    Exhausted,
 }
 
 /// How a command ends.
@@ -38,6 +47,8 @@ pub enum Ending {
     Done,
     /// The answer was given, and it says no.
     Differs,
+    /// The log is broken, and the line that says so was printed in place of an answer.
+    Broken,
     /// There is no answer.
     Refused { refusal: Refusal },
 }
@@ -46,7 +57,7 @@ impl Refusal {
     /// The status with which the program then ends.
     pub fn status(&self) -> u8
         ensures status { result ≡ refusal_status self.now }
-        ensures bound { result ≤ 5 }
+        ensures bound { result ≤ 6 }
     {
         match self {
             Refusal::Words => 2,
@@ -54,22 +65,26 @@ impl Refusal {
             Refusal::NotBuiltLog => 3,
             Refusal::Object { id: _ } => 3,
             Refusal::TooLarge => 3,
+            Refusal::NotEmpty => 3,
+            Refusal::KeyFile => 3,
             Refusal::Fault { part: _ } => 4,
             Refusal::Memory => 5,
+            Refusal::Exhausted => 6,
         }
     }
 }
 
 impl Ending {
-    /// The status with which the program ends: 0 where the answer was given, 1 where it says no, and that of the
-    /// refusal where there is none.
+    /// The status with which the program ends: 0 where the answer was given, 1 where it says no, 3 where the log is
+    /// broken, and that of the refusal where there is none.
     pub fn status(&self) -> u8
         ensures status { result ≡ status_of self.now }
-        ensures bound { result ≤ 5 }
+        ensures bound { result ≤ 6 }
     {
         match self {
             Ending::Done => 0,
             Ending::Differs => 1,
+            Ending::Broken => 3,
             Ending::Refused { refusal } => refusal.status(),
         }
     }

@@ -103,8 +103,11 @@ impl Refusal {
             Refusal::NotBuiltLog => line_of(b"not built log", b""),
             Refusal::Object { id } => object_line(id),
             Refusal::TooLarge => line_of(b"too large", b""),
+            Refusal::NotEmpty => line_of(b"not empty", b""),
+            Refusal::KeyFile => line_of(b"key file", b""),
             Refusal::Fault { part: _ } => line_of(b"fault", b""),
             Refusal::Memory => line_of(b"memory", b""),
+            Refusal::Exhausted => line_of(b"exhausted", b""),
         }
     }
 }

@@ -1,20 +1,36 @@
 //! The program `gittuf <store> <key> <command>`: it makes the real objects and calls `gittuf_cli::run`.
 //!
-//! A store `-` is an empty one in memory, and a path that ends in `/` a folder; the key is `-`. The source is
-//! standard input, the answer goes to standard output and a refusal to standard error.
+//! A store `-` is an empty one in memory, and a path that ends in `/` a folder. A key `-` is an empty key file in
+//! memory, and any other word the path of one, which is opened only for a command that uses it, and made where
+//! nothing stands there. The source is standard input, the answer goes to standard output and a refusal to standard
+//! error.
 
 #![tactic(auto)]
 
-use command_words::{Command, Store, WordsFault, after_places, read_command};
-use edge_io::{StdSink, StdSource, write_all};
+mod hints;
+mod needs;
+
+use crate::hints::{hint_at_shared_key, hint_at_slow_key};
+use crate::needs::{Needs, needs_of};
+use command_words::{Key, Places, Store, after_places};
+use edge_clock::OsClock;
+use edge_disk::{Disk, FileDisk, MemDisk, OsEntropy};
+use edge_io::{Failed, StdSink, StdSource, write_all};
 use endings::{Part, Refusal};
 use gittuf_cli::{Outside, run};
 use keeper_api::{Keeper, MemKeeper};
 use keeper_directory::{DirKeeper, OpenFault};
+use octets::Octets;
 use std::env;
 use std::io::ErrorKind;
 use std::process::ExitCode;
 use std::rt::Env;
+
+// What a key file in memory has room for: the bytes of the largest key file and of its marks, and the calls of a
+// command.
+const KEY_BYTES: usize = 32_840;
+
+const KEY_CALLS: usize = 1_024;
 
 // The words after the program's name. A word that is not UTF-8 is refused like words outside the grammar.
 fn words_of<R: Env + AllocGlobal>(rt: &R) -> Result<Vec<String>, Refusal> {
@@ -43,32 +59,63 @@ fn refuse(rt: &HostRuntime, refusal: Refusal) -> u8 {
     refusal.status()
 }
 
-// Runs the command of the words over a keeper and the standard streams, and gives the keeper back.
-fn run_over<R: Keeper + Drop>(rt: &HostRuntime, command: &[String], keeper: R) -> (u8, R) {
+// Runs the command of the words over a store, a key file and the standard streams, and gives the store back.
+fn run_over<R: Keeper + Drop, D: Disk + Drop>(
+    rt: &HostRuntime,
+    command: &[String],
+    keeper: R,
+    disk: D,
+) -> (u8, R) {
     let mut outside = Outside {
         source: StdSource::new(rt.stdin()),
         sink: StdSink::new(rt.stdout()),
         faults_out: StdSink::new(rt.stderr()),
         keeper,
+        disk,
+        entropy: OsEntropy::new(rt),
+        clock: OsClock::new(rt),
     };
     let status = run(rt.alloc(), command, &mut outside);
     (status, outside.keeper)
 }
 
-// Whether the command of the words may change the store. A folder that is not there is made for such a one alone, so
-// that a wrong path is not taken for an empty store, and words outside the grammar make none.
-fn may_change(rt: &HostRuntime, command: &[String]) -> Result<bool, Refusal> {
-    match read_command(rt.alloc(), command) {
-        Ok(Command::Import) => Ok(true),
-        Ok(Command::VerifyRef { name: _, stdin }) => Ok(stdin),
-        Ok(Command::Export) => Ok(false),
-        Err(WordsFault::Outside) => Err(Refusal::Words),
-        Err(WordsFault::Memory) => Err(Refusal::Memory),
+// Runs the command over a store and the key file at a path.
+fn run_with_file<R: Keeper + Drop>(
+    rt: &HostRuntime,
+    path: &str,
+    command: &[String],
+    keeper: R,
+) -> (u8, R) {
+    match FileDisk::open(rt, path) {
+        Ok(disk) => {
+            hint_at_shared_key(rt, &disk);
+            run_over(rt, command, keeper, disk)
+        }
+        Err(Failed) => (refuse(rt, Refusal::Fault { part: Part::Disk }), keeper),
     }
 }
 
-fn open(rt: &HostRuntime, folder: &str, command: &[String]) -> Result<DirKeeper, Refusal> {
-    let opened = if may_change(rt, command)? {
+// Runs the command over a store and the key file that the words name.
+fn run_with_key<R: Keeper + Drop>(
+    rt: &HostRuntime,
+    places: Places,
+    needs: &Needs,
+    keeper: R,
+) -> (u8, R) {
+    hint_at_slow_key(rt, needs);
+    match places.key {
+        Key::File(path) if needs.key => run_with_file(rt, path, places.command, keeper),
+        _ => match MemDisk::new(Octets::new(rt.alloc()), KEY_BYTES, KEY_CALLS) {
+            Ok(disk) => run_over(rt, places.command, keeper, disk),
+            Err(_) => (refuse(rt, Refusal::Memory), keeper),
+        },
+    }
+}
+
+// The store in a folder. One that is not there is made for a command that may change the store alone, so that a wrong
+// path is not taken for an empty store.
+fn open(rt: &HostRuntime, folder: &str, needs: &Needs) -> Result<DirKeeper, Refusal> {
+    let opened = if needs.change {
         DirKeeper::to_change(rt, rt.alloc(), folder)
     } else {
         DirKeeper::to_read(rt, rt.alloc(), folder)
@@ -82,24 +129,30 @@ fn open(rt: &HostRuntime, folder: &str, command: &[String]) -> Result<DirKeeper,
 
 // Runs the command of the words over the store in a folder. Where the folder stays locked after an answer, that is a
 // fault; after a refusal its own status and line say enough.
-fn run_in(rt: &HostRuntime, folder: &str, command: &[String]) -> u8 {
-    let keeper = match open(rt, folder, command) {
+fn run_in(rt: &HostRuntime, folder: &str, places: Places, needs: &Needs) -> u8 {
+    let keeper = match open(rt, folder, needs) {
         Ok(keeper) => keeper,
         Err(refusal) => return refuse(rt, refusal),
     };
-    let (status, keeper) = run_over(rt, command, keeper);
+    let (status, keeper) = run_with_key(rt, places, needs, keeper);
     if keeper.end(rt.alloc()).is_err() && status < 2 {
         return refuse(rt, Refusal::Fault { part: Part::Keeper });
     }
     status
 }
 
-// Opens the store that the words name first, and runs the command of the words after them.
+// Opens what the words name first, and runs the command of the words after them.
 fn start(rt: &HostRuntime, words: &[String]) -> u8 {
-    match after_places(words) {
-        Some((Store::Memory, command)) => run_over(rt, command, MemKeeper::new(rt.alloc())).0,
-        Some((Store::Directory(folder), command)) => run_in(rt, folder, command),
-        None => refuse(rt, Refusal::Words),
+    let Some(places) = after_places(words) else {
+        return refuse(rt, Refusal::Words);
+    };
+    let needs = match needs_of(rt.alloc(), places.command) {
+        Ok(needs) => needs,
+        Err(refusal) => return refuse(rt, refusal),
+    };
+    match places.store {
+        Store::Memory => run_with_key(rt, places, &needs, MemKeeper::new(rt.alloc())).0,
+        Store::Directory(folder) => run_in(rt, folder, places, &needs),
     }
 }
 

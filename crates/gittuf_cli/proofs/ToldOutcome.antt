@@ -1,6 +1,9 @@
 -- What an ending means where the source and the store tell what they hold.
-use Rattle.std.proofs.Common.{◌≡◌, ◌⊎◌, inl, inr, List, ℕ, sym, ◌∙◌, subst}
+use Rattle.std.proofs.Common.{◌≡◌, ◌⊎◌, inl, inr, List, ℕ, sym, subst}
 use Rattle.std.specs.Prelude.{Option, Some, Result}
+use Rattle.edge_clock.specs.declared.clocks.Clock as clock
+use Rattle.edge_disk.specs.declared.disks.Disk as disk
+use Rattle.edge_disk.specs.declared.entropies.Entropy as entropy
 use Rattle.edge_io.specs.declared.sinks.Sink as sink
 use Rattle.edge_io.specs.declared.sources.Source as source
 use Rattle.git_object.specs.Repository.{Repository}
@@ -11,6 +14,16 @@ use Rattle.command_words.specs.declared.commands.Command.TheVariants as command
 use Rattle.endings.proofs.Lifted.{told_ending}
 use Rattle.endings.specs.Endings.{IsStopped}
 use Rattle.endings.specs.declared.ending.Ending.{Ending}
+use Rattle.commands_history.specs.Laws.{LogComes, TellsOfHistory}
+use Rattle.commands_history.specs.Logging.{LogEnds, log_ending}
+use Rattle.commands_history.specs.declared.faults.LogCommandFault.{LogCommandFault}
+use Rattle.commands_keys.specs.Contents.{KeyGenComes}
+use Rattle.commands_keys.specs.Laws.{TellsOfKeys}
+use Rattle.commands_keys.specs.MakingKeys.{KeyGenEnds, key_gen_ending}
+use Rattle.commands_keys.specs.declared.making_keys.KeyGenFault.{KeyGenFault}
+use Rattle.commands_log.specs.Outcomes.{RecordComes, TellsOfLog, record_ending}
+use Rattle.commands_log.specs.Recording.{RecordEnds}
+use Rattle.commands_log.specs.declared.recording.RecordFault.{RecordFault}
 use Rattle.commands_store.specs.Contents.{ExportComes, ImportComes, VerifyComes}
 use Rattle.commands_store.specs.Exporting.{ExportEnds, export_ending}
 use Rattle.commands_store.specs.Importing.{ImportEnds, import_ending}
@@ -19,50 +32,76 @@ use Rattle.commands_store.specs.Verifying.{VerifyEnds, verify_ending}
 use Rattle.commands_store.specs.declared.importing.ImportFault.{ImportFault}
 use Rattle.commands_store.specs.declared.verdicts.Verdict.{Verdict}
 use Rattle.commands_store.specs.declared.verifying.VerifyFault.{VerifyFault}
-use Rattle.gittuf_cli.specs.Contents.{Comes, Content, TellsOutcome}
+use Rattle.gittuf_cli.specs.Contents.{Comes, Content, Tells, TellsOutcome}
+use Rattle.gittuf_cli.specs.KeyTypes.{lms_of, ots_of}
 use Rattle.gittuf_cli.specs.Runs.{EndsOf}
 use Rattle.gittuf_cli.specs.Worlds.{World}
 
 same_some : {X : Type 0} (x y : X) (told : Option X) → told ≡ Some x → told ≡ Some y → x ≡ y
 same_some x y told e f = cc
 
-module _ {S K R : Type 0} (source_of : source.Ghosts S) (sink_of : sink.Ghosts K) (keeper_of : keeper.Ghosts R) (store : TellsOfStore keeper_of) where
-  told_comes : (c : Command) (before after : World S K R) (ending : Ending) (content : Content) (now : Repository)
-      → source_of.left before.source ≡ Some content.bytes → keeper_of.content before.keeper ≡ Some content.held → keeper_of.content after.keeper ≡ Some now
-      → EndsOf source_of sink_of keeper_of c before after ending → Comes c content ending ⊎ IsStopped ending
-  told_comes (command.VerifyRef name stdin) before after ending content now left held holds ends =
+module _ {S K R D E C : Type 0} (source_of : source.Ghosts S) (sink_of : sink.Ghosts K) (keeper_of : keeper.Ghosts R) (disk_of : disk.Ghosts D) (entropy_of : entropy.Ghosts E) (clock_of : clock.Ghosts C) (store : TellsOfStore keeper_of) (keys : TellsOfKeys disk_of) (history : TellsOfHistory) (log : TellsOfLog keeper_of disk_of) where
+  told_comes : (c : Command) (before after : World S K R D E C) (ending : Ending) (content : Content)
+      → Tells source_of sink_of keeper_of disk_of entropy_of clock_of c before after content
+      → EndsOf source_of sink_of keeper_of disk_of entropy_of clock_of c before after ending → Comes c content ending ⊎ IsStopped ending
+  told_comes (command.VerifyRef name stdin) before after ending content tells ends =
       told_ending verify_ending
       (VerifyEnds name stdin keeper_of (source_of.left before.source) (source_of.left after.source) before.keeper after.keeper (sink_of.contents before.sink) (sink_of.contents after.sink))
       (VerifyComes name stdin content.held content.bytes)
       (λ (outcome : Result Verdict VerifyFault) means.
-      store.verify name stdin content.bytes (source_of.left after.source) content.held now before.keeper after.keeper (sink_of.contents before.sink) (sink_of.contents after.sink) outcome held holds
-      (subst (λ (l : Option (List ℕ)). VerifyEnds name stdin keeper_of l (source_of.left after.source) before.keeper after.keeper (sink_of.contents before.sink) (sink_of.contents after.sink) outcome) left means))
+      store.verify name stdin content.bytes (source_of.left after.source) content.held tells.1.now before.keeper after.keeper (sink_of.contents before.sink) (sink_of.contents after.sink) outcome tells.1.held tells.1.holds
+      (subst (λ (l : Option (List ℕ)). VerifyEnds name stdin keeper_of l (source_of.left after.source) before.keeper after.keeper (sink_of.contents before.sink) (sink_of.contents after.sink) outcome) tells.0 means))
       ending ends.0
-  told_comes command.Export before after ending content now left held holds ends =
-      let same : now ≡ content.held = sym (same_some content.held now (keeper_of.content before.keeper) held (ends.1.content now holds)) in
+  told_comes command.Export before after ending content tells ends =
+      let same : tells.now ≡ content.held = sym (same_some content.held tells.now (keeper_of.content before.keeper) tells.held (ends.1.content tells.now tells.holds)) in
       told_ending export_ending
       (ExportEnds (keeper_of.content after.keeper) (sink_of.contents before.sink) (sink_of.contents after.sink))
       (ExportComes content.held)
       (λ (outcome : Result (Unit {0}) ExportFault) means.
       store.export content.held (sink_of.contents before.sink) (sink_of.contents after.sink) outcome
       (subst (λ (r : Repository). ExportEnds (Some r) (sink_of.contents before.sink) (sink_of.contents after.sink) outcome) same
-      (subst (λ (o : Option Repository). ExportEnds o (sink_of.contents before.sink) (sink_of.contents after.sink) outcome) holds means)))
+      (subst (λ (o : Option Repository). ExportEnds o (sink_of.contents before.sink) (sink_of.contents after.sink) outcome) tells.holds means)))
       ending ends.0
-  told_comes command.Import before after ending content now left held holds ends =
+  told_comes command.Import before after ending content tells ends =
       told_ending import_ending
       (ImportEnds keeper_of (source_of.left before.source) (source_of.left after.source) before.keeper after.keeper (sink_of.contents before.sink) (sink_of.contents after.sink))
       (ImportComes content.held content.bytes)
       (λ (outcome : Result (Unit {0}) ImportFault) means.
-      store.import content.bytes (source_of.left after.source) content.held now before.keeper after.keeper (sink_of.contents before.sink) (sink_of.contents after.sink) outcome held holds
-      (subst (λ (l : Option (List ℕ)). ImportEnds keeper_of l (source_of.left after.source) before.keeper after.keeper (sink_of.contents before.sink) (sink_of.contents after.sink) outcome) left means))
-      ending ends
+      store.import content.bytes (source_of.left after.source) content.held tells.1.now before.keeper after.keeper (sink_of.contents before.sink) (sink_of.contents after.sink) outcome tells.1.held tells.1.holds
+      (subst (λ (l : Option (List ℕ)). ImportEnds keeper_of l (source_of.left after.source) before.keeper after.keeper (sink_of.contents before.sink) (sink_of.contents after.sink) outcome) tells.0 means))
+      ending ends.0
+  told_comes (command.KeyGen height width) before after ending content tells ends =
+      told_ending key_gen_ending
+      (KeyGenEnds disk_of (lms_of height) (ots_of width) (entropy_of.left before.entropy) (entropy_of.left after.entropy) before.disk after.disk (sink_of.contents before.sink) (sink_of.contents after.sink))
+      (KeyGenComes content.file)
+      (λ (outcome : Result (Unit {0}) KeyGenFault) means.
+      keys.key_gen (lms_of height) (ots_of width) (entropy_of.left before.entropy) (entropy_of.left after.entropy) content.file tells.now before.disk after.disk (sink_of.contents before.sink) (sink_of.contents after.sink) outcome tells.held tells.holds means)
+      ending ends.0
+  told_comes command.Log before after ending content tells ends =
+      let same : tells.now ≡ content.held = sym (same_some content.held tells.now (keeper_of.content before.keeper) tells.held (ends.1.content tells.now tells.holds)) in
+      told_ending log_ending
+      (LogEnds (keeper_of.content after.keeper) (sink_of.contents before.sink) (sink_of.contents after.sink))
+      (LogComes content.held)
+      (λ (outcome : Result ℕ LogCommandFault) means.
+      history content.held (sink_of.contents before.sink) (sink_of.contents after.sink) outcome
+      (subst (λ (r : Repository). LogEnds (Some r) (sink_of.contents before.sink) (sink_of.contents after.sink) outcome) same
+      (subst (λ (o : Option Repository). LogEnds o (sink_of.contents before.sink) (sink_of.contents after.sink) outcome) tells.holds means)))
+      ending ends.0
+  told_comes (command.Record name) before after ending content tells ends =
+      told_ending record_ending
+      (RecordEnds keeper_of disk_of name (clock_of.left before.clock) (clock_of.left after.clock) before.keeper after.keeper before.disk after.disk (sink_of.contents before.sink) (sink_of.contents after.sink))
+      (RecordComes content.file content.held)
+      (λ (outcome : Result (Unit {0}) RecordFault) means.
+      log.recorded name (clock_of.left before.clock) (clock_of.left after.clock) content.held tells.0.now content.file tells.1.now before.keeper after.keeper before.disk after.disk (sink_of.contents before.sink) (sink_of.contents after.sink) outcome
+      tells.0.held tells.0.holds tells.1.held tells.1.holds means)
+      ending ends.0
 
-  pub told_outcome : TellsOutcome source_of sink_of keeper_of
-  told_outcome words before after ending content now left held holds (inl none) = elim none.why [
+  pub told_outcome : TellsOutcome source_of sink_of keeper_of disk_of entropy_of clock_of
+  told_outcome words before after ending content tells (inl none) = elim none.why [
     | inl refused ↦ inl (inl refused)
     | inr wanting ↦ inr (subst IsStopped (sym wanting.0) tt)
   ]
-  told_outcome words before after ending content now left held holds (inr ran) = elim (told_comes ran.command before after ending content now left held holds ran.ends) [
+  told_outcome words before after ending content tells (inr ran) = elim (told_comes ran.command before after ending content (tells ran.command ran.asked) ran.ends) [
     | inl comes ↦ inl (inr (record { command = ran.command; asked = ran.asked; comes = comes }))
     | inr stopped ↦ inr stopped
   ]

@@ -1,10 +1,13 @@
--- What a run comes to where the source and the store tell what they hold: one ending, faults and memory aside.
+-- What a run comes to where the objects tell what they hold: one ending, faults and memory aside.
 use Rattle.std.specs.Prelude.{◌≡◌, ◌⊎◌, ℕ, List, Some}
+use Rattle.edge_clock.specs.declared.clocks.Clock as clock
+use Rattle.edge_disk.specs.declared.disks.Disk as disk
+use Rattle.edge_disk.specs.declared.entropies.Entropy as entropy
 use Rattle.edge_io.specs.declared.sinks.Sink as sink
 use Rattle.edge_io.specs.declared.sources.Source as source
 use Rattle.git_object.specs.Repository.{Repository}
 use Rattle.keeper_api.specs.declared.keepers.Keeper as keeper
-use Rattle.command_words.specs.Commands.{IsCommand, IsNoCommand}
+use Rattle.command_words.specs.FirstWords.{IsCommand, IsNoCommand}
 use Rattle.command_words.specs.declared.commands.Command.{Command}
 use Rattle.command_words.specs.declared.commands.Command.TheVariants as command
 use Rattle.endings.specs.Counts.{Ended}
@@ -12,6 +15,11 @@ use Rattle.endings.specs.Endings.{IsStopped}
 use Rattle.endings.specs.declared.ending.Ending.{Ending}
 use Rattle.endings.specs.declared.ending.Ending.TheVariants.{Refused}
 use Rattle.endings.specs.declared.ending.Refusal.TheVariants as refusal
+use Rattle.commands_history.specs.Laws.{LogComes}
+use Rattle.commands_history.specs.Logging.{log_ending}
+use Rattle.commands_keys.specs.Contents.{KeyGenComes}
+use Rattle.commands_keys.specs.MakingKeys.{key_gen_ending}
+use Rattle.commands_log.specs.Outcomes.{RecordComes, record_ending}
 use Rattle.commands_store.specs.Contents.{ExportComes, ImportComes, VerifyComes}
 use Rattle.commands_store.specs.Exporting.{export_ending}
 use Rattle.commands_store.specs.Importing.{import_ending}
@@ -23,12 +31,16 @@ use Rattle.gittuf_cli.specs.Worlds.{World}
 pub record Content : Type 0 where
   pub held : Repository
   pub bytes : List ℕ
+  pub file : List ℕ
 
 -- what a command comes to over this content
 abbrev pub Comes : Command → Content → Ending → Type 0
 Comes (command.VerifyRef name stdin) content = Ended verify_ending (VerifyComes name stdin content.held content.bytes)
 Comes command.Export content = Ended export_ending (ExportComes content.held)
 Comes command.Import content = Ended import_ending (ImportComes content.held content.bytes)
+Comes (command.KeyGen height width) content = Ended key_gen_ending (KeyGenComes content.file)
+Comes command.Log content = Ended log_ending (LogComes content.held)
+Comes (command.Record name) content = Ended record_ending (RecordComes content.file content.held)
 
 -- the words ask for this command, and it comes to this
 pub record IsAnswered (words : List (List ℕ)) (content : Content) (ending : Ending) : Type 0 where
@@ -40,12 +52,38 @@ pub record IsAnswered (words : List (List ℕ)) (content : Content) (ending : En
 abbrev pub IsOutcome : List (List ℕ) → Content → Ending → Type 0
 IsOutcome words content ending = ((ending ≡ Refused refusal.Words) × IsNoCommand words) ⊎ IsAnswered words content ending
 
--- where the content is told, an ending is the one for it, or the run stopped
-abbrev pub TellsOutcome : {S K R : Type 0} → source.Ghosts S → sink.Ghosts K → keeper.Ghosts R → Type 0
-TellsOutcome {S} {K} {R} source_of sink_of keeper_of =
-    (words : List (List ℕ)) (before after : World S K R) (ending : Ending) (content : Content) (now : Repository)
-    → source_of.left before.source ≡ Some content.bytes → keeper_of.content before.keeper ≡ Some content.held → keeper_of.content after.keeper ≡ Some now
-    → Ends source_of sink_of keeper_of words before after ending → IsOutcome words content ending ⊎ IsStopped ending
+module _ {S K R D E C : Type 0} (source_of : source.Ghosts S) (sink_of : sink.Ghosts K) (keeper_of : keeper.Ghosts R) (disk_of : disk.Ghosts D) (entropy_of : entropy.Ghosts E) (clock_of : clock.Ghosts C) where
+  -- the source tells these bytes
+  abbrev pub TellsSource : World S K R D E C → Content → Type 0
+  TellsSource before content = source_of.left before.source ≡ Some content.bytes
+
+  -- the store tells this repository, and still tells one afterwards
+  pub record TellsStore (before after : World S K R D E C) (content : Content) : Type 0 where
+    pub held : keeper_of.content before.keeper ≡ Some content.held
+    pub now : Repository
+    pub holds : keeper_of.content after.keeper ≡ Some now
+
+  -- the disk tells this file, and still tells one afterwards
+  pub record TellsDisk (before after : World S K R D E C) (content : Content) : Type 0 where
+    pub held : disk_of.seen before.disk ≡ Some content.file
+    pub now : List ℕ
+    pub holds : disk_of.seen after.disk ≡ Some now
+
+  -- the objects that a command reads tell their content
+  abbrev pub Tells : Command → World S K R D E C → World S K R D E C → Content → Type 0
+  Tells (command.VerifyRef name stdin) before after content = TellsSource before content × TellsStore before after content
+  Tells command.Export before after content = TellsStore before after content
+  Tells command.Import before after content = TellsSource before content × TellsStore before after content
+  Tells (command.KeyGen height width) before after content = TellsDisk before after content
+  Tells command.Log before after content = TellsStore before after content
+  Tells (command.Record name) before after content = TellsStore before after content × TellsDisk before after content
+
+  -- where the content is told, an ending is the one for it, or the run stopped
+  abbrev pub TellsOutcome : Type 0
+  TellsOutcome =
+      (words : List (List ℕ)) (before after : World S K R D E C) (ending : Ending) (content : Content)
+      → ((command : Command) → IsCommand words command → Tells command before after content)
+      → Ends source_of sink_of keeper_of disk_of entropy_of clock_of words before after ending → IsOutcome words content ending ⊎ IsStopped ending
 
 -- there is at most one ending for the same words and content
 abbrev pub OneOutcome : Type 0

@@ -2,22 +2,31 @@
 use Rattle.std.specs.Prelude.{◌≡◌, ◌≤◌, ◌⊎◌, ℕ, List, Option, false}
 use Rattle.octets.specs.Causes.{one_more}
 use Rattle.octets.specs.Content.{GainsPart, with_end}
+use Rattle.edge_clock.specs.declared.clocks.Clock as clock
+use Rattle.edge_disk.specs.Moments.{LeavesOnly}
+use Rattle.edge_disk.specs.declared.disks.Disk as disk
+use Rattle.edge_disk.specs.declared.entropies.Entropy as entropy
 use Rattle.edge_io.specs.declared.sinks.Sink as sink
 use Rattle.edge_io.specs.declared.sources.Source as source
 use Rattle.keeper_api.specs.Undisturbed.{Undisturbed}
 use Rattle.keeper_api.specs.declared.keepers.Keeper as keeper
-use Rattle.command_words.specs.Commands.{IsCommand, IsNoCommand}
-use Rattle.command_words.specs.FirstWords.{AreNamed}
+use Rattle.leaf_journal.specs.KeyFile.{KeepsUsed}
+use Rattle.command_words.specs.FirstWords.{AreNamed, IsCommand, IsNoCommand}
 use Rattle.command_words.specs.declared.commands.Command.{Command}
 use Rattle.command_words.specs.declared.commands.Command.TheVariants as command
 use Rattle.endings.specs.Counts.{Ended, IsCounted}
 use Rattle.endings.specs.Endings.{refusal_line, status_of}
 use Rattle.endings.specs.declared.ending.Ending.{Ending}
-use Rattle.endings.specs.declared.ending.Ending.TheVariants.{Done, Differs, Refused}
+use Rattle.endings.specs.declared.ending.Ending.TheVariants.{Done, Differs, Broken, Refused}
 use Rattle.endings.specs.declared.ending.Refusal.TheVariants as refusal
+use Rattle.commands_history.specs.Logging.{LogEnds, log_ending}
+use Rattle.commands_keys.specs.MakingKeys.{KeyGenEnds, key_gen_ending}
+use Rattle.commands_log.specs.Outcomes.{record_ending}
+use Rattle.commands_log.specs.Recording.{RecordEnds}
 use Rattle.commands_store.specs.Exporting.{ExportEnds, export_ending}
 use Rattle.commands_store.specs.Importing.{ImportEnds, import_ending}
 use Rattle.commands_store.specs.Verifying.{VerifyEnds, verify_ending}
+use Rattle.gittuf_cli.specs.KeyTypes.{lms_of, ots_of}
 use Rattle.gittuf_cli.specs.Worlds.{World, faults_of}
 
 -- the line was written and no fault counted, or a front of the line was written and one fault counted
@@ -25,45 +34,59 @@ abbrev pub SaysLine : Option (List ℕ) → Option (List ℕ) → ℕ → ℕ �
 SaysLine told told_now faults faults_now message =
     ((told_now ≡ with_end told message) × (faults_now ≡ faults)) ⊎ (GainsPart told told_now message × (faults_now ≡ one_more faults))
 
--- what is said of an ending: nothing where the answer was given, and else the line of the refusal
+-- what is said of an ending: nothing where the answer was given or the log is broken, and else the line of the refusal
 abbrev pub Says : Option (List ℕ) → Option (List ℕ) → ℕ → ℕ → Ending → Type 0
 Says told told_now faults faults_now Done = (told_now ≡ told) × (faults_now ≡ faults)
 Says told told_now faults faults_now Differs = (told_now ≡ told) × (faults_now ≡ faults)
+Says told told_now faults faults_now Broken = (told_now ≡ told) × (faults_now ≡ faults)
 Says told told_now faults faults_now (Refused refused) = SaysLine told told_now faults faults_now (refusal_line refused)
 
-module _ {S K R : Type 0} (source_of : source.Ghosts S) (sink_of : sink.Ghosts K) (keeper_of : keeper.Ghosts R) where
+module _ {S K R D E C : Type 0} (source_of : source.Ghosts S) (sink_of : sink.Ghosts K) (keeper_of : keeper.Ghosts R) (disk_of : disk.Ghosts D) (entropy_of : entropy.Ghosts E) (clock_of : clock.Ghosts C) where
   -- what it means that a command ended so, and that it touched no object but those that it uses
-  abbrev pub EndsOf : Command → World S K R → World S K R → Ending → Type 0
+  abbrev pub EndsOf : Command → World S K R D E C → World S K R D E C → Ending → Type 0
   EndsOf (command.VerifyRef name stdin) before after ending =
       Ended verify_ending (VerifyEnds name stdin keeper_of (source_of.left before.source) (source_of.left after.source) before.keeper after.keeper (sink_of.contents before.sink) (sink_of.contents after.sink)) ending
       × (stdin ≡ false → after.source ≡ before.source)
+      × (after ≡ record before { source = after.source; sink = after.sink; keeper = after.keeper })
   EndsOf command.Export before after ending =
       Ended export_ending (ExportEnds (keeper_of.content after.keeper) (sink_of.contents before.sink) (sink_of.contents after.sink)) ending
       × Undisturbed keeper_of before.keeper after.keeper
       × (after ≡ record before { sink = after.sink; keeper = after.keeper })
   EndsOf command.Import before after ending =
       Ended import_ending (ImportEnds keeper_of (source_of.left before.source) (source_of.left after.source) before.keeper after.keeper (sink_of.contents before.sink) (sink_of.contents after.sink)) ending
+      × (after ≡ record before { source = after.source; sink = after.sink; keeper = after.keeper })
+  EndsOf (command.KeyGen height width) before after ending =
+      Ended key_gen_ending (KeyGenEnds disk_of (lms_of height) (ots_of width) (entropy_of.left before.entropy) (entropy_of.left after.entropy) before.disk after.disk (sink_of.contents before.sink) (sink_of.contents after.sink)) ending
+      × (after ≡ record before { sink = after.sink; disk = after.disk; entropy = after.entropy })
+  EndsOf command.Log before after ending =
+      Ended log_ending (LogEnds (keeper_of.content after.keeper) (sink_of.contents before.sink) (sink_of.contents after.sink)) ending
+      × Undisturbed keeper_of before.keeper after.keeper
+      × (after ≡ record before { sink = after.sink; keeper = after.keeper })
+  EndsOf (command.Record name) before after ending =
+      Ended record_ending (RecordEnds keeper_of disk_of name (clock_of.left before.clock) (clock_of.left after.clock) before.keeper after.keeper before.disk after.disk (sink_of.contents before.sink) (sink_of.contents after.sink)) ending
+      × LeavesOnly disk_of.moment disk_of.left_since before.disk after.disk (KeepsUsed (disk_of.may_leave before.disk))
+      × (after ≡ record before { sink = after.sink; keeper = after.keeper; disk = after.disk; clock = after.clock })
 
   -- the words ask for this command, and it ended so
-  pub record RunsCommand (words : List (List ℕ)) (before after : World S K R) (ending : Ending) : Type 0 where
+  pub record RunsCommand (words : List (List ℕ)) (before after : World S K R D E C) (ending : Ending) : Type 0 where
     pub command : Command
     pub asked : IsCommand words command
     pub ends : EndsOf command before after ending
 
   -- no command was run: the words ask for none, or memory was wanting to read them behind the name of a command
-  pub record RunsNone (words : List (List ℕ)) (before after : World S K R) (ending : Ending) : Type 0 where
+  pub record RunsNone (words : List (List ℕ)) (before after : World S K R D E C) (ending : Ending) : Type 0 where
     pub why : ((ending ≡ Refused refusal.Words) × IsNoCommand words) ⊎ ((ending ≡ Refused refusal.Memory) × AreNamed words)
     pub untouched : after ≡ before
 
   -- what the words and the objects make of each other
-  abbrev pub Ends : List (List ℕ) → World S K R → World S K R → Ending → Type 0
+  abbrev pub Ends : List (List ℕ) → World S K R D E C → World S K R D E C → Ending → Type 0
   Ends words before after ending = RunsNone words before after ending ⊎ RunsCommand words before after ending
 
   -- a run of these words answered this status: the words and the objects come to an ending, and that was said
-  pub record Ran (words : List (List ℕ)) (before after : World S K R) (told told_now : Option (List ℕ)) (faults faults_now : ℕ) (status : ℕ) : Type 0 where
+  pub record Ran (words : List (List ℕ)) (before after : World S K R D E C) (told told_now : Option (List ℕ)) (faults faults_now : ℕ) (status : ℕ) : Type 0 where
     pub ending : Ending
     pub status_is : status ≡ status_of ending
     pub ends : Ends words before after ending
-    pub counted : IsCounted ending (faults_of source_of sink_of keeper_of before) (faults_of source_of sink_of keeper_of after)
+    pub counted : IsCounted ending (faults_of source_of sink_of keeper_of disk_of entropy_of clock_of before) (faults_of source_of sink_of keeper_of disk_of entropy_of clock_of after)
     pub says : Says told told_now faults faults_now ending
     pub later : faults ≤ faults_now

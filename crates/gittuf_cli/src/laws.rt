@@ -3,16 +3,24 @@
 ghost use Rattle.gittuf_cli.specs.Contents.{OneOutcome, TellsOutcome};
 
 use command_words::laws::one_command;
+use commands_history::laws::{one_of_history, tells_of_history};
+use commands_keys::laws::{one_of_keys, tells_of_keys};
+use commands_log::laws::{one_of_log, tells_of_log};
 use commands_store::laws::{one_of_store, tells_of_store};
+use edge_clock::Clock;
+use edge_disk::{Disk, Entropy};
 use edge_io::{Sink, Source};
 use keeper_api::Keeper;
 
-/// Where source and store tell their content, an ending is the one for the words and that content, unless the run
-/// stopped for a fault or for want of memory.
-pub fn tells_outcome<S: Source, K: Sink, R: Keeper>()
-    ensures { TellsOutcome S.Source K.Sink R.Keeper }
+/// Where the objects that the command reads tell their content, an ending is the one for the words and that content,
+/// unless the run stopped for a fault or for want of memory.
+pub fn tells_outcome<S: Source, K: Sink, R: Keeper, D: Disk, E: Entropy, C: Clock>()
+    ensures { TellsOutcome S.Source K.Sink R.Keeper D.Disk E.Entropy C.Clock }
 {
     tells_of_store::<R>();
+    tells_of_keys::<D>();
+    tells_of_history();
+    tells_of_log::<R, D>();
 }
 
 /// There is at most one ending for the same words and content.
@@ -21,4 +29,7 @@ pub fn one_outcome()
 {
     one_command();
     one_of_store();
+    one_of_keys();
+    one_of_history();
+    one_of_log();
 }

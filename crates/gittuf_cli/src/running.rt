@@ -1,26 +1,34 @@
 //! The one call that the program makes.
 
 ghost use Rattle.std.specs.Prelude.{◌≡◌, ◌≤◌, map, string_bytes};
+ghost use Rattle.command_words.specs.FirstWords.{NamesNoLog};
 ghost use Rattle.endings.specs.Counts.{IsCounted};
 ghost use Rattle.gittuf_cli.specs.Runs.{Ends, EndsOf, Ran, Says};
 ghost use Rattle.gittuf_cli.specs.Worlds.{faults_of, world_of};
 
 use crate::Outside;
+use crate::key_types::{lms_of, ots_of};
 use command_words::{Command, WordsFault, read_command};
+use commands_history::{log, log_ending};
+use commands_keys::{key_gen, key_gen_ending};
+use commands_log::{record, record_ending};
 use commands_store::{export, export_ending, import, import_ending, verify_ending, verify_ref};
+use edge_clock::Clock;
+use edge_disk::{Disk, Entropy};
 use edge_io::{Sink, Source, write_all};
 use endings::{Ending, Refusal};
 use keeper_api::Keeper;
 use std::alloc::Global;
 
 // Carries a command out, over no object but those that it needs.
-fn carry_out<S: Source, K: Sink, F: Sink, R: Keeper>(
+fn carry_out<S: Source, K: Sink, F: Sink, R: Keeper, D: Disk, E: Entropy, C: Clock>(
     alloc: Global,
     command: &Command,
-    outside: &mut Outside<S, K, F, R>,
+    outside: &mut Outside<S, K, F, R, D, E, C>,
 ) -> Ending
-    ensures ends { EndsOf S.Source K.Sink R.Keeper command.now (world_of outside.old) (world_of outside.new) result }
-    ensures counted { IsCounted result (faults_of S.Source K.Sink R.Keeper (world_of outside.old)) (faults_of S.Source K.Sink R.Keeper (world_of outside.new)) }
+    requires { NamesNoLog command.now }
+    ensures ends { EndsOf S.Source K.Sink R.Keeper D.Disk E.Entropy C.Clock command.now (world_of outside.old) (world_of outside.new) result }
+    ensures counted { IsCounted result (faults_of S.Source K.Sink R.Keeper D.Disk E.Entropy C.Clock (world_of outside.old)) (faults_of S.Source K.Sink R.Keeper D.Disk E.Entropy C.Clock (world_of outside.new)) }
     ensures unsaid { outside.new.faults_out ≡ outside.old.faults_out }
 {
     match command {
@@ -48,17 +56,43 @@ fn carry_out<S: Source, K: Sink, F: Sink, R: Keeper>(
             );
             import_ending(&outcome)
         }
+        Command::KeyGen { height, width } => {
+            let outcome = key_gen(
+                alloc,
+                lms_of(*height),
+                ots_of(*width),
+                &mut outside.sink,
+                &mut outside.disk,
+                &mut outside.entropy,
+            );
+            key_gen_ending(&outcome)
+        }
+        Command::Log => {
+            let outcome = log(alloc, &mut outside.sink, &mut outside.keeper);
+            log_ending(&outcome)
+        }
+        Command::Record { name } => {
+            let outcome = record(
+                alloc,
+                name,
+                &mut outside.sink,
+                &mut outside.keeper,
+                &mut outside.disk,
+                &mut outside.clock,
+            );
+            record_ending(&outcome)
+        }
     }
 }
 
 // Does what the words ask for, and prints the answer.
-fn obey<S: Source, K: Sink, F: Sink, R: Keeper>(
+fn obey<S: Source, K: Sink, F: Sink, R: Keeper, D: Disk, E: Entropy, C: Clock>(
     alloc: Global,
     words: &[String],
-    outside: &mut Outside<S, K, F, R>,
+    outside: &mut Outside<S, K, F, R, D, E, C>,
 ) -> Ending
-    ensures ends { Ends S.Source K.Sink R.Keeper (map string_bytes words.now) (world_of outside.old) (world_of outside.new) result }
-    ensures counted { IsCounted result (faults_of S.Source K.Sink R.Keeper (world_of outside.old)) (faults_of S.Source K.Sink R.Keeper (world_of outside.new)) }
+    ensures ends { Ends S.Source K.Sink R.Keeper D.Disk E.Entropy C.Clock (map string_bytes words.now) (world_of outside.old) (world_of outside.new) result }
+    ensures counted { IsCounted result (faults_of S.Source K.Sink R.Keeper D.Disk E.Entropy C.Clock (world_of outside.old)) (faults_of S.Source K.Sink R.Keeper D.Disk E.Entropy C.Clock (world_of outside.new)) }
     ensures unsaid { outside.new.faults_out ≡ outside.old.faults_out }
 {
     let command = match read_command(alloc, words) {
@@ -85,28 +119,30 @@ fn say<F: Sink>(ending: &Ending, faults_out: &mut F)
     match ending {
         Ending::Done => {}
         Ending::Differs => {}
+        Ending::Broken => {}
         Ending::Refused { refusal } => {
             let _ = write_all(faults_out, refusal.line().as_slice());
         }
     }
 }
 
-/// Runs the command of the words over the objects outside, and answers the status of the program: 0 where the
-/// verdict is `accepted`, or the stream was printed or taken; 1 where the verdict is `tip-differs`; 2 where the
-/// words are outside the grammar; 3 where the stream is refused, the repository has a log, or cannot be written
-/// as a stream; 4 exactly where the source, the sink or the store counted a fault, and then one of them counted
-/// one and the others none; 5 for want of memory, and only where the first word is the name of a command. At 0
-/// and 1 the sink gains the whole answer, at the others `faults_out` gains the line of the refusal, or a front of
-/// it where it counted a fault, which changes neither status nor anything else. At 5 `verify-ref` and `import`
-/// have printed nothing, and `import` has taken nothing. An object that a command does not use is unchanged.
-pub fn run<S: Source, K: Sink, F: Sink, R: Keeper>(
+/// Runs the command of the words over the objects outside, and answers the status of the program.
+///
+/// 0 where the answer was given; 1 where the verdict is `tip-differs`; 2 where the words are outside the grammar; 3 where
+/// the stream, the log, an object or the key file is refused, or there is no room where a store or a key file is to be
+/// made; 4 exactly where an object outside but `faults_out` counted a fault, and then one of them counted one and the
+/// others none; 5 for want of memory, and only where the first word is the name of a command; 6 where each leaf of the
+/// key file is used. At 0 and 1 the sink gains the whole answer, and at 3 for a log that is broken the line that says so;
+/// at the others `faults_out` gains the line of the refusal, or a front of it where it counted a fault, which changes
+/// neither status nor anything else. An object that a command does not use is unchanged.
+pub fn run<S: Source, K: Sink, F: Sink, R: Keeper, D: Disk, E: Entropy, C: Clock>(
     alloc: Global,
     words: &[String],
-    outside: &mut Outside<S, K, F, R>,
+    outside: &mut Outside<S, K, F, R, D, E, C>,
 ) -> u8
-    ensures ran { Ran S.Source K.Sink R.Keeper (map string_bytes words.now) (world_of outside.old) (world_of outside.new)
+    ensures ran { Ran S.Source K.Sink R.Keeper D.Disk E.Entropy C.Clock (map string_bytes words.now) (world_of outside.old) (world_of outside.new)
         (F.contents outside.old.faults_out) (F.contents outside.new.faults_out) (F.faults outside.old.faults_out) (F.faults outside.new.faults_out) result }
-    ensures bound { result ≤ 5 }
+    ensures bound { result ≤ 6 }
 {
     let ending = obey(alloc, words, outside);
     say(&ending, &mut outside.faults_out);

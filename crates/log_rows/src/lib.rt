@@ -1,7 +1,7 @@
 //! Worked rows of the log: bodies of entries with the first line that is wrong in each, and logs in memory with
-//! their breaks, as tests of `rsl_chain`.
+//! their breaks, as tests of `rsl_chain`, and what `log` prints of them, as tests of `commands_history`.
 //!
-//! This crate stands on `rsl_chain` and the crates below it. Its rows were worked out by hand from the format.
+//! This crate stands on these two and the crates below them. Its rows were worked out by hand from the format.
 
 #![tactic(auto)]
 
@@ -11,3 +11,5 @@ mod bodies;
 mod drafts;
 #[cfg(test)]
 mod logs;
+#[cfg(test)]
+mod printed;

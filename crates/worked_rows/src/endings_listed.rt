@@ -4,7 +4,7 @@ use endings::{Ending, Part, Refusal};
 use git_object::ObjectId;
 use std::test::Fail;
 
-fn rows() -> [(Refusal, u8, &'static [u8]); 11] {
+fn rows() -> [(Refusal, u8, &'static [u8]); 14] {
     [
         (Refusal::Words, 2, b"words refused\n"),
         (Refusal::Stream { number: 1 }, 3, b"stream 1\n"),
@@ -19,10 +19,13 @@ fn rows() -> [(Refusal, u8, &'static [u8]); 11] {
             b"object 0000000000000000000000000000000000000000000000000000000000000000\n",
         ),
         (Refusal::TooLarge, 3, b"too large\n"),
+        (Refusal::NotEmpty, 3, b"not empty\n"),
+        (Refusal::KeyFile, 3, b"key file\n"),
         (Refusal::Fault { part: Part::Source }, 4, b"fault\n"),
         (Refusal::Fault { part: Part::Sink }, 4, b"fault\n"),
         (Refusal::Fault { part: Part::Keeper }, 4, b"fault\n"),
         (Refusal::Memory, 5, b"memory\n"),
+        (Refusal::Exhausted, 6, b"exhausted\n"),
     ]
 }
 
@@ -30,6 +33,7 @@ fn rows() -> [(Refusal, u8, &'static [u8]); 11] {
 fn each_ending_has_its_status_and_line(rt: HostRuntime) -> Result<(), Fail> {
     assert_eq!(rt; Ending::Done.status(), 0);
     assert_eq!(rt; Ending::Differs.status(), 1);
+    assert_eq!(rt; Ending::Broken.status(), 3);
     for (refusal, status, line) in rows() {
         assert!(rt; refusal.line().as_slice() == line);
         assert_eq!(rt; Ending::Refused { refusal }.status(), status);

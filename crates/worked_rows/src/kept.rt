@@ -1,16 +1,13 @@
-//! `import` and `export`, over objects in memory and over a folder.
+//! `import` and `export`, over objects in memory.
 
 use crate::proved_rows::empty_stream;
 use crate::scenes::{ask, over, run_words};
 use crate::streams;
 use edge_io::{MemSink, MemSource};
 use git_object::{Kind, id_of};
-use gittuf_cli::{Outside, run};
-use keeper_directory::DirKeeper;
 use octets::Octets;
 use std::alloc::Global;
 use std::test::Fail;
-use std::{env, fs, process};
 
 // What the store of a stream is printed as, after its import.
 fn exported(alloc: Global, stream: &[u8]) -> Result<Octets, Fail> {
@@ -91,70 +88,5 @@ fn each_front_of_a_stream_is_cut(rt: HostRuntime) -> Result<(), Fail> {
     for len in 0..stream.len() {
         assert_eq!(rt; status_of_front(alloc, stream, len)?, 3);
     }
-    Ok(())
-}
-
-// The path of an empty folder for a test of this process.
-fn fresh_folder(rt: &HostRuntime, name: &str) -> Result<String, Fail> {
-    let mut path = env::temp_dir(rt)?.into_string();
-    let number = process::id(rt.process());
-    path.push_str(format!(in rt.alloc(); "/gittuf-rows-{number}-{name}")?.as_str())?;
-    let _ = fs::remove_dir_all(rt, path.as_str());
-    Ok(path)
-}
-
-// Runs a command over a folder, and answers its status with what was printed and said.
-fn run_over(
-    rt: &HostRuntime,
-    folder: &str,
-    word: &str,
-    stream: &[u8],
-) -> Result<(u8, Octets, Octets), Fail> {
-    let alloc = rt.alloc();
-    let Ok(keeper) = DirKeeper::to_change(rt, alloc, folder) else {
-        return Err("a folder".into());
-    };
-    let mut outside = Outside {
-        source: MemSource::new(Octets::from_slice(alloc, stream)?),
-        sink: MemSink::new(alloc, 1000)?,
-        faults_out: MemSink::new(alloc, 100)?,
-        keeper,
-    };
-    let mut words = Vec::new(alloc);
-    words.push(String::from_str(alloc, word)?)?;
-    let status = run(alloc, words.as_slice(), &mut outside);
-    let printed = Octets::from_slice(alloc, outside.sink.contents())?;
-    let said = Octets::from_slice(alloc, outside.faults_out.contents())?;
-    if outside.keeper.end(alloc).is_err() {
-        return Err("a folder to be let go".into());
-    }
-    Ok((status, printed, said))
-}
-
-#[test]
-fn a_folder_keeps_what_is_imported(rt: HostRuntime) -> Result<(), Fail> {
-    let folder = fresh_folder(&rt, "kept")?;
-    let stream = streams::tree_commit_and_tag();
-    let (status, printed, _) = run_over(&rt, folder.as_str(), "import", stream)?;
-    assert!(rt; status == 0 && printed.as_slice() == b"imported\n".as_slice());
-    let (status, printed, _) = run_over(&rt, folder.as_str(), "export", b"")?;
-    assert!(rt; status == 0 && printed.as_slice() == stream);
-    fs::remove_dir_all(&rt, folder.as_str())?;
-    Ok(())
-}
-
-#[test]
-fn a_damaged_object_is_not_exported(rt: HostRuntime) -> Result<(), Fail> {
-    let folder = fresh_folder(&rt, "damaged")?;
-    let zeros = "0000000000000000000000000000000000000000000000000000000000000000";
-    let objects = format!(in rt.alloc(); "{folder}/objects")?;
-    fs::create_dir_all(&rt, objects.as_str())?;
-    let file = format!(in rt.alloc(); "{objects}/{zeros}")?;
-    fs::write(&rt, file.as_str(), b"blob 0\0")?;
-    let (status, printed, said) = run_over(&rt, folder.as_str(), "export", b"")?;
-    assert!(rt; status == 3 && printed.as_slice() == b"gittuf-stream 1\n".as_slice());
-    let line = format!(in rt.alloc(); "object {zeros}\n")?;
-    assert!(rt; said.as_slice() == line.as_bytes());
-    fs::remove_dir_all(&rt, folder.as_str())?;
     Ok(())
 }

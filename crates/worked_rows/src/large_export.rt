@@ -5,6 +5,7 @@ ghost use Rattle.std.proofs.lemmas.Bool.{false≢true};
 ghost use Rattle.octets.specs.Causes.{HasCause, each, one_more};
 ghost use Rattle.keeper_api.specs.Faults.{keeper_failed};
 
+use crate::scenes::{key_file, no_clock, no_entropy};
 use edge_io::{Failed, MemSink, MemSource, Sink};
 use git_object::{Kind, Object, ObjectId, RefName};
 use gittuf_cli::{Outside, run};
@@ -122,6 +123,9 @@ fn a_store_past_the_limit_is_too_large(rt: HostRuntime) -> Result<(), Fail> {
             object: Object::new(alloc, Kind::Blob, body)?,
             reads: 0,
         },
+        disk: key_file(alloc, b"")?,
+        entropy: no_entropy(alloc),
+        clock: no_clock(alloc),
     };
     let words = vec![in alloc; String::from_str(alloc, "export")?]?;
     let status = run(alloc, words.as_slice(), &mut outside);

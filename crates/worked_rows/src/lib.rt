@@ -12,6 +12,8 @@ mod endings_listed;
 #[cfg(test)]
 mod kept;
 #[cfg(test)]
+mod keys;
+#[cfg(test)]
 mod large_export;
 pub mod proved_rows;
 #[cfg(test)]

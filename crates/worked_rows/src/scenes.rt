@@ -1,5 +1,7 @@
 //! Objects in memory to run a command over, and what is then seen of them.
 
+use edge_clock::MemClock;
+use edge_disk::{MemDisk, MemEntropy};
 use edge_io::{MemSink, MemSource};
 use gittuf_cli::{Outside, run};
 use keeper_api::{MemKeeper, is_empty};
@@ -9,15 +11,34 @@ use std::process::Abort;
 use std::test::Fail;
 
 /// The objects outside, all in memory.
-pub type InMemory = Outside<MemSource, MemSink, MemSink, MemKeeper>;
+pub type InMemory = Outside<MemSource, MemSink, MemSink, MemKeeper, MemDisk, MemEntropy, MemClock>;
 
-/// An empty keeper, a source of these bytes, and sinks with ample room, of which no call fails.
+/// A key file in memory with room for one of height 5, and for the calls of a command.
+pub fn key_file(alloc: Global, held: &[u8]) -> Result<MemDisk, Memory> {
+    MemDisk::new(Octets::from_slice(alloc, held)?, 96, 16)
+}
+
+/// No random bytes.
+pub fn no_entropy(alloc: Global) -> MemEntropy {
+    MemEntropy::new(Octets::new(alloc))
+}
+
+/// No moments.
+pub fn no_clock(alloc: Global) -> MemClock {
+    MemClock::new(Vec::new(alloc))
+}
+
+/// An empty keeper, a source of these bytes, and sinks with ample room, of which no call fails; an empty key file, and
+/// neither random bytes nor moments.
 pub fn over(alloc: Global, stream: &[u8]) -> Result<InMemory, Memory> {
     Ok(Outside {
         source: MemSource::new(Octets::from_slice(alloc, stream)?),
         sink: MemSink::new(alloc, 1000)?,
         faults_out: MemSink::new(alloc, 100)?,
         keeper: MemKeeper::new(alloc),
+        disk: key_file(alloc, b"")?,
+        entropy: no_entropy(alloc),
+        clock: no_clock(alloc),
     })
 }
 
@@ -65,6 +86,15 @@ pub fn tip_differs() -> Seen {
     Seen {
         status: 1,
         printed: b"tip-differs refs/heads/main kept 473a0f4c3be8a93681a267e3b1e9a7dcda1185436fe141f7749120a303721813 recorded 0000000000000000000000000000000000000000000000000000000000000000\n",
+        said: b"",
+    }
+}
+
+/// This line, which tells where the log breaks, was printed.
+pub fn log_broken(printed: &'static [u8]) -> Seen {
+    Seen {
+        status: 3,
+        printed,
         said: b"",
     }
 }

@@ -1,7 +1,9 @@
 //! `verify-ref` from words and bytes to the printed line, over objects in memory.
 
 use crate::proved_rows::empty_stream;
-use crate::scenes::{accepted, ask, expect, expect_of, over, refused, run_words, tip_differs};
+use crate::scenes::{
+    accepted, ask, expect, expect_of, log_broken, over, refused, run_words, tip_differs,
+};
 use crate::streams;
 use edge_io::{MemSink, MemSource};
 use keeper_api::MemKeeper;
@@ -66,9 +68,14 @@ fn a_stream_is_taken_and_judged(rt: HostRuntime) -> Result<(), Fail> {
     expect_of(&rt, alloc, streams::one_blob(), accepted(), true)?;
     expect_of(&rt, alloc, streams::main_at_zeros(), accepted(), true)?;
     expect_of(&rt, alloc, streams::main_at_the_blob(), tip_differs(), true)?;
-    let not_built = refused(3, b"not built log\n");
-    expect_of(&rt, alloc, streams::log_at_the_blob(), not_built, true)?;
-    expect_of(&rt, alloc, streams::log_at_zeros(), not_built, true)
+    let broken = log_broken(
+        b"log-broken 473a0f4c3be8a93681a267e3b1e9a7dcda1185436fe141f7749120a303721813\n",
+    );
+    expect_of(&rt, alloc, streams::log_at_the_blob(), broken, true)?;
+    let broken = log_broken(
+        b"log-broken 0000000000000000000000000000000000000000000000000000000000000000\n",
+    );
+    expect_of(&rt, alloc, streams::log_at_zeros(), broken, true)
 }
 
 #[test]

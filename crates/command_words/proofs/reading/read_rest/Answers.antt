@@ -1,7 +1,6 @@
 use Rattle.std.proofs.Common.{◌≡◌, ap}
 use Rattle.std.specs.Prelude.{Err}
 use Rattle.std.proofs.lemmas.Result.{err_from_is_err_and}
-use Rattle.command_words.proofs.OneCommand.{no_verdict}
 use Rattle.command_words.specs.declared.words_fault.WordsFault.TheVariants.{Outside}
 use Rattle.command_words.proofs.reading.read_rest.Goals as goal
 
@@ -9,6 +8,6 @@ pub returns-in_err-name-in-VerifyRef-clause-outside :
     goal.returns-in_err-name-in-VerifyRef-clause-outside
 returns-in_err-name-in-VerifyRef-clause-outside c =
     let exit = err_from_is_err_and c.from_residual.result c.from_residual.ensures.1 in
-    rw (exit.1, exit.2, c.in-VerifyRef.is) (λ is_outside.
+    rw (exit.1, exit.2, c.in-VerifyRef.is) (λ is_outside command asks.
     let same : c.in_err-name-in-VerifyRef.field-0.0 ≡ Outside = cc in
-    no_verdict _ (c.in_err-name-in-VerifyRef.ensures.outside (ap Err same)))
+    c.in_err-name-in-VerifyRef.ensures.outside (ap Err same) asks.0 asks.1 asks.3)

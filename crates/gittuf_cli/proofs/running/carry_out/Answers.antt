@@ -1,9 +1,41 @@
 use Rattle.endings.proofs.Counting.{as_ended}
+use Rattle.commands_history.specs.Logging.{log_ending}
+use Rattle.commands_keys.specs.MakingKeys.{key_gen_ending}
+use Rattle.commands_log.proofs.Counted.{counted}
+use Rattle.commands_log.specs.Outcomes.{record_ending}
 use Rattle.commands_store.specs.Exporting.{export_ending}
+use Rattle.commands_store.specs.Importing.{import_ending}
+use Rattle.commands_store.specs.Verifying.{verify_ending}
 use Rattle.gittuf_cli.specs.Worlds.{faults_of, world_of}
 use Rattle.gittuf_cli.proofs.running.carry_out.Goals as goal
+
+pub returns-in-VerifyRef-clause-counted : goal.returns-in-VerifyRef-clause-counted
+returns-in-VerifyRef-clause-counted g c =
+    as_ended _ _ c.verify_ending.result (verify_ending c.verify_ref-outcome.result) c.verify_ending.ensures
+    (c.verify_ref-outcome.ensures.counted (faults_of g.S.Source g.K.Sink g.R.Keeper g.D.Disk g.E.Entropy g.C.Clock (world_of c.args.outside.now)))
 
 pub returns-in-Export-clause-counted : goal.returns-in-Export-clause-counted
 returns-in-Export-clause-counted g c =
     as_ended _ _ c.export_ending.result (export_ending c.export-outcome.result) c.export_ending.ensures
-    (c.export-outcome.ensures.counted (faults_of g.S.Source g.K.Sink g.R.Keeper (world_of c.args.outside.now)))
+    (c.export-outcome.ensures.counted (faults_of g.S.Source g.K.Sink g.R.Keeper g.D.Disk g.E.Entropy g.C.Clock (world_of c.args.outside.now)))
+
+pub returns-in-Import-clause-counted : goal.returns-in-Import-clause-counted
+returns-in-Import-clause-counted g c =
+    as_ended _ _ c.import_ending.result (import_ending c.import-outcome.result) c.import_ending.ensures
+    (c.import-outcome.ensures.counted (faults_of g.S.Source g.K.Sink g.R.Keeper g.D.Disk g.E.Entropy g.C.Clock (world_of c.args.outside.now)))
+
+pub returns-in-KeyGen-clause-counted : goal.returns-in-KeyGen-clause-counted
+returns-in-KeyGen-clause-counted g c =
+    as_ended _ _ c.key_gen_ending.result (key_gen_ending c.key_gen-outcome.result) c.key_gen_ending.ensures
+    (c.key_gen-outcome.ensures.counted (faults_of g.S.Source g.K.Sink g.R.Keeper g.D.Disk g.E.Entropy g.C.Clock (world_of c.args.outside.now)))
+
+pub returns-in-Log-clause-counted : goal.returns-in-Log-clause-counted
+returns-in-Log-clause-counted g c =
+    as_ended _ _ c.log_ending.result (log_ending c.log-outcome.result) c.log_ending.ensures
+    (c.log-outcome.ensures.counted (faults_of g.S.Source g.K.Sink g.R.Keeper g.D.Disk g.E.Entropy g.C.Clock (world_of c.args.outside.now)))
+
+pub returns-in-Record-clause-counted : goal.returns-in-Record-clause-counted
+returns-in-Record-clause-counted g c =
+    as_ended _ _ c.record_ending.result (record_ending c.record-outcome.result) c.record_ending.ensures
+    (counted (faults_of g.S.Source g.K.Sink g.R.Keeper g.D.Disk g.E.Entropy g.C.Clock (world_of c.args.outside.now)) _ _ _ _ c.record-outcome.result
+    c.record-outcome.ensures.sink c.record-outcome.ensures.keeper c.record-outcome.ensures.disk c.record-outcome.ensures.clock)

@@ -1,0 +1,94 @@
+//! The words of `key-gen`.
+
+ghost use Rattle.std.specs.Prelude.{◌≡◌, ◌≢◌, codes, map, option_map, string_bytes, IfOk, IfSome, IfNone, IsErrOf, Some};
+ghost use Rattle.clap.specs.Words.{app_of, first_of, found_of, rows_of};
+ghost use Rattle.command_words.specs.Commands.{AsksKey, height_text, key_gen_app, width_text};
+ghost use Rattle.command_words.specs.declared.commands.Height.{Height};
+ghost use Rattle.command_words.specs.declared.commands.Width.{Width};
+
+use crate::arguments::{bare_command, positional, take_words, value_in, with_argument};
+use crate::commands::{Height, Width};
+use crate::first_words::is_word;
+use crate::words_fault::WordsFault;
+use clap::ArgMatches;
+use std::alloc::{AllocError, Global};
+
+fn key_gen_command<'a>(alloc: Global) -> Result<clap::Command<'a>, AllocError>
+    ensures { IfOk result (λ c. app_of c ≡ key_gen_app) }
+{
+    let command = with_argument(bare_command(alloc, "key-gen"), positional(alloc, "height"))?;
+    with_argument(command, positional(alloc, "width"))
+}
+
+// The height that a text stands for; None where it stands for none.
+fn height_at(text: &str) -> Option<Height>
+    ensures found { IfSome result (λ height. text.now ≡ height_text height) }
+    ensures none { IfNone result ((height : Height) → text.now ≢ height_text height) }
+{
+    if is_word(text, "5") {
+        return Some(Height::H5);
+    }
+    if is_word(text, "10") {
+        return Some(Height::H10);
+    }
+    if is_word(text, "15") {
+        return Some(Height::H15);
+    }
+    None
+}
+
+// The width that a text stands for; None where it stands for none.
+fn width_at(text: &str) -> Option<Width>
+    ensures found { IfSome result (λ width. text.now ≡ width_text width) }
+    ensures none { IfNone result ((width : Width) → text.now ≢ width_text width) }
+{
+    if is_word(text, "1") {
+        return Some(Width::W1);
+    }
+    if is_word(text, "2") {
+        return Some(Width::W2);
+    }
+    if is_word(text, "4") {
+        return Some(Width::W4);
+    }
+    if is_word(text, "8") {
+        return Some(Width::W8);
+    }
+    None
+}
+
+// The height that is asked for.
+fn height_in(matches: &ArgMatches) -> Option<Height>
+    ensures found { IfSome result (λ height. first_of (codes "height") (rows_of (found_of matches.now)) ≡ Some (height_text height)) }
+    ensures none { IfNone result ((height : Height) → first_of (codes "height") (rows_of (found_of matches.now)) ≢ Some (height_text height)) }
+{
+    height_at(value_in(matches, "height")?)
+}
+
+// The width that is asked for.
+fn width_in(matches: &ArgMatches) -> Option<Width>
+    ensures found { IfSome result (λ width. first_of (codes "width") (rows_of (found_of matches.now)) ≡ Some (width_text width)) }
+    ensures none { IfNone result ((width : Width) → first_of (codes "width") (rows_of (found_of matches.now)) ≢ Some (width_text width)) }
+{
+    width_at(value_in(matches, "width")?)
+}
+
+/// The types of the key that the words after `key-gen` ask for. `Outside` comes exactly where they ask for none, want
+/// of memory aside.
+pub(crate) fn read_key_gen(alloc: Global, words: &[String]) -> Result<(Height, Width), WordsFault>
+    ensures found { IfOk result (λ found. AsksKey found.0 found.1 (map string_bytes words.now)) }
+    ensures outside { IsErrOf result WordsFault.Outside
+        → (height : Height) (width : Width) → AsksKey height width (map string_bytes words.now) → ⊥ }
+{
+    let Ok(command) = key_gen_command(alloc) else {
+        return Err(WordsFault::Memory);
+    };
+    let matches = take_words(command, words)?;
+    let Some(height) = height_in(&matches) else {
+        return Err(WordsFault::Outside);
+    };
+    let Some(width) = width_in(&matches) else {
+        return Err(WordsFault::Outside);
+    };
+    Ok((height, width))
+}

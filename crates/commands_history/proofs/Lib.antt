@@ -1,0 +1,6 @@
+pub mod Ends
+pub mod Entered
+pub mod Gathered
+pub mod Outcomes
+pub mod OneHistory
+pub mod Counted

@@ -1,0 +1,53 @@
+-- What was read of a store when something came of adding an entry to it.
+use Rattle.std.proofs.Common.{◌≡◌, ◌<◌, ℕ, List, length, subst}
+use Rattle.std.specs.Prelude.{Option, Some, Result, Ok, Err}
+use Rattle.git_object.specs.Repository.{Repository, value_of}
+use Rattle.keeper_api.specs.Undisturbed.{Undisturbed}
+use Rattle.keeper_api.specs.declared.keepers.Keeper as keeper
+use Rattle.edge_disk.specs.Disk.{IsKept}
+use Rattle.edge_disk.specs.declared.disks.Disk as disk
+use Rattle.log_entries.specs.declared.entries.EntryBody.{EntryBody}
+use Rattle.log_entries.specs.declared.entries.EntryBody.TheVariants.{Reference}
+use Rattle.lms_keys.specs.Secret.{Secret}
+use Rattle.rsl_chain.specs.Logs.{IsLogOf}
+use Rattle.commands_log.proofs.Moved.{append_from, same_twice}
+use Rattle.commands_log.specs.Appending.{AppendEnds}
+use Rattle.commands_log.specs.Recording.{Tries}
+use Rattle.commands_log.specs.declared.appending.AppendFault.{AppendFault}
+use Rattle.commands_log.specs.declared.appending.AppendFault.TheVariants.{ClockFailed, Exhausted, DiskFailed, CommitFailed, Memory, MemoryAfter}
+use Rattle.commands_log.specs.declared.appending.Appended.{Appended}
+
+module _ {R D : Type 0} (keeper_of : keeper.Ghosts R) (disk_of : disk.Ghosts D) (secret : Secret) (old new : R) (file file_now : D) (ids : List (List ℕ)) (body : EntryBody) (left left_now : Option (List ℕ)) where
+  -- what is told afterwards was told before
+  told_before : (result : Result Appended AppendFault) → AppendEnds keeper_of disk_of secret old new file file_now ids body left left_now result
+      → (now : Repository) → keeper_of.content new ≡ Some now → (was : Repository) × (keeper_of.content old ≡ Some was)
+  told_before (Ok appended) ends now held = (let was = ends.0.is.gains.held now held in (was.0, was.1))
+  told_before (Err ClockFailed) ends now held = (now, ends.0.store.content now held)
+  told_before (Err Exhausted) ends now held = (now, ends.is.0.store.content now held)
+  told_before (Err DiskFailed) ends now held = (now, ends.is.0.content now held)
+  told_before (Err CommitFailed) ends now held = (let was = ends.is.gains.held now held in (was.0, was.1))
+  told_before (Err Memory) ends now held = (now, ends.is.store.content now held)
+  told_before (Err MemoryAfter) ends now held = (now, ends.is.0.content now held)
+
+module _ {R D : Type 0} (keeper_of : keeper.Ghosts R) (disk_of : disk.Ghosts D) (name : List ℕ) (left left_now : Option (List ℕ)) where
+  -- the log was read, then the reference's value, and then adding its entry came to this
+  pub tried : (secret : Secret) (ids : List (List ℕ)) (target : List ℕ) (body : EntryBody) (old opened mid new : R) (file file_mid file_now : D) (result : Result Appended AppendFault)
+      → length ids < 1000000 → Undisturbed keeper_of old opened → Undisturbed keeper_of opened mid
+      → IsKept (disk_of.seen file) (disk_of.seen file_mid) (disk_of.may_leave file) (disk_of.may_leave file_mid)
+      → ((r : Repository) → keeper_of.content opened ≡ Some r → IsLogOf r ids)
+      → ((r : Repository) → keeper_of.content mid ≡ Some r → target ≡ value_of r name)
+      → body ≡ Reference name target
+      → AppendEnds keeper_of disk_of secret mid new file_mid file_now ids body left left_now result
+      → Tries keeper_of disk_of name left left_now old new file file_now result
+  tried secret ids target body old opened mid new file file_mid file_now result short first next kept log value is ends = record {
+    secret = secret;
+    ids = ids;
+    target = target;
+    short = short;
+    read = λ now held.
+        let was = told_before keeper_of disk_of secret mid new file_mid file_now ids body left left_now result ends now held in
+        let then = next.content was.0 was.1 in
+        (was.0, first.content was.0 then, record { log = log was.0 then; value = value was.0 was.1 });
+    ends = append_from keeper_of disk_of secret old mid new file file_mid file_now (same_twice keeper_of old opened mid first next) kept ids (Reference name target) left left_now result
+        (subst (λ (b : EntryBody). AppendEnds keeper_of disk_of secret mid new file_mid file_now ids b left left_now result) is ends);
+  }

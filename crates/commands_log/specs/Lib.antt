@@ -1,0 +1,10 @@
+pub mod Untouched
+pub mod Lines
+pub mod Entries
+pub mod Opening
+pub mod Drafting
+pub mod Signing
+pub mod Stores
+pub mod Appending
+pub mod Recording
+pub mod Outcomes
