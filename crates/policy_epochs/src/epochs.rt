@@ -6,8 +6,7 @@ ghost use Rattle.policy_epochs.specs.Epochs.{AreEpochs, below, fault_under, next
 ghost use Rattle.policy_epochs.specs.Standing.{Found, IsNext, Stands, verdict_of};
 ghost use Rattle.policy_epochs.specs.Succession.{succession};
 
-use crate::succession::succession;
-use crate::{EpochVerdict, Policy, PolicyFault};
+use crate::{EpochVerdict, Policy, PolicyFault, succession_fault};
 use octets::Memory;
 use root_metadata::KeyIds;
 use std::alloc::Global;
@@ -44,7 +43,7 @@ impl Epochs {
     fn fault(&self, alloc: Global, policy: &Policy) -> Result<Option<PolicyFault>, Memory>
         ensures { IfOk result (λ fault. fault ≡ succession self.now.anchor self.now.current policy.now) }
     {
-        succession(alloc, &self.anchor, &self.current, policy)
+        succession_fault(alloc, &self.anchor, self.current.as_ref(), policy)
     }
 
     // Keeps the policy where it takes effect.

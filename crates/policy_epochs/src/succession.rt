@@ -1,6 +1,7 @@
 //! What keeps a valid policy from following the one in force.
 
 ghost use Rattle.std.specs.Prelude.{◌≡◌, ◌==◌, ◌+◌, IfOk};
+ghost use Rattle.std.specs.Option.{option_copied};
 ghost use Rattle.policy_epochs.specs.Succession.{anchor_fault, dropped_fault, following_fault, lowered_fault, root_fault, same_root, signing_fault, succession, version_fault};
 
 use crate::anchors::are_exactly;
@@ -120,14 +121,14 @@ fn following_fault(alloc: Global, old: &Policy, new: &Policy) -> Result<Option<P
 }
 
 /// What keeps a valid policy from taking effect under the one in force, or from being the first where none is: the first rule
-/// that it breaks.
-pub(crate) fn succession(
+/// that it breaks. Where ids are given, the first policy's root role must have exactly their keys.
+pub fn succession_fault(
     alloc: Global,
     anchor: &Option<KeyIds>,
-    current: &Option<Policy>,
+    current: Option<&Policy>,
     new: &Policy,
 ) -> Result<Option<PolicyFault>, Memory>
-    ensures { IfOk result (λ fault. fault ≡ succession anchor.now current.now new.now) }
+    ensures { IfOk result (λ fault. fault ≡ succession anchor.now (option_copied current.entry) new.now) }
 {
     match current {
         None => Ok(anchor_fault(anchor, new)),

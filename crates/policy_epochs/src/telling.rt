@@ -1,19 +1,22 @@
 //! The faults of policies as verdicts tell them.
 
 ghost use Rattle.std.specs.Prelude.{◌≡◌, ◌++◌, IfOk, OnOk, codes, decimal};
+ghost use Rattle.escaped_text.specs.Escaped.{escaped};
 ghost use Rattle.policy_epochs.specs.Telling.{fault_number, fault_text, forest_text};
 
 use crate::PolicyFault;
+use escaped_text::append_escaped;
 use itoa::Buffer;
 use octets::{Memory, Octets};
 use rule_delegations::AssembleFault;
 use std::alloc::Global;
 
+// Words, and a name as one word.
 fn named(alloc: Global, words: &[u8], name: &[u8]) -> Result<Octets, Memory>
-    ensures { IfOk result (λ text. text ≡ words.now ++ name.now) }
+    ensures { IfOk result (λ text. text ≡ words.now ++ escaped name.now) }
 {
     let mut text = Octets::from_slice(alloc, words)?;
-    text.append(name)?;
+    append_escaped(&mut text, name)?;
     Ok(text)
 }
 
@@ -43,7 +46,7 @@ fn numbered(
 }
 
 fn of_file(alloc: Global, file: &[u8], got: usize, need: u32) -> Result<Octets, Memory>
-    ensures { IfOk result (λ text. text ≡ codes "file-threshold " ++ file.now ++ codes " " ++ decimal got ++ codes " of " ++ decimal need) }
+    ensures { IfOk result (λ text. text ≡ codes "file-threshold " ++ escaped file.now ++ codes " " ++ decimal got ++ codes " of " ++ decimal need) }
 {
     let mut text = named(alloc, b"file-threshold ", file)?;
     text.append(b" ")?;

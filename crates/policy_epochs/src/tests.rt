@@ -83,3 +83,11 @@ fn roots_follow_one_another(rt: HostRuntime) -> Result<(), Fail> {
     std::assert!(rt; are_told(alloc, &mut epochs)?);
     Ok(())
 }
+
+#[test]
+fn a_name_is_told_as_one_word(rt: HostRuntime) -> Result<(), Fail> {
+    let file = Octets::from_slice(rt.alloc(), b"a b%")?;
+    let text = PolicyFault::BadFile { file }.text(rt.alloc())?;
+    std::assert_eq!(rt; text.as_slice(), b"bad-file a%20b%25".as_slice());
+    Ok(())
+}

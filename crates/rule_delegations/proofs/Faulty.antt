@@ -5,7 +5,7 @@ use Rattle.std.specs.Ordering.{ordering_reverse}
 use Rattle.std.specs.Str.{bytes_eq}
 use Rattle.std.specs.declared.cmp.Ordering.{Ordering}
 use Rattle.std.specs.declared.cmp.Ordering.TheVariants.{Less, Equal, Greater}
-use Rattle.std.proofs.lemmas.Bool.{cases_eq, cases_lt, false≢true}
+use Rattle.std.proofs.lemmas.Bool.{cases_eq, false≢true}
 use Rattle.std.proofs.lemmas.Cmp.{nat_list_cmp_total}
 use Rattle.std.proofs.lemmas.List.Sums.{sum_by-append}
 use Rattle.std.proofs.lemmas.Option.{slice_get_cases}
@@ -13,7 +13,7 @@ use Rattle.std.proofs.lemmas.Slice.Eq.{bytes_eq-Decides}
 use Rattle.octets.specs.BytesMap.{by_bytes}
 use Rattle.rule_files.specs.declared.rules.Rule.{Rule}
 use Rattle.rule_files.specs.declared.rules.RuleFile.{RuleFile}
-use Rattle.rule_delegations.specs.Assembling.{HasFault, IsCutOff, IsFirstDeep, IsFirstFault, IsFirstName, IsLeast, IsTwice, NoName, excess, file_names, rule_names, times}
+use Rattle.rule_delegations.specs.Assembling.{IsCutOff, IsFirstFault, IsFirstName, IsTwice, NoName, excess, file_names, rule_names, times}
 use Rattle.rule_delegations.specs.Chains.{IsNamed, rule_at}
 use Rattle.rule_delegations.specs.Deep.{BeginsAt, BeginsIn, EndsFirst, IsDeepName, IsFirstEnd}
 use Rattle.rule_delegations.specs.Forests.{AreDistinct, link_at, rules_of}
@@ -22,7 +22,7 @@ use Rattle.rule_delegations.specs.declared.assembling.AssembleFault.{AssembleFau
 use Rattle.rule_delegations.specs.declared.assembling.AssembleFault.TheVariants.{DuplicateName, Unreachable, TooDeep, TooMany}
 use Rattle.rule_delegations.specs.declared.places.RuleRef.{RuleRef}
 use Rattle.rule_delegations.proofs.Deepening.{alone, below_link, below_none, deep_end, deep_here, deep_later, end_there, first_deep, none_deep}
-use Rattle.rule_delegations.proofs.Faults.{no_file, none_first_deep, not_deep, once_distinct, passed}
+use Rattle.rule_delegations.proofs.Faults.{no_file, none_first_deep, once_distinct, passed}
 use Rattle.rule_delegations.proofs.Naming.{rule_in}
 use Rattle.rule_delegations.proofs.Offcuts.{IsOff, cut_off, off_cut}
 use Rattle.rule_delegations.proofs.Closing.{Decided, below_number, is_text, is_true, is_within, marks_are}

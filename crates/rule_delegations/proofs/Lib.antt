@@ -1,11 +1,11 @@
-mod Orders
+pub mod Orders
 mod Families
 mod Turns
 mod Naming
 mod Exact
-mod Reaching
-mod Searched
-mod Tellings
+pub mod Reaching
+pub mod Searched
+pub mod Tellings
 mod Seeing
 mod Linking
 mod Spreading

@@ -5,6 +5,8 @@ use Rattle.ref_patterns.specs.declared.space.Space.{Space}
 use Rattle.ref_patterns.specs.Globs.{matches}
 use Rattle.ref_patterns.specs.Patterns.{Parts, same_space}
 use Rattle.root_metadata.specs.Persons.{count_in}
+use Rattle.root_metadata.specs.Risings.{has_key}
+use Rattle.root_metadata.specs.declared.persons.Person.{Person}
 use Rattle.rule_files.specs.declared.rules.Rule.{Rule}
 use Rattle.rule_files.specs.declared.rules.RuleFile.{RuleFile}
 use Rattle.rule_delegations.specs.declared.places.RuleRef.{RuleRef}
@@ -82,6 +84,21 @@ pub record IsMet (files : List RuleFile) (name : Name) (signers : List (List ℕ
 -- no chain is reached, or some reached chain's last rule is met
 abbrev pub Meets : List RuleFile → Name → List (List ℕ) → Type 0
 Meets files name signers = ((chain : List RuleRef) → Reached files name chain → ⊥) ⊎ ((chain : List RuleRef) × IsMet files name signers chain)
+
+-- the key is one of some person's
+abbrev pub is_listed : List Person → List ℕ → Bool
+is_listed persons key = list_any (λ person. has_key (λ id. id) person.keyids key) persons
+
+-- a reached chain's last rule has a person with the key
+pub record IsListed (files : List RuleFile) (name : Name) (key : List ℕ) (chain : List RuleRef) : Type 0 where
+  pub reached : Reached files name chain
+  pub rule : Rule
+  pub is : last_rule files chain ≡ Some rule
+  pub listed : is_listed rule.persons key ≡ true
+
+-- no chain is reached, or some reached chain's last rule has a person with the key
+abbrev pub MayAct : List RuleFile → Name → List ℕ → Type 0
+MayAct files name key = ((chain : List RuleRef) → Reached files name chain → ⊥) ⊎ ((chain : List RuleRef) × IsListed files name key chain)
 
 -- of the first reached chain's last rule: its place, how many of its persons have a key in the set, and its threshold
 pub record IsShortBy (files : List RuleFile) (name : Name) (signers : List (List ℕ)) (short : Short) : Type 0 where

@@ -5,6 +5,8 @@ use Rattle.std.specs.Prelude.{nat_le}
 use Rattle.std.specs.List.{list_any}
 use Rattle.std.specs.Option.{option_map_or}
 use Rattle.root_metadata.specs.Persons.{count_in}
+use Rattle.rule_delegations.specs.declared.meeting.Asked.{Asked}
+use Rattle.rule_delegations.specs.declared.meeting.Asked.TheVariants.{IsMet, Lists}
 use Rattle.rule_delegations.specs.declared.meeting.Told.{Told}
 use Rattle.rule_delegations.specs.declared.meeting.Told.TheVariants.{Met, Stopped, Passed}
 use Rattle.rule_delegations.specs.Chains.{rule_at}
@@ -12,7 +14,7 @@ use Rattle.rule_files.specs.declared.rules.Rule.{Rule}
 use Rattle.rule_files.specs.declared.rules.RuleFile.{RuleFile}
 use Rattle.rule_delegations.specs.declared.places.RuleRef.{RuleRef}
 use Rattle.rule_delegations.specs.Forests.{place_named, rules_of}
-use Rattle.rule_delegations.specs.Reached.{Name, rule_matches}
+use Rattle.rule_delegations.specs.Reached.{Name, is_listed, rule_matches}
 
 pub record Found : Type 0 where
   pub chains : List (List RuleRef)
@@ -70,10 +72,19 @@ pub record Adds (old new : List RuleRef) (stopped : Bool) (found : Found) : Type
 abbrev pub GoesOn : List RuleRef → Found → List RuleRef → Found → Type 0
 GoesOn old whole now rest = (end : List RuleRef) (stopped : Bool) → Adds now end stopped rest → Adds old end stopped whole
 
--- the rule at a place has enough persons among the signers
-abbrev pub is_met : List RuleFile → List (List ℕ) → RuleRef → Bool
-is_met files signers place = option_map_or (λ rule. nat_le rule.threshold (count_in rule.persons signers)) (rule_at files place) false
+-- a rule has enough persons among the signers
+abbrev pub is_enough : List (List ℕ) → Rule → Bool
+is_enough signers rule = nat_le rule.threshold (count_in rule.persons signers)
 
--- what a search tells: whether some rule that it found is met, and else whether it ended
-abbrev pub told : List RuleFile → List (List ℕ) → Found → Told
-told files signers found = (if list_any (is_met files signers) found.places then Met else (if found.stopped then Stopped else Passed))
+-- the rule at a place passes a test
+abbrev pub passes_at : List RuleFile → (Rule → Bool) → RuleRef → Bool
+passes_at files test place = option_map_or test (rule_at files place) false
+
+-- what a search tells: whether some rule that it found passes the test, and else whether it ended
+abbrev pub told : List RuleFile → (Rule → Bool) → Found → Told
+told files test found = (if list_any (passes_at files test) found.places then Met else (if found.stopped then Stopped else Passed))
+
+-- what is asked of a rule, as a test of it
+abbrev pub test_of : Asked → Rule → Bool
+test_of (IsMet signers) rule = is_enough signers.now rule
+test_of (Lists key) rule = is_listed rule.persons key.now

@@ -6,17 +6,17 @@ ghost use Rattle.rule_delegations.specs.declared.assembling.AssembleFault.TheVar
 ghost use Rattle.rule_delegations.specs.Assembling.{HasFault};
 ghost use Rattle.rule_delegations.specs.Chains.{rule_at};
 ghost use Rattle.rule_delegations.specs.Forests.{IsPolicy};
-ghost use Rattle.rule_delegations.specs.Reached.{AreReached, IsFirstReached, IsShort, Meets};
+ghost use Rattle.rule_delegations.specs.Reached.{AreReached, IsFirstReached, IsShort, MayAct, Meets};
 
 use crate::assembling::forest_of;
 use crate::forest::Forest;
 use crate::matching::rule_matches;
-use crate::meeting::{Told, meets_file};
+use crate::meeting::{Asked, Told, tell_file};
 use crate::searching::search_file;
 use crate::{AssembleFault, RuleRef, Short};
 use octets::Memory;
 use ref_patterns::Space;
-use root_metadata::{KeyIds, count_in};
+use root_metadata::{KeyId, KeyIds, count_in};
 use rule_files::{Rule, RuleFile, RuleFiles};
 use std::alloc::Global;
 use std::marker::Model;
@@ -56,9 +56,10 @@ impl Rules {
         }
     }
 
-    /// The files, of which the first is the top file, lent.
+    /// The files, of which the first is the top file, lent. No two have one name, and no chain is longer than eight.
     pub fn files(&self) -> &[RuleFile]
-        ensures { result.now ≡ self.now }
+        ensures value { result.now ≡ self.now }
+        ensures policy { IsPolicy self.now }
     {
         self.forest.files()
     }
@@ -103,7 +104,25 @@ impl Rules {
     pub fn meets(&self, space: Space, text: &[u8], signers: &KeyIds) -> bool
         ensures { IsTrue result ↔ Meets self.now (record { space = space; text = text.now }) signers.now }
     {
-        match meets_file(&self.forest, 0, DEEPEST, space, text, signers) {
+        match tell_file(
+            &self.forest,
+            0,
+            DEEPEST,
+            space,
+            text,
+            &Asked::IsMet(signers),
+        ) {
+            Told::Met => true,
+            _ => self.first_reached(space, text).is_none(),
+        }
+    }
+
+    /// Whether a key may act for a name: the name reaches no rule, or some reached rule has a person with the key. It takes no
+    /// memory.
+    pub fn lists(&self, space: Space, text: &[u8], key: &KeyId) -> bool
+        ensures { IsTrue result ↔ MayAct self.now (record { space = space; text = text.now }) key.now }
+    {
+        match tell_file(&self.forest, 0, DEEPEST, space, text, &Asked::Lists(key)) {
             Told::Met => true,
             _ => self.first_reached(space, text).is_none(),
         }

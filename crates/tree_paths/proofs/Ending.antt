@@ -66,7 +66,7 @@ value_alike : (v : Option PathValue) → alike v v ≡ true
 value_alike None = refl
 value_alike (Some v) = (λ i. eq-eqb (mode_number v.0) (mode_number v.0) refl i && (bytes_eq-Decides v.1 v.1).1 refl i)
 
-differs_tells : (v w : Option PathValue) (b : Bool) → b ≡ not (alike v w) → IsTrue b ↔ (v ≢ w)
+pub differs_tells : (v w : Option PathValue) (b : Bool) → b ≡ not (alike v w) → IsTrue b ↔ (v ≢ w)
 differs_tells v w b is = by_test (alike v w) refl b is
   where
     by_test : (t : Bool) → alike v w ≡ t → (b : Bool) → b ≡ not t → IsTrue b ↔ (v ≢ w)

@@ -11,4 +11,4 @@ returns-in-Met c = (
 pub returns-in_default : goal.returns-in_default
 returns-in_default c =
     rw (← c.self.view_is) (by_first c.self.inside.forest (record { space = c.args.space; text = c.args.text.now }) c.args.signers.now c.self.invariant
-    c.first_reached.result c.is_none.result c.is_none.ensures (rw (← c.self.view_is) at c.first_reached.ensures.first) (λ e. c.in_default.not-Met (c.meets_file.ensures ∙ sym e)))
+    c.first_reached.result c.is_none.result c.is_none.ensures (rw (← c.self.view_is) at c.first_reached.ensures.first) (λ e. c.in_default.not-Met (c.tell_file.ensures ∙ sym e)))

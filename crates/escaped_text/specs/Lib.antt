@@ -1,0 +1,2 @@
+-- bytes as one printable word
+pub mod Escaped

@@ -1,0 +1,14 @@
+use Rattle.std.proofs.Common.{◌∙◌, sym}
+use Rattle.std.specs.Prelude.{None, Some}
+use Rattle.log_epochs.proofs.Passing.{fault_behind}
+use Rattle.log_epochs.proofs.loading.epoch_fault.Goals as goal
+
+pub returns-in-Ok-Opened-clause-fault : goal.returns-in-Ok-Opened-clause-fault
+returns-in-Ok-Opened-clause-fault g c = λ r told entries are.
+    let stands = c.in-Ok.ensures.stands r (c.in-Ok-Opened.ensures.same.content r told) in
+    fault_behind c.args.anchor r entries c.in-Ok.epochs c.args.target.now None c.in-Ok.ensures.anchor (stands.for entries are) (sym c.in-Ok-Opened.field-0-is ∙ c.in-Ok-Opened.ensures.verdict r told)
+
+pub returns-in-Ok-Refused-clause-fault : goal.returns-in-Ok-Refused-clause-fault
+returns-in-Ok-Refused-clause-fault g c = λ r told entries are.
+    let stands = c.in-Ok.ensures.stands r (c.in-Ok-Refused.ensures.same.content r told) in
+    fault_behind c.args.anchor r entries c.in-Ok.epochs c.args.target.now (Some c.in-Ok-Refused.fault) c.in-Ok.ensures.anchor (stands.for entries are) (sym c.in-Ok-Refused.field-0-is ∙ c.in-Ok-Refused.ensures.verdict r told)

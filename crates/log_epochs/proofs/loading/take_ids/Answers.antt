@@ -1,0 +1,26 @@
+use Rattle.std.proofs.Common.{◌∙◌, refl, rules}
+use Rattle.log_epochs.proofs.Passing.{all_taken, misses, none_taken, one_more}
+use Rattle.log_epochs.proofs.loading.take_ids.Goals as goal
+
+pub ids-init : goal.ids-init
+ids-init g c = record {
+  anchor = refl;
+  stands = λ r told. none_taken r c.args.ids.now c.args.epochs.now c.requires;
+  same = search rules;
+  quiet = refl;
+}
+
+pub returns-in-Err-clause-broken : goal.returns-in-Err-clause-broken
+returns-in-Err-clause-broken g c = λ r told. misses r c.args.ids.now c.ids.id-index c.id-item.result c.in-Err.fault c.ids-test.true c.id-item.is (c.in-Err.ensures.broken r told)
+
+pub ids-preserved : goal.ids-preserved
+ids-preserved g c = record {
+  anchor = c.in-Ok.ensures.anchor ∙ c.ids.invariant.anchor;
+  stands = λ r told. one_more r c.args.ids.now c.ids.id-index c.id-item.result c.ids.epochs c.take_id.new.epochs c.ids-test.true c.id-item.is (c.in-Ok.ensures.takes r told)
+      (c.ids.invariant.stands r (c.in-Ok.ensures.same.content r told));
+  same = search rules;
+  quiet = search rules;
+}
+
+pub returns-clause-stands : goal.returns-clause-stands
+returns-clause-stands g c = λ r told. all_taken r c.args.ids.now c.ids.id-index c.ids.epochs c.ids-test.false c.ids.auto.id-index-end (c.ids.invariant.stands r told)

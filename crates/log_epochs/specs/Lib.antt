@@ -1,0 +1,2 @@
+-- the policy in force after the entries of a log
+pub mod InForce

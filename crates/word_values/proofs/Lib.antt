@@ -1,0 +1,3 @@
+pub mod Joined
+pub mod OneValue
+pub mod Parts
