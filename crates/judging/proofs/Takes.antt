@@ -2,7 +2,7 @@
 use Rattle.std.proofs.Common.{◌≡◌, ◌↔◌, ◌==◌, ◌&&◌, ◌<◌, ◌≤◌, ◌+◌, ◌-◌, ◌++◌, ℕ, suc, Bool, true, false, cond, not, nat_lt, is_none, is_some, ⊎_elim, List, [], ◌∷◌, Option, Some, None, Result, Ok, Err, length, map, refl, ap, sym, subst, inl, inr, ◌∙◌, arith}
 use Rattle.std.specs.List.{list_any, slice_get}
 use Rattle.std.specs.Option.{option_and_then, option_map, unwrap_or}
-use Rattle.std.specs.Result.{OnErr, result_err}
+use Rattle.std.specs.Result.{OnErr, OnOk, result_err}
 use Rattle.std.specs.Str.{bytes_eq}
 use Rattle.std.specs.Cmp.Lexicographic.{bytes_decides}
 use Rattle.std.proofs.lemmas.Bool.{and_parts, cases_Bool, cases_eq, ne_eqb, true≢false}
@@ -20,7 +20,7 @@ use Rattle.judging.specs.Engines.{IsTaken, KeepsNothing, KeepsReference, Stands,
 use Rattle.judging.specs.Logs.{above, attested_after, authorised, before, body_fault, body_signers, completes, entry_at, fault_at, fault_of, from, has_id, is_entry_of, keeps_tree, lane, last_signers, next_attested, next_policy, opened, ordinary_fault, ordinary_signers, pending, policy_after, prior, prior_target, rescued, signers_of, target_at}
 use Rattle.judging.specs.Standings.{standing_at, standing_of}
 use Rattle.judging.specs.Steps.{recorded}
-use Rattle.judging.specs.Reading.{body_reads, reads_of}
+use Rattle.judging.specs.Reading.{body_bounded, body_reads, is_bounded, reads_of}
 use Rattle.judging.specs.Tips.{IsTip}
 use Rattle.judging.specs.Verdicts.{IsJudged, answer_of, body_verdict, verdict_of}
 use Rattle.judging.specs.declared.deciding.Decision.{Decision}
@@ -37,6 +37,11 @@ use Rattle.judging.proofs.LaneSteps.{Decides, reference_lanes}
 pub on_err : {T E : Type 0} {Q : Type 0} → (r : Result T E) → Q → OnErr r Q
 on_err (Ok x) q = tt
 on_err (Err x) q = q
+
+-- what follows of what holds where there is an answer
+pub on_ok : {T E A B : Type 0} → (r : Result T E) → OnOk r A → (A → B) → OnOk r B
+on_ok (Ok x) a then = then a
+on_ok (Err x) a then = tt
 
 module _ {P F : Type 0} (rules : Rules P F) (log : List Taken) (t : Taken) where
   pub policy_push : policy_after rules (log ++ t ∷ []) ≡ next_policy rules (policy_after rules log) t
@@ -206,6 +211,12 @@ module _ {P F : Type 0} (rules : Rules P F) (log : List Taken) (t : Taken) (name
       ∙ ap (λ f. decision_reads rules t.repository (policy_after rules log) t.entry name f (attested_after log) + rules.tree_reads t.repository f target) (sym here)
       ∙ ap (λ p. decision_reads rules t.repository p t.entry name (standing_of e.book name).from (attested_after log) + rules.tree_reads t.repository (standing_of e.book name).from target) (sym stands.policy)
       ∙ ap (λ a. decision_reads rules t.repository e.policy t.entry name (standing_of e.book name).from a + rules.tree_reads t.repository (standing_of e.book name).from target) (sym stands.attested)
+
+  -- and bounded where the definitions say so
+  pub bounded_is : Stands rules log e → is_bounded rules log t ≡ rules.bounded t.repository (standing_of e.book name).from target
+  bounded_is stands =
+      let here = ap (λ s. s.from) (standing_is rules log t e name stands) in
+      ap (body_bounded rules log t) body ∙ ap (λ f. rules.bounded t.repository f target) (sym here)
 
   -- the verdict of a look
   pub looked : (d : Decision P F) (s : Standing) (verdict : EntryVerdict F) → Stands rules log e → s ≡ standing_of e.book name → d ≡ decision rules t.repository e.policy t.entry name s.from e.attested → verdict ≡ answer_of d.fault → verdict ≡ verdict_of rules log t

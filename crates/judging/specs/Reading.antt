@@ -1,5 +1,5 @@
 -- The reads of objects that taking an entry may cost: those of the rules that decide it.
-use Rattle.std.specs.Prelude.{◌+◌, ℕ, List}
+use Rattle.std.specs.Prelude.{◌+◌, ℕ, Bool, true, List}
 use Rattle.log_entries.specs.Entries.{Taken}
 use Rattle.log_entries.specs.declared.entries.EntryBody.{EntryBody}
 use Rattle.log_entries.specs.declared.entries.EntryBody.TheVariants.{Reference, Annotation}
@@ -15,3 +15,11 @@ body_reads rules earlier t (Annotation ids skip message) = 0
 -- of the entry that comes after these
 abbrev pub reads_of : {P F : Type 0} → Rules P F → List Taken → Taken → ℕ
 reads_of rules earlier t = body_reads rules earlier t t.entry.body
+
+-- whether the reads for what a body records are bounded
+abbrev pub body_bounded : {P F : Type 0} → Rules P F → List Taken → Taken → EntryBody → Bool
+body_bounded rules earlier t (Reference name target) = rules.bounded t.repository (from rules earlier name) target
+body_bounded rules earlier t (Annotation ids skip message) = true
+
+abbrev pub is_bounded : {P F : Type 0} → Rules P F → List Taken → Taken → Bool
+is_bounded rules earlier t = body_bounded rules earlier t t.entry.body

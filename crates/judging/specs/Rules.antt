@@ -4,7 +4,7 @@ use Rattle.std.specs.Str.{bytes_eq}
 use Rattle.git_object.specs.Repository.{Repository}
 use Rattle.log_entries.specs.declared.entries.Entry.{Entry}
 
--- each of them in the repository in which the entry is judged; the last three bound the reads of an object that a
+-- each of them in the repository in which the entry is judged; the last four bound the reads of an object that a
 -- store makes where it answers for a rule
 pub record Rules (P F : Type 0) : Type 0 where
   -- the fault of an entry where no policy is in force
@@ -23,6 +23,8 @@ pub record Rules (P F : Type 0) : Type 0 where
   -- whether a key may skip entries of a reference
   pub may_skip : P → List ℕ → List ℕ → Bool
   pub epoch_reads : Repository → Option P → Entry → ℕ
+  -- whether the reads for a change from one target to another are bounded
+  pub bounded : Repository → List ℕ → List ℕ → Bool
   pub fault_reads : Repository → P → Entry → List ℕ → Option (List ℕ) → ℕ
   pub tree_reads : Repository → List ℕ → List ℕ → ℕ
 

@@ -1,13 +1,13 @@
 //! What is found of an entry of a reference, before anything is kept.
 
-ghost use Rattle.std.specs.Prelude.{◌≡◌, ◌+◌, ◌≤◌, ℕ, Some, IfOk};
+ghost use Rattle.std.specs.Prelude.{◌≡◌, ◌+◌, ◌≤◌, ℕ, Some, true, IfOk, OnOk};
 ghost use Rattle.std.specs.Option.{option_copied};
 ghost use Rattle.std.specs.Str.{bytes_eq};
 ghost use Rattle.octets.specs.Causes.{HasCause};
 ghost use Rattle.git_object.specs.Repository.{Repository};
-ghost use Rattle.log_entries.specs.Entries.{policy_name};
+ghost use Rattle.log_entries.specs.Entries.{policy_name, target_of};
 ghost use Rattle.judging.specs.Decisions.{decision, decision_reads, epoch_decision, ordinary_decision, ordinary_reads};
-ghost use Rattle.judging.specs.Judges.{IsSteady, judge_failed};
+ghost use Rattle.judging.specs.Judges.{KeepsStore, judge_failed};
 
 use crate::{Judge, JudgeFault, KeyIds};
 use git_object::{ObjectId, RefName};
@@ -30,18 +30,19 @@ pub fn is_policy(name: &RefName) -> bool
 }
 
 // Of an entry of the policy's reference.
-fn decide_epoch<P, F, J: Judge<P, F>>(
+fn decide_epoch<P, F, S, J: Judge<P, F, S>>(
     alloc: Global,
-    judge: &mut J,
+    judge: &J,
+    store: &mut S,
     policy: Option<&P>,
     entry: &Entry,
 ) -> Result<Decision<P, F>, JudgeFault>
-    ensures answer { IfOk result (λ found. (r : Repository) → J.content judge.new ≡ Some r → found ≡ epoch_decision (J.rules judge.old) r ((J.rules judge.old).epoch r (option_copied policy.entry) entry.now)) }
-    ensures same { IsSteady (J.rules judge.old) (J.rules judge.new) (J.content judge.old) (J.content judge.new) }
-    ensures cause { HasCause judge_failed (J.faults judge.old) (J.faults judge.new) result }
-    ensures reads { (r : Repository) → J.content judge.new ≡ Some r → J.reads judge.new ≤ J.reads judge.old + (J.rules judge.old).epoch_reads r (option_copied policy.entry) entry.now }
+    ensures answer { IfOk result (λ found. (r : Repository) → J.content store.new ≡ Some r → found ≡ epoch_decision (J.rules judge.now) r ((J.rules judge.now).epoch r (option_copied policy.entry) entry.now)) }
+    ensures same { KeepsStore J.content J.tells_left J.left store.old store.new }
+    ensures cause { HasCause judge_failed (J.faults store.old) (J.faults store.new) result }
+    ensures reads { (r : Repository) → J.content store.new ≡ Some r → J.reads store.new ≤ J.reads store.old + (J.rules judge.now).epoch_reads r (option_copied policy.entry) entry.now }
 {
-    match judge.epoch(alloc, policy, entry)? {
+    match judge.epoch(alloc, store, policy, entry)? {
         Ok(policy) => Ok(Decision {
             opened: Some(policy),
             fault: None,
@@ -56,18 +57,20 @@ fn decide_epoch<P, F, J: Judge<P, F>>(
 }
 
 // Of an entry of another reference.
-fn decide_ordinary<P, F, J: Judge<P, F>>(
+fn decide_ordinary<P, F, S, J: Judge<P, F, S>>(
     alloc: Global,
-    judge: &mut J,
+    judge: &J,
+    store: &mut S,
     policy: Option<&P>,
     entry: &Entry,
     from: &ObjectId,
     attested: Option<&ObjectId>,
 ) -> Result<Decision<P, F>, JudgeFault>
-    ensures answer { IfOk result (λ found. (r : Repository) → J.content judge.new ≡ Some r → found ≡ ordinary_decision (J.rules judge.old) r (option_copied policy.entry) entry.now from.now (option_copied attested.entry)) }
-    ensures same { IsSteady (J.rules judge.old) (J.rules judge.new) (J.content judge.old) (J.content judge.new) }
-    ensures cause { HasCause judge_failed (J.faults judge.old) (J.faults judge.new) result }
-    ensures reads { (r : Repository) → J.content judge.new ≡ Some r → J.reads judge.new ≤ J.reads judge.old + ordinary_reads (J.rules judge.old) r (option_copied policy.entry) entry.now from.now (option_copied attested.entry) }
+    ensures answer { IfOk result (λ found. (r : Repository) → J.content store.new ≡ Some r → found ≡ ordinary_decision (J.rules judge.now) r (option_copied policy.entry) entry.now from.now (option_copied attested.entry)) }
+    ensures same { KeepsStore J.content J.tells_left J.left store.old store.new }
+    ensures cause { HasCause judge_failed (J.faults store.old) (J.faults store.new) result }
+    ensures reads { OnOk result ((r : Repository) → J.content store.new ≡ Some r → (J.rules judge.now).bounded r from.now (target_of entry.now.body) ≡ true
+        → J.reads store.new ≤ J.reads store.old + ordinary_reads (J.rules judge.now) r (option_copied policy.entry) entry.now from.now (option_copied attested.entry)) }
 {
     let Some(policy) = policy else {
         return Ok(Decision {
@@ -76,7 +79,7 @@ fn decide_ordinary<P, F, J: Judge<P, F>>(
             signers: KeyIds::new(alloc),
         });
     };
-    let found = judge.find(alloc, policy, entry, from, attested)?;
+    let found = judge.find(alloc, store, policy, entry, from, attested)?;
     Ok(Decision {
         opened: None,
         fault: found.fault,
@@ -86,24 +89,25 @@ fn decide_ordinary<P, F, J: Judge<P, F>>(
 
 /// What is found of an entry of a reference, by the policy in force, where the reference stood before it and the
 /// attestations before it.
-pub fn decide<P, F, J: Judge<P, F>>(
+pub fn decide<P, F, S, J: Judge<P, F, S>>(
     alloc: Global,
-    judge: &mut J,
+    judge: &J,
+    store: &mut S,
     policy: Option<&P>,
     entry: &Entry,
     name: &RefName,
     from: &ObjectId,
     attested: Option<&ObjectId>,
 ) -> Result<Decision<P, F>, JudgeFault>
-    ensures answer { IfOk result (λ found. (r : Repository) → J.content judge.new ≡ Some r
-        → found ≡ decision (J.rules judge.old) r (option_copied policy.entry) entry.now name.now from.now (option_copied attested.entry)) }
-    ensures same { IsSteady (J.rules judge.old) (J.rules judge.new) (J.content judge.old) (J.content judge.new) }
-    ensures cause { HasCause judge_failed (J.faults judge.old) (J.faults judge.new) result }
-    ensures reads { (r : Repository) → J.content judge.new ≡ Some r
-        → J.reads judge.new ≤ J.reads judge.old + decision_reads (J.rules judge.old) r (option_copied policy.entry) entry.now name.now from.now (option_copied attested.entry) }
+    ensures answer { IfOk result (λ found. (r : Repository) → J.content store.new ≡ Some r
+        → found ≡ decision (J.rules judge.now) r (option_copied policy.entry) entry.now name.now from.now (option_copied attested.entry)) }
+    ensures same { KeepsStore J.content J.tells_left J.left store.old store.new }
+    ensures cause { HasCause judge_failed (J.faults store.old) (J.faults store.new) result }
+    ensures reads { OnOk result ((r : Repository) → J.content store.new ≡ Some r → (J.rules judge.now).bounded r from.now (target_of entry.now.body) ≡ true
+        → J.reads store.new ≤ J.reads store.old + decision_reads (J.rules judge.now) r (option_copied policy.entry) entry.now name.now from.now (option_copied attested.entry)) }
 {
     if is_policy(name) {
-        return decide_epoch(alloc, judge, policy, entry);
+        return decide_epoch(alloc, judge, store, policy, entry);
     }
-    decide_ordinary(alloc, judge, policy, entry, from, attested)
+    decide_ordinary(alloc, judge, store, policy, entry, from, attested)
 }

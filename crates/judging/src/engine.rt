@@ -5,7 +5,7 @@ ghost use Rattle.std.specs.Option.{option_copied};
 ghost use Rattle.octets.specs.Causes.{HasCause};
 ghost use Rattle.git_object.specs.Repository.{Repository};
 ghost use Rattle.log_entries.specs.Entries.{Taken};
-ghost use Rattle.judging.specs.Judges.{IsSteady, judge_failed};
+ghost use Rattle.judging.specs.Judges.{KeepsStore, judge_failed};
 ghost use Rattle.judging.specs.Rules.{Rules};
 ghost use Rattle.judging.specs.Logs.{is_entry_of, entry_at, last_signers, policy_after, prior_target, skipped};
 
@@ -95,62 +95,64 @@ impl<P: Drop, F: Copied> Engine<P, F> {
     ghost use Rattle.std.specs.Prelude.{◌++◌, ◌∷◌, unwrap_or};
     ghost use Rattle.judging.specs.Decisions.{decision_reads};
     ghost use Rattle.judging.specs.Engines.{IsTaken, Stands, has_taken, taken};
-    ghost use Rattle.judging.specs.Reading.{reads_of};
+    ghost use Rattle.judging.specs.Reading.{is_bounded, reads_of};
     ghost use Rattle.judging.specs.Verdicts.{IsJudged, verdict_of};
 
     /// Takes the next entry, of an id that no earlier one has, and answers whether it is authorised, refused for
     /// a fault, or an annotation. After a refusal the engine stands for the list that it stood for.
-    pub fn extend<J: Judge<P, F>>(
+    pub fn extend<S, J: Judge<P, F, S>>(
         &mut self,
         alloc: Global,
-        judge: &mut J,
+        judge: &J,
+        store: &mut S,
         entry: &Entry,
     ) -> Result<EntryVerdict<F>, JudgeFault>
         requires next { entry.now.number ≡ taken self.old + 1 }
         requires fresh { has_taken self.old entry.now.id ≡ false }
-        ensures taken { IfOk result (λ verdict. (r : Repository) (log : List Taken) → J.content judge.new ≡ Some r → Stands (J.rules judge.old) log self.old
-            → IsTaken (J.rules judge.old) log (record { entry = entry.now; repository = r }) self.new verdict) }
+        ensures taken { IfOk result (λ verdict. (r : Repository) (log : List Taken) → J.content store.new ≡ Some r → Stands (J.rules judge.now) log self.old
+            → IsTaken (J.rules judge.now) log (record { entry = entry.now; repository = r }) self.new verdict) }
         ensures count { OnOk result (taken self.new ≡ entry.now.number) }
         ensures refused { OnErr result ((rules : Rules P F) (log : List Taken) → Stands rules log self.old → Stands rules log self.new) }
-        ensures same { IsSteady (J.rules judge.old) (J.rules judge.new) (J.content judge.old) (J.content judge.new) }
-        ensures cause { HasCause judge_failed (J.faults judge.old) (J.faults judge.new) result }
-        ensures reads { (r : Repository) (log : List Taken) → J.content judge.new ≡ Some r → Stands (J.rules judge.old) log self.old
-            → J.reads judge.new ≤ J.reads judge.old + reads_of (J.rules judge.old) log (record { entry = entry.now; repository = r }) }
+        ensures same { KeepsStore J.content J.tells_left J.left store.old store.new }
+        ensures cause { HasCause judge_failed (J.faults store.old) (J.faults store.new) result }
+        ensures reads { OnOk result ((r : Repository) (log : List Taken) → J.content store.new ≡ Some r → Stands (J.rules judge.now) log self.old → is_bounded (J.rules judge.now) log (record { entry = entry.now; repository = r }) ≡ true
+            → J.reads store.new ≤ J.reads store.old + reads_of (J.rules judge.now) log (record { entry = entry.now; repository = r })) }
     {
         match &entry.body {
             EntryBody::Reference { name, target } => {
-                take_reference(alloc, self, judge, entry, name, target)
+                take_reference(alloc, self, judge, store, entry, name, target)
             }
             EntryBody::Annotation {
                 ids,
                 skip,
                 message: _,
             } => {
-                take_note(alloc, self, judge, entry, ids.as_slice(), *skip)?;
+                take_note::<P, F, S, J>(alloc, self, judge, entry, ids.as_slice(), *skip)?;
                 Ok(EntryVerdict::Noted)
             }
         }
     }
 
     /// What `extend` would answer of the next entry. Nothing changes.
-    pub fn look<J: Judge<P, F>>(
+    pub fn look<S, J: Judge<P, F, S>>(
         &self,
         alloc: Global,
-        judge: &mut J,
+        judge: &J,
+        store: &mut S,
         entry: &Entry,
     ) -> Result<EntryVerdict<F>, JudgeFault>
         requires next { entry.now.number ≡ taken self.now + 1 }
         requires fresh { has_taken self.now entry.now.id ≡ false }
-        ensures answer { IfOk result (λ verdict. (r : Repository) (log : List Taken) → J.content judge.new ≡ Some r → Stands (J.rules judge.old) log self.now
-            → verdict ≡ verdict_of (J.rules judge.old) log (record { entry = entry.now; repository = r })) }
-        ensures same { IsSteady (J.rules judge.old) (J.rules judge.new) (J.content judge.old) (J.content judge.new) }
-        ensures cause { HasCause judge_failed (J.faults judge.old) (J.faults judge.new) result }
-        ensures reads { (r : Repository) (log : List Taken) → J.content judge.new ≡ Some r → Stands (J.rules judge.old) log self.now
-            → J.reads judge.new ≤ J.reads judge.old + reads_of (J.rules judge.old) log (record { entry = entry.now; repository = r }) }
+        ensures answer { IfOk result (λ verdict. (r : Repository) (log : List Taken) → J.content store.new ≡ Some r → Stands (J.rules judge.now) log self.now
+            → verdict ≡ verdict_of (J.rules judge.now) log (record { entry = entry.now; repository = r })) }
+        ensures same { KeepsStore J.content J.tells_left J.left store.old store.new }
+        ensures cause { HasCause judge_failed (J.faults store.old) (J.faults store.new) result }
+        ensures reads { OnOk result ((r : Repository) (log : List Taken) → J.content store.new ≡ Some r → Stands (J.rules judge.now) log self.now → is_bounded (J.rules judge.now) log (record { entry = entry.now; repository = r }) ≡ true
+            → J.reads store.new ≤ J.reads store.old + reads_of (J.rules judge.now) log (record { entry = entry.now; repository = r })) }
     {
         match &entry.body {
             EntryBody::Reference { name, target: _ } => {
-                look_reference(alloc, self, judge, entry, name)
+                look_reference(alloc, self, judge, store, entry, name)
             }
             EntryBody::Annotation {
                 ids: _,

@@ -15,7 +15,7 @@ use octets::Memory;
 use std::alloc::Global;
 
 // The number of an id, where it is a reference's of which the key may skip entries.
-fn number_to_skip<P, F, J: Judge<P, F>>(
+fn number_to_skip<P, F, S, J: Judge<P, F, S>>(
     judge: &J,
     policy: &P,
     key: &KeyId,
@@ -35,7 +35,7 @@ fn number_to_skip<P, F, J: Judge<P, F>>(
 }
 
 // Skips the entry of an id, where the key may.
-fn skip_one<P, F, J: Judge<P, F>>(
+fn skip_one<P, F, S, J: Judge<P, F, S>>(
     judge: &J,
     policy: &P,
     key: &KeyId,
@@ -45,14 +45,14 @@ fn skip_one<P, F, J: Judge<P, F>>(
     ensures lanes { (hit : List ℕ → ℕ → Bool) → IsHit (J.rules judge.now) policy.now key.now book.old hit → HasLanes (λ name lane. without (hit id.now) lane) book.old book.new }
     ensures targets { book.new.targets ≡ book.old.targets }
 {
-    match number_to_skip(judge, policy, key, book, id) {
+    match number_to_skip::<P, F, S, J>(judge, policy, key, book, id) {
         Some(number) => book.skip(number),
         None => {}
     }
 }
 
 /// Skips the entries of the ids, where the key may.
-pub fn skip_all<P, F, J: Judge<P, F>>(
+pub fn skip_all<P, F, S, J: Judge<P, F, S>>(
     judge: &J,
     policy: &P,
     key: &KeyId,
@@ -63,12 +63,12 @@ pub fn skip_all<P, F, J: Judge<P, F>>(
     ensures targets { book.new.targets ≡ book.old.targets }
 {
     'ids: for id in ids {
-        skip_one(judge, policy, key, book, id);
+        skip_one::<P, F, S, J>(judge, policy, key, book, id);
     }
 }
 
 /// Skips the entries of the ids, where a policy is in force and the annotation is signed by a key of it that may.
-pub fn skip_listed<P, F, J: Judge<P, F>>(
+pub fn skip_listed<P, F, S, J: Judge<P, F, S>>(
     judge: &J,
     policy: Option<&P>,
     book: &mut Book<F>,
@@ -82,13 +82,13 @@ pub fn skip_listed<P, F, J: Judge<P, F>>(
         return;
     };
     match judge.skipper(policy, annotation) {
-        Some(key) => skip_all(judge, policy, &key, book, ids),
+        Some(key) => skip_all::<P, F, S, J>(judge, policy, &key, book, ids),
         None => {}
     }
 }
 
 // Skips the ids of an annotation that says so.
-fn skip_where<P, F, J: Judge<P, F>>(
+fn skip_where<P, F, S, J: Judge<P, F, S>>(
     judge: &J,
     policy: Option<&P>,
     book: &mut Book<F>,
@@ -100,12 +100,12 @@ fn skip_where<P, F, J: Judge<P, F>>(
     ensures targets { book.new.targets ≡ book.old.targets }
 {
     if skip {
-        skip_listed(judge, policy, book, annotation, ids);
+        skip_listed::<P, F, S, J>(judge, policy, book, annotation, ids);
     }
 }
 
 /// Takes an annotation. After a refusal the engine stands for what it stood for.
-pub fn take_note<P, F, J: Judge<P, F>>(
+pub fn take_note<P, F, S, J: Judge<P, F, S>>(
     alloc: Global,
     engine: &mut Engine<P, F>,
     judge: &J,
@@ -120,7 +120,7 @@ pub fn take_note<P, F, J: Judge<P, F>>(
 {
     engine.book.add_note(&annotation.id)?;
     let policy = engine.policy.as_ref();
-    skip_where(judge, policy, &mut engine.book, annotation, ids, skip);
+    skip_where::<P, F, S, J>(judge, policy, &mut engine.book, annotation, ids, skip);
     engine.signers = KeyIds::new(alloc);
     Ok(())
 }

@@ -1,11 +1,11 @@
 //! How an entry of a reference is judged, before it is kept.
 
-ghost use Rattle.std.specs.Prelude.{◌≡◌, ◌+◌, ◌≤◌, ℕ, Some, IfOk};
+ghost use Rattle.std.specs.Prelude.{◌≡◌, ◌+◌, ◌≤◌, ℕ, Some, true, IfOk, OnOk};
 ghost use Rattle.std.specs.Option.{unwrap_or};
 ghost use Rattle.octets.specs.Causes.{HasCause};
 ghost use Rattle.git_object.specs.Repository.{Repository};
 ghost use Rattle.judging.specs.Decisions.{IsFinish};
-ghost use Rattle.judging.specs.Judges.{IsSteady, judge_failed};
+ghost use Rattle.judging.specs.Judges.{KeepsStore, judge_failed};
 ghost use Rattle.judging.specs.Standings.{standing_of};
 
 use crate::book::Book;
@@ -39,19 +39,20 @@ pub fn place_before<F>(book: &Book<F>, name: &RefName) -> Standing
 }
 
 /// Whether an entry completes a recovery. The store is asked only where a recovery would take something in.
-pub fn finishes<P, F, J: Judge<P, F>>(
+pub fn finishes<P, F, S, J: Judge<P, F, S>>(
     alloc: Global,
-    judge: &mut J,
+    judge: &J,
+    store: &mut S,
     book: &Book<F>,
     found: &Decision<P, F>,
     name: &RefName,
     stands: &Standing,
     target: &ObjectId,
 ) -> Result<bool, JudgeFault>
-    ensures answer { IfOk result (λ finishes. (r : Repository) → J.content judge.new ≡ Some r → IsFinish (J.rules judge.old) r book.now found.now name.now stands.now target.now finishes) }
-    ensures same { IsSteady (J.rules judge.old) (J.rules judge.new) (J.content judge.old) (J.content judge.new) }
-    ensures cause { HasCause judge_failed (J.faults judge.old) (J.faults judge.new) result }
-    ensures reads { (r : Repository) → J.content judge.new ≡ Some r → J.reads judge.new ≤ J.reads judge.old + (J.rules judge.old).tree_reads r stands.now.from target.now }
+    ensures answer { IfOk result (λ finishes. (r : Repository) → J.content store.new ≡ Some r → IsFinish (J.rules judge.now) r book.now found.now name.now stands.now target.now finishes) }
+    ensures same { KeepsStore J.content J.tells_left J.left store.old store.new }
+    ensures cause { HasCause judge_failed (J.faults store.old) (J.faults store.new) result }
+    ensures reads { OnOk result ((r : Repository) → J.content store.new ≡ Some r → (J.rules judge.now).bounded r stands.now.from target.now ≡ true → J.reads store.new ≤ J.reads store.old + (J.rules judge.now).tree_reads r stands.now.from target.now) }
 {
     if found.fault.is_some() {
         return Ok(false);
@@ -59,5 +60,5 @@ pub fn finishes<P, F, J: Judge<P, F>>(
     if !book.is_pending_after(name, stands.above) {
         return Ok(false);
     }
-    judge.has_same_tree(alloc, &stands.from, target)
+    judge.has_same_tree(alloc, store, &stands.from, target)
 }

@@ -1,14 +1,14 @@
 //! How an entry of a reference is taken.
 
-ghost use Rattle.std.specs.Prelude.{◌≡◌, ◌+◌, ◌≤◌, ℕ, List, Option, Some, None, IfOk, OnErr, OnOk};
+ghost use Rattle.std.specs.Prelude.{◌≡◌, ◌+◌, ◌≤◌, ℕ, List, Option, Some, None, true, IfOk, OnErr, OnOk};
 ghost use Rattle.octets.specs.Causes.{HasCause};
 ghost use Rattle.git_object.specs.Repository.{Repository};
-ghost use Rattle.log_entries.specs.Entries.{Taken};
+ghost use Rattle.log_entries.specs.Entries.{Taken, target_of};
 ghost use Rattle.log_entries.specs.declared.entries.EntryBody.TheVariants.{Reference};
 ghost use Rattle.judging.specs.Books.{place_of};
 ghost use Rattle.judging.specs.Decisions.{decision_reads};
 ghost use Rattle.judging.specs.Engines.{IsTaken, Stands, taken};
-ghost use Rattle.judging.specs.Judges.{IsSteady, judge_failed};
+ghost use Rattle.judging.specs.Judges.{KeepsStore, judge_failed};
 ghost use Rattle.judging.specs.Rules.{Rules};
 ghost use Rattle.judging.specs.Standings.{standing_of};
 ghost use Rattle.judging.specs.Verdicts.{answer_of, verdict_of};
@@ -34,36 +34,48 @@ pub fn answer<F: Copied>(fault: &Option<F>) -> Result<EntryVerdict<F>, Memory>
 }
 
 /// Takes an entry of a reference. After a refusal the engine stands for what it stood for.
-pub fn take_reference<P: Drop, F: Copied, J: Judge<P, F>>(
+pub fn take_reference<P: Drop, F: Copied, S, J: Judge<P, F, S>>(
     alloc: Global,
     engine: &mut Engine<P, F>,
-    judge: &mut J,
+    judge: &J,
+    store: &mut S,
     entry: &Entry,
     name: &RefName,
     target: &ObjectId,
 ) -> Result<EntryVerdict<F>, JudgeFault>
     requires { place_of engine.old.book entry.now.id ≡ None }
-    ensures taken { IfOk result (λ verdict. (r : Repository) (log : List Taken) → J.content judge.new ≡ Some r → Stands (J.rules judge.old) log engine.old
-        → entry.now.body ≡ Reference name.now target.now → IsTaken (J.rules judge.old) log (record { entry = entry.now; repository = r }) engine.new verdict) }
+    ensures taken { IfOk result (λ verdict. (r : Repository) (log : List Taken) → J.content store.new ≡ Some r → Stands (J.rules judge.now) log engine.old
+        → entry.now.body ≡ Reference name.now target.now → IsTaken (J.rules judge.now) log (record { entry = entry.now; repository = r }) engine.new verdict) }
     ensures count { OnOk result (taken engine.new ≡ taken engine.old + 1) }
     ensures refused { OnErr result ((rules : Rules P F) (log : List Taken) → Stands rules log engine.old → Stands rules log engine.new) }
-    ensures same { IsSteady (J.rules judge.old) (J.rules judge.new) (J.content judge.old) (J.content judge.new) }
-    ensures cause { HasCause judge_failed (J.faults judge.old) (J.faults judge.new) result }
-    ensures reads { (r : Repository) → J.content judge.new ≡ Some r → J.reads judge.new ≤ J.reads judge.old
-        + decision_reads (J.rules judge.old) r engine.old.policy entry.now name.now (standing_of engine.old.book name.now).from engine.old.attested
-        + (J.rules judge.old).tree_reads r (standing_of engine.old.book name.now).from target.now }
+    ensures same { KeepsStore J.content J.tells_left J.left store.old store.new }
+    ensures cause { HasCause judge_failed (J.faults store.old) (J.faults store.new) result }
+    ensures reads { OnOk result ((r : Repository) → J.content store.new ≡ Some r → entry.now.body ≡ Reference name.now target.now → (J.rules judge.now).bounded r (standing_of engine.old.book name.now).from target.now ≡ true
+        → J.reads store.new ≤ J.reads store.old
+        + decision_reads (J.rules judge.now) r engine.old.policy entry.now name.now (standing_of engine.old.book name.now).from engine.old.attested
+        + (J.rules judge.now).tree_reads r (standing_of engine.old.book name.now).from target.now) }
 {
     let stands = place_before(&engine.book, name);
     let found = decide(
         alloc,
         judge,
+        store,
         engine.policy.as_ref(),
         entry,
         name,
         &stands.from,
         engine.attested.as_ref(),
     )?;
-    let finishes = finishes(alloc, judge, &engine.book, &found, name, &stands, target)?;
+    let finishes = finishes(
+        alloc,
+        judge,
+        store,
+        &engine.book,
+        &found,
+        name,
+        &stands,
+        target,
+    )?;
     let verdict = answer(&found.fault)?;
     keep_reference(
         engine,
@@ -78,24 +90,26 @@ pub fn take_reference<P: Drop, F: Copied, J: Judge<P, F>>(
 }
 
 /// What would be answered of an entry of a reference. Nothing changes.
-pub fn look_reference<P: Drop, F: Copied, J: Judge<P, F>>(
+pub fn look_reference<P: Drop, F: Copied, S, J: Judge<P, F, S>>(
     alloc: Global,
     engine: &Engine<P, F>,
-    judge: &mut J,
+    judge: &J,
+    store: &mut S,
     entry: &Entry,
     name: &RefName,
 ) -> Result<EntryVerdict<F>, JudgeFault>
-    ensures answer { IfOk result (λ verdict. (r : Repository) (log : List Taken) (target : List ℕ) → J.content judge.new ≡ Some r → Stands (J.rules judge.old) log engine.now
-        → entry.now.body ≡ Reference name.now target → verdict ≡ verdict_of (J.rules judge.old) log (record { entry = entry.now; repository = r })) }
-    ensures same { IsSteady (J.rules judge.old) (J.rules judge.new) (J.content judge.old) (J.content judge.new) }
-    ensures cause { HasCause judge_failed (J.faults judge.old) (J.faults judge.new) result }
-    ensures reads { (r : Repository) → J.content judge.new ≡ Some r → J.reads judge.new ≤ J.reads judge.old
-        + decision_reads (J.rules judge.old) r engine.now.policy entry.now name.now (standing_of engine.now.book name.now).from engine.now.attested }
+    ensures answer { IfOk result (λ verdict. (r : Repository) (log : List Taken) (target : List ℕ) → J.content store.new ≡ Some r → Stands (J.rules judge.now) log engine.now
+        → entry.now.body ≡ Reference name.now target → verdict ≡ verdict_of (J.rules judge.now) log (record { entry = entry.now; repository = r })) }
+    ensures same { KeepsStore J.content J.tells_left J.left store.old store.new }
+    ensures cause { HasCause judge_failed (J.faults store.old) (J.faults store.new) result }
+    ensures reads { OnOk result ((r : Repository) → J.content store.new ≡ Some r → (J.rules judge.now).bounded r (standing_of engine.now.book name.now).from (target_of entry.now.body) ≡ true
+        → J.reads store.new ≤ J.reads store.old + decision_reads (J.rules judge.now) r engine.now.policy entry.now name.now (standing_of engine.now.book name.now).from engine.now.attested) }
 {
     let stands = place_before(&engine.book, name);
     let found = decide(
         alloc,
         judge,
+        store,
         engine.policy.as_ref(),
         entry,
         name,

@@ -11,7 +11,7 @@ use git_object::{Ids, KeyId, Kind, ObjectId, Octets, RefName, id_of};
 use judging::{Engine, Verdict};
 use log_entries::{Entry, EntryBody};
 use octets::Copied;
-use small_judge::{Holder, SmallFault, SmallJudge};
+use small_judge::{Holder, SmallFault, SmallJudge, SmallStore};
 use std::alloc::Global;
 use std::{env, io};
 
@@ -133,7 +133,7 @@ fn entry_of(alloc: Global, scene: &Scene, number: u64) -> Option<Entry>
 fn take(
     alloc: Global,
     engine: &mut Engine<Holder, SmallFault>,
-    judge: &mut SmallJudge,
+    store: &mut SmallStore,
     scene: &Scene,
     judges: bool,
     number: u64,
@@ -145,16 +145,16 @@ fn take(
     if engine.len().checked_add(1) != Some(number) || engine.has(&entry.id) {
         return None;
     }
-    let _verdict = engine.extend(alloc, judge, &entry).ok()?;
+    let _verdict = engine.extend(alloc, &SmallJudge, store, &entry).ok()?;
     Some(())
 }
 
 fn judged(alloc: Global, case: Case) -> Option<(u64, Said)> {
     let scene = scene_of(alloc, case.names)?;
     let mut engine = Engine::new(alloc);
-    let mut judge = SmallJudge::new(alloc);
+    let mut store = SmallStore::new(alloc);
     for number in 1..=case.entries {
-        take(alloc, &mut engine, &mut judge, &scene, case.judges, number)?;
+        take(alloc, &mut engine, &mut store, &scene, case.judges, number)?;
     }
     let first = scene.names.as_slice().first()?;
     let said = match engine.verdict(first, &scene.target).ok()? {

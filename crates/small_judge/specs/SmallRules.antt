@@ -1,5 +1,5 @@
 -- The rules of the small judge. An entry's signature is taken as good for the key that it names.
-use Rattle.std.specs.Prelude.{ℕ, Bool, false, List, [], ◌∷◌, take, Option, Some, None, Result, Ok, Err, if◌then◌else◌}
+use Rattle.std.specs.Prelude.{ℕ, Bool, true, false, List, [], ◌∷◌, take, Option, Some, None, Result, Ok, Err, if◌then◌else◌}
 use Rattle.std.specs.Str.{bytes_eq}
 use Rattle.log_entries.specs.Entries.{target_of}
 use Rattle.log_entries.specs.declared.entries.Entry.{Entry}
@@ -46,6 +46,7 @@ small_rules = record {
   skipper = λ holder annotation. if signs annotation.signer holder.key then Some holder.key else None;
   may_skip = λ holder key name. bytes_eq holder.key key;
   epoch_reads = λ r policy entry. 0;
+  bounded = λ r from to. true;
   fault_reads = λ r holder entry from attested. 0;
   tree_reads = λ r from to. 0;
 }

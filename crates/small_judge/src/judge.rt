@@ -1,11 +1,11 @@
 //! The judge.
 
-ghost use Rattle.std.specs.Prelude.{◌≡◌, ◌↔◌, ◌+◌, ◌≤◌, Some, IfOk, IsErrOf, IsTrue};
+ghost use Rattle.std.specs.Prelude.{◌≡◌, ◌↔◌, ◌+◌, ◌≤◌, Some, false, IfOk, IsErrOf, IsTrue};
 ghost use Rattle.std.specs.Option.{option_copied};
 ghost use Rattle.octets.specs.Calls.{after_call, fails_next};
 ghost use Rattle.octets.specs.Causes.{HasCause};
 ghost use Rattle.git_object.specs.Repository.{empty_repository};
-ghost use Rattle.judging.specs.Judges.{IsSteady, judge_failed};
+ghost use Rattle.judging.specs.Judges.{judge_failed};
 ghost use Rattle.judging.specs.Rules.{same_tree};
 ghost use Rattle.log_entries.specs.Entries.{target_of};
 ghost use Rattle.small_judge.specs.SmallRules.{epoch, fault, opened_key, signers, signs, small_rules, tree};
@@ -17,23 +17,27 @@ use log_entries::{Entry, EntryBody};
 use octets::{FailingCalls, Memory};
 use std::alloc::Global;
 
-/// Answers the small rules over an empty repository. The calls that may fail are counted from 1.
+/// Answers the small rules.
+#[derive(Clone, Copy, Drop)]
+pub struct SmallJudge;
+
+/// An empty repository. The calls for which the judge may ask it are counted from 1.
 #[derive(Drop)]
-pub struct SmallJudge {
+pub struct SmallStore {
     calls: FailingCalls,
 }
 
-impl SmallJudge {
-    /// A judge of whose calls none fails. It takes no memory.
-    pub fn new(alloc: Global) -> SmallJudge {
-        SmallJudge {
+impl SmallStore {
+    /// A store of whose calls none fails. It takes no memory.
+    pub fn new(alloc: Global) -> SmallStore {
+        SmallStore {
             calls: FailingCalls::none(alloc),
         }
     }
 
-    /// A judge of whose calls those with these numbers fail.
-    pub fn failing(calls: Vec<u64>) -> SmallJudge {
-        SmallJudge {
+    /// A store of whose calls those with these numbers fail.
+    pub fn failing(calls: Vec<u64>) -> SmallStore {
+        SmallStore {
             calls: FailingCalls::listed(calls),
         }
     }
@@ -127,46 +131,53 @@ fn tree(target: &ObjectId) -> &[u8]
     &target.as_bytes()[..31]
 }
 
-impl Judge<Holder, SmallFault> for SmallJudge {
+impl Judge<Holder, SmallFault, SmallStore> for SmallJudge {
     ghost rules = { λ j. small_rules };
 
-    ghost content = { λ j. Some empty_repository };
+    ghost content = { λ s. Some empty_repository };
+
+    ghost tells_left = { λ s. false };
+
+    ghost left = { λ s r. ⊥ };
 
     ghost faults = { λ j. j.calls.faults };
 
     ghost reads = { λ j. 0 };
 
     fn epoch(
-        &mut self,
+        &self,
         _alloc: Global,
+        store: &mut SmallStore,
         policy: Option<&Holder>,
         entry: &Entry,
     ) -> Result<Result<Holder, SmallFault>, JudgeFault> {
-        self.call()?;
+        store.call()?;
         Ok(epoch(policy, entry))
     }
 
     fn find(
-        &mut self,
+        &self,
         alloc: Global,
+        store: &mut SmallStore,
         policy: &Holder,
         entry: &Entry,
         _from: &ObjectId,
         _attested: Option<&ObjectId>,
     ) -> Result<Finding<SmallFault>, JudgeFault> {
-        self.call()?;
+        store.call()?;
         let fault = fault(policy, entry);
         let signers = signers(alloc, policy, entry)?;
         Ok(Finding { fault, signers })
     }
 
     fn has_same_tree(
-        &mut self,
+        &self,
         _alloc: Global,
+        store: &mut SmallStore,
         from: &ObjectId,
         to: &ObjectId,
     ) -> Result<bool, JudgeFault> {
-        self.call()?;
+        store.call()?;
         Ok(tree(from) == tree(to))
     }
 

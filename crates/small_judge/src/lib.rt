@@ -18,5 +18,5 @@ mod random_lists;
 #[cfg(test)]
 mod rows;
 
-pub use judge::SmallJudge;
+pub use judge::{SmallJudge, SmallStore};
 pub use policies::{Holder, SmallFault};

@@ -2,7 +2,7 @@
 
 ghost use Rattle.std.specs.Prelude.{◌≡◌, IfOk};
 
-use crate::{Holder, SmallFault, SmallJudge};
+use crate::{Holder, SmallFault, SmallJudge, SmallStore};
 use git_object::{Ids, KeyId, Kind, ObjectId, RefName, id_of as blob_id};
 use judging::{Engine, EntryVerdict, JudgeFault};
 use log_entries::{Entry, EntryBody};
@@ -153,7 +153,7 @@ pub fn entry_of(alloc: Global, number: u64, step: Step) -> Result<Entry, Fail>
 pub fn take(
     alloc: Global,
     engine: &mut SmallEngine,
-    judge: &mut SmallJudge,
+    store: &mut SmallStore,
     step: Step,
 ) -> Result<Result<Option<SmallFault>, JudgeFault>, Fail> {
     let number = engine.len().checked_add(1).ok_or("a list too long")?;
@@ -161,7 +161,7 @@ pub fn take(
     if engine.has(&entry.id) {
         return Err("an id twice".into());
     }
-    match engine.extend(alloc, judge, &entry) {
+    match engine.extend(alloc, &SmallJudge, store, &entry) {
         Ok(EntryVerdict::Refused(fault)) => Ok(Ok(Some(fault))),
         Ok(_) => Ok(Ok(None)),
         Err(why) => Ok(Err(why)),
@@ -171,9 +171,9 @@ pub fn take(
 /// The engine after these entries.
 pub fn judged(alloc: Global, steps: &[Step]) -> Result<SmallEngine, Fail> {
     let mut engine = SmallEngine::new(alloc);
-    let mut judge = SmallJudge::new(alloc);
+    let mut store = SmallStore::new(alloc);
     for step in steps {
-        let _fault = take(alloc, &mut engine, &mut judge, *step)?;
+        let _fault = take(alloc, &mut engine, &mut store, *step)?;
     }
     Ok(engine)
 }

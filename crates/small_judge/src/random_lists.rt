@@ -4,7 +4,7 @@ ghost use Rattle.std.specs.Prelude.{◌<◌};
 
 use crate::lists::{SmallEngine, Step, id_of, name_of, take};
 use crate::plain::{count, fault, prior_target, skipped, violation};
-use crate::{SmallFault, SmallJudge};
+use crate::{SmallFault, SmallStore};
 use git_object::ObjectId;
 use judging::Verdict;
 use std::alloc::Global;
@@ -118,13 +118,13 @@ fn agrees(
 // How many answers differ over a list.
 fn differences(alloc: Global, steps: &[Step]) -> Result<u64, Fail> {
     let mut engine = SmallEngine::new(alloc);
-    let mut judge = SmallJudge::new(alloc);
+    let mut store = SmallStore::new(alloc);
     let mut wrong = 0u64;
     for step in steps {
         let answer: Result<Option<SmallFault>, judging::JudgeFault> = take(
             alloc,
             &mut engine,
-            &mut judge,
+            &mut store,
             *step,
         )?;
         let len = engine.len();

@@ -1,7 +1,7 @@
 //! Worked rows: few entries, and what is to be answered of them.
 
 use crate::lists::{SmallEngine, Step, id_of, judged, name_of, take};
-use crate::{SmallFault, SmallJudge};
+use crate::{SmallFault, SmallJudge, SmallStore};
 use git_object::ObjectId;
 use judging::{JudgeFault, Verdict};
 use std::alloc::Global;
@@ -173,17 +173,17 @@ fn the_engine_is_asked(rt: HostRuntime) -> Result<(), Fail> {
     std::assert_eq!(rt; engine.signers().len(), 0);
     let entry = crate::lists::entry_of(alloc, 5, main(X, A))?;
     if engine.len() == 4 && !engine.has(&entry.id) {
-        let mut judge = SmallJudge::new(alloc);
-        let seen = engine.look(alloc, &mut judge, &entry)?;
+        let mut store = SmallStore::new(alloc);
+        let seen = engine.look(alloc, &SmallJudge, &mut store, &entry)?;
         std::assert!(rt; matches!(seen, judging::EntryVerdict::Authorised));
     }
     std::assert_eq!(rt; engine.len(), 4);
     // A call that fails once, and is made again.
-    let mut judge = SmallJudge::failing(std::vec![in alloc; 1]?);
-    let failed = take(alloc, &mut engine, &mut judge, main(X, A))?;
+    let mut store = SmallStore::failing(std::vec![in alloc; 1]?);
+    let failed = take(alloc, &mut engine, &mut store, main(X, A))?;
     std::assert_eq!(rt; failed, Err(JudgeFault::Failed));
     std::assert_eq!(rt; engine.len(), 4);
-    let made = take(alloc, &mut engine, &mut judge, main(X, A))?;
+    let made = take(alloc, &mut engine, &mut store, main(X, A))?;
     std::assert_eq!(rt; made, Ok(None));
     std::assert_eq!(rt; engine.signers().len(), 1);
     std::assert_eq!(rt; said(alloc, &engine, X)?, Answer::Accepted(3));

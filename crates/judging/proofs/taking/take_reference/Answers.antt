@@ -1,9 +1,8 @@
-use Rattle.std.proofs.Common.{◌≡◌, ap, subst, ◌∙◌}
+use Rattle.std.proofs.Common.{◌≡◌, ap, ◌∙◌}
 use Rattle.std.specs.Option.{option_copied}
 use Rattle.git_object.specs.Repository.{empty_repository}
 use Rattle.log_entries.specs.Entries.{Taken}
-use Rattle.judging.specs.Decisions.{IsFinish, decision}
-use Rattle.judging.specs.Rules.{Rules}
+use Rattle.judging.specs.Decisions.{decision}
 use Rattle.judging.proofs.Takes.{on_err, stands_still, taken_reference}
 use Rattle.judging.proofs.taking.take_reference.Goals as goal
 
@@ -20,11 +19,9 @@ returns-clause-taken g c = λ r log told stands body.
     let s = c.place_before-stands.result in
     let d = c.in_ok-found.found in
     let told_before = c.finishes.ensures.same.content r told in
-    let same_rules = c.decide.ensures.same.rules in
     let decided : d ≡ decision rules r e.policy c.args.entry.now c.args.name.now s.from e.attested =
     c.in_ok-found.ensures.answer r told_before
     ∙ ap (λ p. decision rules r p c.args.entry.now c.args.name.now s.from (option_copied c.as_ref-2.result)) c.as_ref.ensures.value
     ∙ ap (decision rules r e.policy c.args.entry.now c.args.name.now s.from) c.as_ref-2.ensures.value in
-    let Q : Rules g.row.P.Denot g.row.F.Denot → Type 0 = λ x. IsFinish x r e.book d c.args.name.now s c.args.target.now c.in_ok-finishes.finishes in
-    let finish : Q rules = subst Q same_rules (c.in_ok-finishes.ensures.answer r told) in
+    let finish = c.in_ok-finishes.ensures.answer r told in
     taken_reference rules log t c.args.name.now c.args.target.now body e c.keep_reference.new.engine c.in_ok-finishes.finishes d s c.in_ok-verdict.verdict stands c.requires c.place_before-stands.ensures decided finish c.in_ok-keep_reference.ensures.kept c.in_ok-verdict.ensures

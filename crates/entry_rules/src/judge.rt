@@ -1,0 +1,201 @@
+//! The rules of entries as a judge.
+
+ghost use Rattle.std.specs.Prelude.{◌≡◌, ◌≤◌, ◌+◌, Some, true, IfOk, OnOk};
+ghost use Rattle.std.specs.Option.{option_copied};
+ghost use Rattle.octets.specs.Causes.{HasCause};
+ghost use Rattle.git_object.specs.Repository.{Repository};
+ghost use Rattle.keeper_api.specs.Faults.{keeper_failed};
+ghost use Rattle.keeper_api.specs.Undisturbed.{Undisturbed};
+ghost use Rattle.log_entries.specs.Entries.{target_of};
+ghost use Rattle.tree_paths.specs.Repositories.{readings_of};
+ghost use Rattle.tree_paths.specs.States.{walk_of};
+ghost use Rattle.policy_epochs.specs.Succession.{succession};
+ghost use Rattle.policy_reading.specs.Policies.{policy_of, policy_reads};
+ghost use Rattle.judging.specs.Rules.{is_same_tree};
+ghost use Rattle.entry_rules.specs.Judged.{judge_result};
+ghost use Rattle.entry_rules.specs.RealRules.{both_sound, comparison_reads, epoch_by, has_one_tree, opens, real_rules};
+ghost use Rattle.entry_rules.specs.Signing.{tree_in};
+
+use crate::Fault;
+use crate::finding::{compared, find};
+use crate::meeting::may_act;
+use crate::signing::signer_among;
+use git_object::{KeyId, ObjectId, RefName};
+use judging::{Finding, Judge, JudgeFault};
+use keeper_api::{Keeper, KeeperFault};
+use log_entries::{Entry, EntryBody};
+use octets::Memory;
+use policy_epochs::{Policy, PolicyFault, succession_fault};
+use policy_reading::check_policy;
+use root_metadata::KeyIds;
+use std::alloc::Global;
+use tree_paths::Comparison;
+
+/// The rules by which the entries of a log are judged.
+#[derive(Drop)]
+pub struct EntryRules {
+    anchor: Option<KeyIds>,
+}
+
+impl EntryRules {
+    /// Where ids are given, the first policy's root role must have exactly their keys.
+    pub fn new(anchor: Option<KeyIds>) -> EntryRules
+        ensures { result.anchor ≡ anchor }
+    {
+        EntryRules { anchor }
+    }
+}
+
+// What a store answers, as a judge answers it.
+fn judged<T>(outcome: Result<T, KeeperFault>) -> Result<T, JudgeFault>
+    ensures { result ≡ judge_result outcome }
+{
+    match outcome {
+        Ok(answer) => Ok(answer),
+        Err(KeeperFault::Failed) => Err(JudgeFault::Failed),
+        Err(KeeperFault::Memory) => Err(JudgeFault::Memory),
+    }
+}
+
+fn target_of(entry: &Entry) -> ObjectId
+    ensures { result ≡ target_of entry.now.body }
+{
+    match &entry.body {
+        EntryBody::Reference { name: _, target } => *target,
+        EntryBody::Annotation {
+            ids: _,
+            skip: _,
+            message: _,
+        } => ObjectId::zeros(),
+    }
+}
+
+// What becomes of a valid policy.
+fn opened(policy: Policy, fault: Option<PolicyFault>) -> Result<Policy, Fault>
+    ensures { result ≡ opens policy fault }
+{
+    match fault {
+        None => Ok(policy),
+        Some(why) => Err(Fault::NotEpoch { why }),
+    }
+}
+
+// What becomes of what was found of a policy under the one in force.
+fn epoch_by(
+    alloc: Global,
+    anchor: &Option<KeyIds>,
+    current: Option<&Policy>,
+    found: Result<Policy, PolicyFault>,
+) -> Result<Result<Policy, Fault>, Memory>
+    ensures { IfOk result (λ epoch. epoch ≡ epoch_by anchor.now (option_copied current.entry) found) }
+{
+    match found {
+        Err(why) => Ok(Err(Fault::NotEpoch { why })),
+        Ok(policy) => {
+            let fault = succession_fault(alloc, anchor, current, &policy)?;
+            Ok(opened(policy, fault))
+        }
+    }
+}
+
+// The policy that an entry of the policy's reference opens, or its fault.
+fn epoch<R: Keeper>(
+    alloc: Global,
+    keeper: &mut R,
+    anchor: &Option<KeyIds>,
+    current: Option<&Policy>,
+    entry: &Entry,
+) -> Result<Result<Policy, Fault>, KeeperFault>
+    ensures epoch { IfOk result (λ epoch. (r : Repository) → R.content keeper.new ≡ Some r → epoch ≡ epoch_by anchor.now (option_copied current.entry) (policy_of r (target_of entry.now.body))) }
+    ensures same { Undisturbed R.Keeper keeper.old keeper.new }
+    ensures cause { HasCause keeper_failed (R.faults keeper.old) (R.faults keeper.new) result }
+    ensures reads { (r : Repository) → R.content keeper.new ≡ Some r → R.reads keeper.new ≤ R.reads keeper.old + policy_reads r (target_of entry.now.body) }
+{
+    let target = target_of(entry);
+    let found = check_policy(alloc, keeper, &target)?;
+    Ok(epoch_by(alloc, anchor, current, found)?)
+}
+
+// Whether two states that were compared have one tree.
+fn has_one_tree(comparison: &Comparison) -> bool
+    ensures { result ≡ has_one_tree comparison.now }
+{
+    match comparison {
+        Comparison::Broken { id: _ } => false,
+        Comparison::Changed { from, to, paths: _ } => from.as_bytes() == to.as_bytes(),
+    }
+}
+
+// Whether the states of two targets have one tree.
+fn has_same_tree<R: Keeper>(
+    alloc: Global,
+    keeper: &mut R,
+    from: &ObjectId,
+    to: &ObjectId,
+) -> Result<bool, KeeperFault>
+    ensures answer { IfOk result (λ same. (r : Repository) → R.content keeper.new ≡ Some r → same ≡ is_same_tree (tree_in (walk_of (readings_of r) from.now)) (tree_in (walk_of (readings_of r) to.now))) }
+    ensures same { Undisturbed R.Keeper keeper.old keeper.new }
+    ensures cause { HasCause keeper_failed (R.faults keeper.old) (R.faults keeper.new) result }
+    ensures reads { OnOk result ((r : Repository) → R.content keeper.new ≡ Some r → both_sound (readings_of r) from.now to.now ≡ true → R.reads keeper.new ≤ R.reads keeper.old + comparison_reads (readings_of r) from.now to.now) }
+{
+    let comparison = compared(alloc, keeper, from, to)?;
+    Ok(has_one_tree(&comparison))
+}
+
+impl<R: Keeper> Judge<Policy, Fault, R> for EntryRules {
+    ghost rules = { λ j. real_rules j.anchor };
+
+    ghost content = { λ k. R.content k };
+
+    ghost tells_left = { λ k. R.tells_left k };
+
+    ghost left = { λ k. R.left k };
+
+    ghost faults = { λ k. R.faults k };
+
+    ghost reads = { λ k. R.reads k };
+
+    fn epoch(
+        &self,
+        alloc: Global,
+        store: &mut R,
+        policy: Option<&Policy>,
+        entry: &Entry,
+    ) -> Result<Result<Policy, Fault>, JudgeFault> {
+        judged(epoch(alloc, store, &self.anchor, policy, entry))
+    }
+
+    fn find(
+        &self,
+        alloc: Global,
+        store: &mut R,
+        policy: &Policy,
+        entry: &Entry,
+        from: &ObjectId,
+        attested: Option<&ObjectId>,
+    ) -> Result<Finding<Fault>, JudgeFault> {
+        judged(find(alloc, store, policy, entry, from, attested))
+    }
+
+    fn has_same_tree(
+        &self,
+        alloc: Global,
+        store: &mut R,
+        from: &ObjectId,
+        to: &ObjectId,
+    ) -> Result<bool, JudgeFault> {
+        judged(has_same_tree(alloc, store, from, to))
+    }
+
+    fn no_policy(&self) -> Fault {
+        Fault::NoPolicy
+    }
+
+    fn skipper(&self, policy: &Policy, annotation: &Entry) -> Option<KeyId> {
+        signer_among(&policy.keys, annotation)
+    }
+
+    fn may_skip(&self, policy: &Policy, key: &KeyId, name: &RefName) -> bool {
+        may_act(&policy.rules, name.text(), key)
+    }
+}

@@ -1,0 +1,32 @@
+use Rattle.std.proofs.Common.{refl, rules, List, [], subst}
+use Rattle.std.proofs.lemmas.List.{take_all}
+use Rattle.entry_rules.specs.RealRules.{real_rules}
+use Rattle.verify_ref.specs.Logs.{AreEntries}
+use Rattle.verify_ref.proofs.Walking.{taken_more, unbroken}
+use Rattle.verify_ref.proofs.judged_log.take_all.Goals as goal
+
+pub ids-init : goal.ids-init
+ids-init g c = record {
+  so = λ r told. ([], refl, c.requires);
+  same = search rules;
+  quiet = refl;
+}
+
+pub ids-preserved : goal.ids-preserved
+ids-preserved g c = record {
+  so = λ r told.
+      let was = c.ids.invariant.so r (c.take.ensures.same.content r told) in
+      taken_more (real_rules c.args.rules.now.anchor) r c.args.ids.now c.ids.id-index c.id-item.result c.ids-test.true c.id-item.is c.ids.engine was.0 was.1 was.2 c.take.new.engine (c.in-Ok.ensures.taken r told);
+  same = search rules;
+  quiet = search rules;
+}
+
+pub returns-in-Err-clause-unbroken : goal.returns-in-Err-clause-unbroken
+returns-in-Err-clause-unbroken g c = λ r told is_log.
+    let was = c.ids.invariant.so r (c.take.ensures.same.content r told) in
+    unbroken (real_rules c.args.rules.now.anchor) r c.args.ids.now c.ids.id-index c.id-item.result c.ids-test.true c.id-item.is c.ids.engine was.0 was.1 was.2 c.in-Err.fault (c.in-Err.ensures.broken r told) is_log
+
+pub returns-clause-stands : goal.returns-clause-stands
+returns-clause-stands g c = λ r told.
+    let was = c.ids.invariant.so r told in
+    (was.0, subst (λ xs. AreEntries r xs was.0) (take_all c.ids.id-index c.args.ids.now c.ids-test.false) was.1, was.2)

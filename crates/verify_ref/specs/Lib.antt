@@ -1,0 +1,6 @@
+-- the entries of a log, each to be judged in one repository
+pub mod Logs
+-- the verdict on a reference
+pub mod Verdicts
+-- the line of a verdict
+pub mod Lines
