@@ -74,7 +74,7 @@ def records_a_log(repositories):
         lines += f"entry {number} {ids[-1]} ref {name} {target}\n".encode()
     want(bytes_of(key)[64:], b"\1\1" + bytes(30), "the leaves of the key file that are used")
     want_run(command(place, "log"), 0, lines)
-    want_run(command(place, "verify-ref", "refs/heads/main"), 3, errors=b"not built log\n")
+    want_run(command(place, "verify-ref", "refs/heads/main"), 1, b"violation refs/heads/main 1 no-policy\n")
     status, stream, _ = run(*command(place, "export"))
     want(status, 0, "the status of export")
     repositories.from_stream(stream, "logged.git")

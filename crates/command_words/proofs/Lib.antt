@@ -1,2 +1,4 @@
+pub mod LetterFirst
 pub mod OneCommand
 pub mod PlainWords
+pub mod ValueWords

@@ -1,12 +1,17 @@
 -- The same words ask for one command at most, and words after a first word are those of the command that it names.
-use Rattle.std.proofs.Common.{◌≡◌, ℕ, List, ◌∷◌, refl, sym, ap, ◌∙◌, subst}
-use Rattle.std.specs.Prelude.{◌≢◌, Option, Some, if◌then◌else◌}
+use Rattle.std.proofs.Common.{◌≡◌, ◌<◌, ◌≤◌, ℕ, Bool, true, false, List, ◌∷◌, length, arith, refl, sym, ap, ◌∙◌, subst, lit<}
+use Rattle.std.specs.Prelude.{◌≢◌, Option, Some, None, codes, if◌then◌else◌}
+use Rattle.std.specs.Option.{IsSomeAnd}
 use Rattle.std.specs.Str.{bytes_eq}
-use Rattle.command_words.specs.Commands.{height_text, width_text}
-use Rattle.command_words.specs.FirstWords.{AsksFor, AsksForNone, IsCommand, IsNoCommand, NamesNoLog, name_text}
+use Rattle.word_values.specs.Ids.{AreIds}
+use Rattle.word_values.specs.Spaced.{IsSpaced}
+use Rattle.word_values.proofs.OneValue.{same_ids, same_space, same_name as same_spaced_name}
+use Rattle.command_words.specs.Commands.{IsAsked, IsRoot, IsMessage, annotate_app, explain_app, height_text, kind_text, width_text}
+use Rattle.command_words.specs.FirstWords.{AsksFor, AsksForNone, IsCommand, IsNoCommand, IsWithinLimits, name_text}
+use Rattle.command_words.specs.Grammars.{value_of}
 use Rattle.command_words.specs.Laws.{OneCommand}
 use Rattle.command_words.specs.declared.commands.Command.{Command}
-use Rattle.command_words.specs.declared.commands.Command.TheVariants.{VerifyRef, KeyGen, Record}
+use Rattle.command_words.specs.declared.commands.Command.TheVariants.{VerifyRef, KeyGen, Record, Seal, Snapshot, Explain, Annotate}
 use Rattle.command_words.specs.declared.commands.CommandName.{CommandName}
 use Rattle.command_words.specs.declared.commands.CommandName.TheVariants as name
 use Rattle.command_words.specs.declared.commands.Height.{Height}
@@ -20,7 +25,12 @@ named_by word = if bytes_eq word (name_text name.VerifyRef) then Some name.Verif
     else (if bytes_eq word (name_text name.Export) then Some name.Export
     else (if bytes_eq word (name_text name.Import) then Some name.Import
     else (if bytes_eq word (name_text name.KeyGen) then Some name.KeyGen
-    else (if bytes_eq word (name_text name.Log) then Some name.Log else Some name.Record))))
+    else (if bytes_eq word (name_text name.Log) then Some name.Log
+    else (if bytes_eq word (name_text name.Record) then Some name.Record
+    else (if bytes_eq word (name_text name.Seal) then Some name.Seal
+    else (if bytes_eq word (name_text name.Snapshot) then Some name.Snapshot
+    else (if bytes_eq word (name_text name.PolicyApply) then Some name.PolicyApply
+    else (if bytes_eq word (name_text name.Explain) then Some name.Explain else Some name.Annotate)))))))))
 
 named_by-text : (n : CommandName) → named_by (name_text n) ≡ Some n
 unfolding named_by
@@ -30,6 +40,11 @@ named_by-text name.Import = refl
 named_by-text name.KeyGen = refl
 named_by-text name.Log = refl
 named_by-text name.Record = refl
+named_by-text name.Seal = refl
+named_by-text name.Snapshot = refl
+named_by-text name.PolicyApply = refl
+named_by-text name.Explain = refl
+named_by-text name.Annotate = refl
 
 same_some : {X : Type 0} (x y : X) → Some x ≡ Some y → x ≡ y
 same_some x y e = cc
@@ -91,13 +106,46 @@ none_named words rest word e none command is = none is.first (heads _ _ _ _ word
 pub none_at_all : (words : List (List ℕ)) → ((first : List ℕ) (rest : List (List ℕ)) → words ≢ first ∷ rest) → IsNoCommand words
 none_at_all words none command is = none _ is.rest is.are
 
+-- what is given is such a text in both ways
+of_given : {R : Type 0} (given : Option (List ℕ)) (P Q : List ℕ → Type 0) → ((text : List ℕ) → P text → Q text → R) → IsSomeAnd given P → IsSomeAnd given Q → R
+of_given None P Q both p q = absurd p
+of_given (Some text) P Q both p q = both text p q
+
+same_message : (given : Option (List ℕ)) (a b : List ℕ) → IsMessage given a → IsMessage given b → a ≡ b
+same_message None a b is other = is ∙ sym other
+same_message (Some text) a b is other = is.0 ∙ sym other.0
+
+-- the word that says whether entries are skipped tells it
+is_skip : List ℕ → Bool
+is_skip text = bytes_eq text (kind_text true)
+
+is_skip-text : (skip : Bool) → is_skip (kind_text skip) ≡ skip
+unfolding is_skip
+is_skip-text true = refl
+is_skip-text false = refl
+
+same_kind : (a b : Bool) → kind_text a ≡ kind_text b → a ≡ b
+same_kind a b e = sym (is_skip-text a) ∙ ap is_skip e ∙ is_skip-text b
+
+same_name_given : (given : Option (List ℕ)) (a b : List ℕ) → IsAsked given a → IsAsked given b → a ≡ b
+same_name_given given a b is other = same_some a b (sym is.is ∙ other.is)
+
+same_root : (given : Option (List ℕ)) (a b : Option (List (List ℕ))) → IsRoot given a → IsRoot given b → a ≡ b
+same_root None None None is other = refl
+same_root None None (Some b) is other = absurd other
+same_root None (Some a) b is other = absurd is
+same_root (Some text) None b is other = absurd is
+same_root (Some text) (Some a) None is other = absurd other
+same_root (Some text) (Some a) (Some b) is other = ap (λ (ids : List (List ℕ)). Some ids) (same_ids 64 text a b is other)
+
 -- behind one first word there is one command
 one_after : (first : CommandName) (rest : List (List ℕ)) (a b : Command) → AsksFor first rest a → AsksFor first rest b → a ≡ b
 one_after name.VerifyRef rest a b is other =
-    let same : is.0 ≡ other.0 = same_some is.0 other.0 (sym is.3.given ∙ other.3.given) in
-    let alike : is.1 ≡ other.1 = sym is.3.flag ∙ other.3.flag in
-    let named : a ≡ VerifyRef is.0 is.1 = is.2 in
-    let named_so : b ≡ VerifyRef other.0 other.1 = other.2 in
+    let same : is.0 ≡ other.0 = same_name_given _ is.0 other.0 is.4.named other.4.named in
+    let under : is.1 ≡ other.1 = same_root _ is.1 other.1 is.4.anchor other.4.anchor in
+    let alike : is.2 ≡ other.2 = sym is.4.flag ∙ other.4.flag in
+    let named : a ≡ VerifyRef is.0 is.1 is.2 = is.3 in
+    let named_so : b ≡ VerifyRef other.0 other.1 other.2 = other.3 in
     cc
 one_after name.Export rest a b is other = is.0 ∙ sym other.0
 one_after name.Import rest a b is other = is.0 ∙ sym other.0
@@ -109,9 +157,31 @@ one_after name.KeyGen rest a b is other =
     cc
 one_after name.Log rest a b is other = is.0 ∙ sym other.0
 one_after name.Record rest a b is other =
-    let same : is.0 ≡ other.0 = same_some is.0 other.0 (sym is.2.given ∙ other.2.given) in
-    let named : a ≡ Record is.0 = is.1 in
-    let named_so : b ≡ Record other.0 = other.1 in
+    let same : is.0 ≡ other.0 = same_name_given _ is.0 other.0 is.2.named other.2.named in
+    is.1 ∙ ap Record same ∙ sym other.1
+one_after name.Seal rest a b is other =
+    let alike : is.0 ≡ other.0 = sym is.2.flag ∙ other.2.flag in
+    is.1 ∙ ap Seal alike ∙ sym other.1
+one_after name.Snapshot rest a b is other =
+    let same : is.0 ≡ other.0 = same_name_given _ is.0 other.0 is.2.named other.2.named in
+    is.1 ∙ ap Snapshot same ∙ sym other.1
+one_after name.PolicyApply rest a b is other = is.0 ∙ sym other.0
+one_after name.Explain rest a b is other =
+    let given = value_of explain_app (codes "name") rest in
+    let same : is.0 ≡ other.0 = of_given given (λ (text : List ℕ). IsSpaced text is.0 is.1) (λ (text : List ℕ). IsSpaced text other.0 other.1)
+    (λ (text : List ℕ) (one : IsSpaced text is.0 is.1) (two : IsSpaced text other.0 other.1). same_space text is.0 other.0 is.1 other.1 one two) is.3.names other.3.names in
+    let alike : is.1 ≡ other.1 = of_given given (λ (text : List ℕ). IsSpaced text is.0 is.1) (λ (text : List ℕ). IsSpaced text other.0 other.1)
+    (λ (text : List ℕ) (one : IsSpaced text is.0 is.1) (two : IsSpaced text other.0 other.1). same_spaced_name text is.0 other.0 is.1 other.1 one two) is.3.names other.3.names in
+    let named : a ≡ Explain is.0 is.1 = is.2 in
+    let named_so : b ≡ Explain other.0 other.1 = other.2 in
+    cc
+one_after name.Annotate rest a b is other =
+    let skips : is.0 ≡ other.0 = same_kind is.0 other.0 (same_some _ _ (sym is.4.is_kind ∙ other.4.is_kind)) in
+    let lists : is.1 ≡ other.1 = of_given (value_of annotate_app (codes "ids") rest) (λ (text : List ℕ). AreIds 256 text is.1) (λ (text : List ℕ). AreIds 256 text other.1)
+    (λ (text : List ℕ) (one : AreIds 256 text is.1) (two : AreIds 256 text other.1). same_ids 256 text is.1 other.1 one two) is.4.lists other.4.lists in
+    let says : is.2 ≡ other.2 = same_message _ is.2 other.2 is.4.says other.4.says in
+    let named : a ≡ Annotate is.0 is.1 is.2 = is.3 in
+    let named_so : b ≡ Annotate other.0 other.1 other.2 = other.3 in
     cc
 
 pub one_command : OneCommand
@@ -122,11 +192,28 @@ one_command words a b is other =
     (subst (λ (r : List (List ℕ)). AsksFor other.first r b) (tails _ _ _ _ words other.are is.are) other.asks)
     )
 
--- no reference that is asked for is the log's own
-pub not_log_after : (first : CommandName) (rest : List (List ℕ)) (command : Command) → AsksFor first rest command → NamesNoLog command
-not_log_after name.VerifyRef rest command asks = subst NamesNoLog (sym asks.2) asks.3.not_log
-not_log_after name.Export rest command asks = subst NamesNoLog (sym asks.0) tt
-not_log_after name.Import rest command asks = subst NamesNoLog (sym asks.0) tt
-not_log_after name.KeyGen rest command asks = subst NamesNoLog (sym asks.2) tt
-not_log_after name.Log rest command asks = subst NamesNoLog (sym asks.0) tt
-not_log_after name.Record rest command asks = subst NamesNoLog (sym asks.1) asks.2.not_log
+listed : (given : Option (List ℕ)) (ids : List (List ℕ)) → IsSomeAnd given (λ text. AreIds 256 text ids) → 0 < length ids
+listed None ids is = absurd is
+listed (Some text) ids is = is.some
+
+few_listed : (given : Option (List ℕ)) (ids : List (List ℕ)) → IsSomeAnd given (λ text. AreIds 256 text ids) → length ids ≤ 256
+few_listed None ids is = absurd is
+few_listed (Some text) ids is = is.few
+
+short : (given : Option (List ℕ)) (message : List ℕ) → IsMessage given message → length message ≤ 65536
+short None message is = let none : length message ≡ 0 = ap length is in omega arith
+short (Some text) message is = let same : length message ≡ length text = ap length is.0 in let few : length text ≤ 65536 = is.1 in omega arith
+
+-- what is asked for is within its limits
+pub within_after : (first : CommandName) (rest : List (List ℕ)) (command : Command) → AsksFor first rest command → IsWithinLimits command
+within_after name.VerifyRef rest command asks = subst IsWithinLimits (sym asks.3) asks.4.named.not_log
+within_after name.Export rest command asks = subst IsWithinLimits (sym asks.0) tt
+within_after name.Import rest command asks = subst IsWithinLimits (sym asks.0) tt
+within_after name.KeyGen rest command asks = subst IsWithinLimits (sym asks.2) tt
+within_after name.Log rest command asks = subst IsWithinLimits (sym asks.0) tt
+within_after name.Record rest command asks = subst IsWithinLimits (sym asks.1) asks.2.named.not_log
+within_after name.Seal rest command asks = subst IsWithinLimits (sym asks.1) tt
+within_after name.Snapshot rest command asks = subst IsWithinLimits (sym asks.1) asks.2.named.not_log
+within_after name.PolicyApply rest command asks = subst IsWithinLimits (sym asks.0) tt
+within_after name.Explain rest command asks = subst IsWithinLimits (sym asks.2) tt
+within_after name.Annotate rest command asks = subst IsWithinLimits (sym asks.3) (listed _ asks.1 asks.4.lists, few_listed _ asks.1 asks.4.lists, short _ asks.2 asks.4.says)

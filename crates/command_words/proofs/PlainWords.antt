@@ -1,31 +1,36 @@
 -- The plain words of each command ask for it.
-use Rattle.std.proofs.Common.{◌≡◌, ◌≢◌, ℕ, Bool, true, false, List, [], ◌∷◌, refl, sym, subst}
-use Rattle.std.specs.Prelude.{Some, codes}
-use Rattle.std.proofs.lemmas.Bool.Decides.{Decides-eqb}
-use Rattle.std.proofs.lemmas.Slice.Eq.{starts_is}
+use Rattle.std.proofs.Common.{◌≡◌, ◌≢◌, ℕ, Bool, true, false, List, [], ◌∷◌, ◌++◌, refl, sym, subst}
+use Rattle.std.specs.Prelude.{Option, Some, None, codes}
+use Rattle.std.specs.Option.{IsSomeAnd}
 use Rattle.clap.specs.Faults.{defaults_fault, flags_fault, walk_fault}
 use Rattle.clap.specs.Walk.{walked}
 use Rattle.git_object.specs.Names.{IsRefName, log_name}
-use Rattle.command_words.specs.Commands.{AsksKey, AsksRecord, AsksVerdict, height_text, key_gen_app, record_app, verify_ref_app, width_text}
+use Rattle.ref_patterns.specs.Patterns.{prefix}
+use Rattle.ref_patterns.specs.declared.space.Space.{Space}
+use Rattle.ref_patterns.specs.declared.space.Space.TheVariants.{Git, File}
+use Rattle.word_values.specs.Spaced.{IsSpaced}
+use Rattle.command_words.specs.Commands.{AsksKey, AsksReasons, AsksReference, AsksVerdict, IsRoot, explain_app, height_text, kind_text, key_gen_app, reference_app, seal_app, verify_ref_app, width_text}
 use Rattle.command_words.specs.Grammars.{Takes, bare_app, is_given, value_of}
 use Rattle.command_words.specs.Laws.{PlainWords, flag_words}
 use Rattle.command_words.specs.declared.commands.CommandName.TheVariants as name
+use Rattle.command_words.proofs.LetterFirst.{letter_first}
+use Rattle.command_words.proofs.ValueWords.{annotate_asks}
 use Rattle.command_words.specs.declared.commands.Height.{Height}
 use Rattle.command_words.specs.declared.commands.Height.TheVariants.{H5, H10, H15}
 use Rattle.command_words.specs.declared.commands.Width.{Width}
 use Rattle.command_words.specs.declared.commands.Width.TheVariants.{W1, W2, W4, W8}
 
-taken : (rest : List ℕ) (stdin : Bool) → Takes verify_ref_app ((114 ∷ rest) ∷ flag_words stdin)
+taken : (rest : List ℕ) (stdin : Bool) → Takes verify_ref_app ((114 ∷ rest) ∷ flag_words (codes "--stdin") stdin)
 unfolding walk_fault walked flags_fault defaults_fault
 taken rest true = refl
 taken rest false = refl
 
-given : (rest : List ℕ) (stdin : Bool) → value_of verify_ref_app (codes "ref") ((114 ∷ rest) ∷ flag_words stdin) ≡ Some (114 ∷ rest)
+given : (rest : List ℕ) (stdin : Bool) → value_of verify_ref_app (codes "ref") ((114 ∷ rest) ∷ flag_words (codes "--stdin") stdin) ≡ Some (114 ∷ rest)
 unfolding walked
 given rest true = refl
 given rest false = refl
 
-flagged : (rest : List ℕ) (stdin : Bool) → is_given verify_ref_app (codes "stdin") ((114 ∷ rest) ∷ flag_words stdin) ≡ stdin
+flagged : (rest : List ℕ) (stdin : Bool) → is_given verify_ref_app (codes "stdin") ((114 ∷ rest) ∷ flag_words (codes "--stdin") stdin) ≡ stdin
 unfolding walked
 flagged rest true = refl
 flagged rest false = refl
@@ -46,13 +51,39 @@ flagged_first : (rest : List ℕ) → is_given verify_ref_app (codes "stdin") (c
 unfolding walked
 flagged_first rest = refl
 
-record_taken : (rest : List ℕ) → Takes record_app ((114 ∷ rest) ∷ [])
+alone_taken : (command rest : List ℕ) → Takes (reference_app command) ((114 ∷ rest) ∷ [])
 unfolding walk_fault walked flags_fault defaults_fault
-record_taken rest = refl
+alone_taken command rest = refl
 
-record_given : (rest : List ℕ) → value_of record_app (codes "ref") ((114 ∷ rest) ∷ []) ≡ Some (114 ∷ rest)
+alone_given : (command rest : List ℕ) → value_of (reference_app command) (codes "ref") ((114 ∷ rest) ∷ []) ≡ Some (114 ∷ rest)
 unfolding walked
-record_given rest = refl
+alone_given command rest = refl
+
+seal_taken : (add : Bool) → Takes seal_app (flag_words (codes "--add") add)
+unfolding walk_fault walked flags_fault defaults_fault
+seal_taken true = refl
+seal_taken false = refl
+
+seal_flagged : (add : Bool) → is_given seal_app (codes "add") (flag_words (codes "--add") add) ≡ add
+unfolding walked
+seal_flagged true = refl
+seal_flagged false = refl
+
+explain_taken : (space : Space) (text : List ℕ) → Takes explain_app ((prefix space ++ text) ∷ [])
+unfolding walk_fault walked flags_fault defaults_fault
+explain_taken Git text = refl
+explain_taken File text = refl
+
+explain_given : (space : Space) (text : List ℕ) → value_of explain_app (codes "name") ((prefix space ++ text) ∷ []) ≡ Some (prefix space ++ text)
+unfolding walked
+explain_given Git text = refl
+explain_given File text = refl
+
+asks_reasons : (space : Space) (text : List ℕ) → AsksReasons space text ((prefix space ++ text) ∷ [])
+asks_reasons space text = record {
+  takes = explain_taken space text;
+  names = subst (λ (given : Option (List ℕ)). IsSomeAnd given (λ found. IsSpaced found space text)) (sym (explain_given space text)) (record { written = refl });
+}
 
 key_taken : (height : Height) (width : Width) → Takes key_gen_app (height_text height ∷ width_text width ∷ [])
 unfolding walk_fault walked flags_fault defaults_fault
@@ -102,52 +133,58 @@ width_given H15 W8 = refl
 key_asks : (height : Height) (width : Width) → AsksKey height width (height_text height ∷ width_text width ∷ [])
 key_asks height width = record { takes = key_taken height width; is_height = height_given height width; is_width = width_given height width }
 
--- a reference name begins with a letter, so it is neither a flag nor `--`
-letter_first : (name : List ℕ) → IsRefName name → (rest : List ℕ) × (name ≡ 114 ∷ rest)
-letter_first name is = (_, (starts_is Decides-eqb name (codes "refs/") _ refl).0 is.begins)
+no_root : (rest : List ℕ) (stdin : Bool) → value_of verify_ref_app (codes "root") ((114 ∷ rest) ∷ flag_words (codes "--stdin") stdin) ≡ None
+unfolding walked
+no_root rest true = refl
+no_root rest false = refl
 
-asks : (name : List ℕ) (stdin : Bool) → IsRefName name → name ≢ log_name → AsksVerdict name stdin (name ∷ flag_words stdin)
+no_root_first : (rest : List ℕ) → value_of verify_ref_app (codes "root") (codes "--stdin" ∷ (114 ∷ rest) ∷ []) ≡ None
+unfolding walked
+no_root_first rest = refl
+
+asks : (name : List ℕ) (stdin : Bool) → IsRefName name → name ≢ log_name → AsksVerdict name None stdin (name ∷ flag_words (codes "--stdin") stdin)
 asks name stdin is not_log =
     let begins = letter_first name is in
-    subst (λ (n : List ℕ). IsRefName n → n ≢ log_name → AsksVerdict n stdin (n ∷ flag_words stdin)) (sym begins.1)
+    subst (λ (n : List ℕ). IsRefName n → n ≢ log_name → AsksVerdict n None stdin (n ∷ flag_words (codes "--stdin") stdin)) (sym begins.1)
     (λ is_name other. record {
       takes = taken begins.0 stdin;
-      given = given begins.0 stdin;
-      is_name = is_name;
-      not_log = other;
+      named = record { is = given begins.0 stdin; is_name = is_name; not_log = other };
+      anchor = subst (λ (root : Option (List ℕ)). IsRoot root None) (sym (no_root begins.0 stdin)) tt;
       flag = flagged begins.0 stdin;
     }) is not_log
 
-asks_first : (name : List ℕ) → IsRefName name → name ≢ log_name → AsksVerdict name true (codes "--stdin" ∷ name ∷ [])
+asks_first : (name : List ℕ) → IsRefName name → name ≢ log_name → AsksVerdict name None true (codes "--stdin" ∷ name ∷ [])
 asks_first name is not_log =
     let begins = letter_first name is in
-    subst (λ (n : List ℕ). IsRefName n → n ≢ log_name → AsksVerdict n true (codes "--stdin" ∷ n ∷ [])) (sym begins.1)
+    subst (λ (n : List ℕ). IsRefName n → n ≢ log_name → AsksVerdict n None true (codes "--stdin" ∷ n ∷ [])) (sym begins.1)
     (λ is_name other. record {
       takes = taken_first begins.0;
-      given = given_first begins.0;
-      is_name = is_name;
-      not_log = other;
+      named = record { is = given_first begins.0; is_name = is_name; not_log = other };
+      anchor = subst (λ (root : Option (List ℕ)). IsRoot root None) (sym (no_root_first begins.0)) tt;
       flag = flagged_first begins.0;
     }) is not_log
 
-asks_record : (name : List ℕ) → IsRefName name → name ≢ log_name → AsksRecord name (name ∷ [])
-asks_record name is not_log =
+asks_alone : (command name : List ℕ) → IsRefName name → name ≢ log_name → AsksReference command name (name ∷ [])
+asks_alone command name is not_log =
     let begins = letter_first name is in
-    subst (λ (n : List ℕ). IsRefName n → n ≢ log_name → AsksRecord n (n ∷ [])) (sym begins.1)
+    subst (λ (n : List ℕ). IsRefName n → n ≢ log_name → AsksReference command n (n ∷ [])) (sym begins.1)
     (λ is_name other. record {
-      takes = record_taken begins.0;
-      given = record_given begins.0;
-      is_name = is_name;
-      not_log = other;
+      takes = alone_taken command begins.0;
+      named = record { is = alone_given command begins.0; is_name = is_name; not_log = other };
     }) is not_log
 
 pub plain_words : PlainWords
 plain_words = record {
-  verify_ref = λ reference stdin is not_log. record { first = name.VerifyRef; rest = reference ∷ flag_words stdin; are = refl; asks = (reference, stdin, refl, asks reference stdin is not_log) };
-  flag_first = λ reference is not_log. record { first = name.VerifyRef; rest = codes "--stdin" ∷ reference ∷ []; are = refl; asks = (reference, true, refl, asks_first reference is not_log) };
+  verify_ref = λ reference stdin is not_log. record { first = name.VerifyRef; rest = reference ∷ flag_words (codes "--stdin") stdin; are = refl; asks = (reference, None, stdin, refl, asks reference stdin is not_log) };
+  flag_first = λ reference is not_log. record { first = name.VerifyRef; rest = codes "--stdin" ∷ reference ∷ []; are = refl; asks = (reference, None, true, refl, asks_first reference is not_log) };
   export = record { first = name.Export; rest = []; are = refl; asks = (refl, no_more (codes "export")) };
   import = record { first = name.Import; rest = []; are = refl; asks = (refl, no_more (codes "import")) };
   key_gen = λ height width. record { first = name.KeyGen; rest = height_text height ∷ width_text width ∷ []; are = refl; asks = (height, width, refl, key_asks height width) };
   log = record { first = name.Log; rest = []; are = refl; asks = (refl, no_more (codes "log")) };
-  recorded = λ reference is not_log. record { first = name.Record; rest = reference ∷ []; are = refl; asks = (reference, refl, asks_record reference is not_log) };
+  recorded = λ reference is not_log. record { first = name.Record; rest = reference ∷ []; are = refl; asks = (reference, refl, asks_alone (codes "record") reference is not_log) };
+  seal = λ add. record { first = name.Seal; rest = flag_words (codes "--add") add; are = refl; asks = (add, refl, record { takes = seal_taken add; flag = seal_flagged add }) };
+  snapshot = λ reference is not_log. record { first = name.Snapshot; rest = reference ∷ []; are = refl; asks = (reference, refl, asks_alone (codes "snapshot") reference is not_log) };
+  policy_apply = record { first = name.PolicyApply; rest = []; are = refl; asks = (refl, no_more (codes "policy-apply")) };
+  explain = λ space text. record { first = name.Explain; rest = (prefix space ++ text) ∷ []; are = refl; asks = (space, text, refl, asks_reasons space text) };
+  annotate = λ skip text ids are. record { first = name.Annotate; rest = kind_text skip ∷ text ∷ []; are = refl; asks = (skip, ids, [], refl, annotate_asks skip text ids are) };
 }

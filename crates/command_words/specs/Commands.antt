@@ -1,8 +1,15 @@
 -- The words of each command behind its name.
-use Rattle.std.specs.Prelude.{◌≡◌, ◌≢◌, ℕ, Bool, List, Option, Some, codes}
+use Rattle.std.specs.Prelude.{◌≡◌, ◌≢◌, ◌≤◌, [], ℕ, Bool, true, false, List, Option, Some, None, codes, length}
+use Rattle.std.specs.Option.{IsSomeAnd}
 use Rattle.clap.specs.Simple.{App, with_rule}
+use Rattle.hex.specs.Hex.{encode_lower}
+use Rattle.git_object.specs.Ids.{IsId}
 use Rattle.git_object.specs.Names.{IsRefName, log_name}
-use Rattle.command_words.specs.Grammars.{Takes, bare_app, flag_rule, is_given, positional_rule, value_of}
+use Rattle.ref_patterns.specs.declared.space.Space.{Space}
+use Rattle.word_values.specs.Ids.{AreIds}
+use Rattle.word_values.specs.Numbers.{IsCount}
+use Rattle.word_values.specs.Spaced.{IsSpaced}
+use Rattle.command_words.specs.Grammars.{Takes, bare_app, flag_rule, is_given, option_rule, positional_rule, value_of}
 use Rattle.command_words.specs.declared.commands.Height.{Height}
 use Rattle.command_words.specs.declared.commands.Height.TheVariants.{H5, H10, H15}
 use Rattle.command_words.specs.declared.commands.Width.{Width}
@@ -14,30 +21,76 @@ pub record IsAsked (given : Option (List ℕ)) (name : List ℕ) : Type 0 where
   pub is_name : IsRefName name
   pub not_log : name ≢ log_name
 
--- ---- verify-ref <ref> [--stdin]
+-- ---- record <ref>, snapshot <ref>
 
-abbrev pub verify_ref_app : App
-verify_ref_app = with_rule (with_rule (bare_app (codes "verify-ref")) (positional_rule (codes "ref"))) (flag_rule (codes "stdin"))
-
--- a reference other than the log's own, and whether the flag is given
-pub record AsksVerdict (name : List ℕ) (stdin : Bool) (words : List (List ℕ)) : Type 0 where
-  pub takes : Takes verify_ref_app words
-  pub given : value_of verify_ref_app (codes "ref") words ≡ Some name
-  pub is_name : IsRefName name
-  pub not_log : name ≢ log_name
-  pub flag : is_given verify_ref_app (codes "stdin") words ≡ stdin
-
--- ---- record <ref>
-
-abbrev pub record_app : App
-record_app = with_rule (bare_app (codes "record")) (positional_rule (codes "ref"))
+abbrev pub reference_app : List ℕ → App
+reference_app command = with_rule (bare_app command) (positional_rule (codes "ref"))
 
 -- a reference other than the log's own
-pub record AsksRecord (name : List ℕ) (words : List (List ℕ)) : Type 0 where
-  pub takes : Takes record_app words
-  pub given : value_of record_app (codes "ref") words ≡ Some name
-  pub is_name : IsRefName name
-  pub not_log : name ≢ log_name
+pub record AsksReference (command name : List ℕ) (words : List (List ℕ)) : Type 0 where
+  pub takes : Takes (reference_app command) words
+  pub named : IsAsked (value_of (reference_app command) (codes "ref") words) name
+
+-- ---- verify-ref <ref> [--root <keyid,..>] [--stdin]
+
+abbrev pub verify_ref_app : App
+verify_ref_app = with_rule (with_rule (with_rule (bare_app (codes "verify-ref")) (positional_rule (codes "ref"))) (option_rule (codes "root"))) (flag_rule (codes "stdin"))
+
+-- from 1 to 64 ids of keys, or no such option
+abbrev pub IsRoot : Option (List ℕ) → Option (List (List ℕ)) → Type 0
+IsRoot None None = Unit {0}
+IsRoot None (Some ids) = ⊥
+IsRoot (Some text) None = ⊥
+IsRoot (Some text) (Some ids) = AreIds 64 text ids
+
+-- a reference other than the log's own, the keys of the root, and whether the flag is given
+pub record AsksVerdict (name : List ℕ) (root : Option (List (List ℕ))) (stdin : Bool) (words : List (List ℕ)) : Type 0 where
+  pub takes : Takes verify_ref_app words
+  pub named : IsAsked (value_of verify_ref_app (codes "ref") words) name
+  pub anchor : IsRoot (value_of verify_ref_app (codes "root") words) root
+  pub flag : is_given verify_ref_app (codes "stdin") words ≡ stdin
+
+-- ---- annotate <skip or note> <id,..> [--message <text>]
+
+abbrev pub annotate_app : App
+annotate_app = with_rule (with_rule (with_rule (bare_app (codes "annotate")) (positional_rule (codes "kind"))) (positional_rule (codes "ids"))) (option_rule (codes "message"))
+
+-- the word that says whether the entries are skipped
+abbrev pub kind_text : Bool → List ℕ
+kind_text true = codes "skip"
+kind_text false = codes "note"
+
+-- the message: none is the empty one
+abbrev pub IsMessage : Option (List ℕ) → List ℕ → Type 0
+IsMessage None message = message ≡ []
+IsMessage (Some text) message = (message ≡ text) × (length text ≤ 65536)
+
+-- whether the entries are skipped, from 1 to 256 ids of theirs in this order, and a message of at most 65,536 bytes
+pub record AsksNote (skip : Bool) (ids : List (List ℕ)) (message : List ℕ) (words : List (List ℕ)) : Type 0 where
+  pub takes : Takes annotate_app words
+  pub is_kind : value_of annotate_app (codes "kind") words ≡ Some (kind_text skip)
+  pub lists : IsSomeAnd (value_of annotate_app (codes "ids") words) (λ text. AreIds 256 text ids)
+  pub says : IsMessage (value_of annotate_app (codes "message") words) message
+
+-- ---- explain <git:text or file:text>
+
+abbrev pub explain_app : App
+explain_app = with_rule (bare_app (codes "explain")) (positional_rule (codes "name"))
+
+-- a name in a space, which may be empty
+pub record AsksReasons (space : Space) (name : List ℕ) (words : List (List ℕ)) : Type 0 where
+  pub takes : Takes explain_app words
+  pub names : IsSomeAnd (value_of explain_app (codes "name") words) (λ text. IsSpaced text space name)
+
+-- ---- seal [--add]
+
+abbrev pub seal_app : App
+seal_app = with_rule (bare_app (codes "seal")) (flag_rule (codes "add"))
+
+-- whether the flag is given
+pub record AsksSeal (add : Bool) (words : List (List ℕ)) : Type 0 where
+  pub takes : Takes seal_app words
+  pub flag : is_given seal_app (codes "add") words ≡ add
 
 -- ---- key-gen <height> <width>
 

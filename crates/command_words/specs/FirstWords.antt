@@ -1,10 +1,11 @@
 -- Which command words ask for: the first word names it, and the words after that are such as it takes.
-use Rattle.std.specs.Prelude.{◌≡◌, ◌≢◌, ◌∷◌, ℕ, Bool, List, codes}
+use Rattle.std.specs.Prelude.{◌≡◌, ◌≢◌, ◌<◌, ◌≤◌, ◌∷◌, ℕ, Bool, List, Option, codes, length}
 use Rattle.git_object.specs.Names.{log_name}
-use Rattle.command_words.specs.Commands.{AsksKey, AsksRecord, AsksVerdict}
+use Rattle.ref_patterns.specs.declared.space.Space.{Space}
+use Rattle.command_words.specs.Commands.{AsksKey, AsksNote, AsksReasons, AsksReference, AsksSeal, AsksVerdict}
 use Rattle.command_words.specs.Grammars.{Takes, bare_app}
 use Rattle.command_words.specs.declared.commands.Command.{Command}
-use Rattle.command_words.specs.declared.commands.Command.TheVariants.{VerifyRef, Export, Import, KeyGen, Log, Record}
+use Rattle.command_words.specs.declared.commands.Command.TheVariants.{VerifyRef, Export, Import, KeyGen, Log, Record, Seal, Snapshot, PolicyApply, Explain, Annotate}
 use Rattle.command_words.specs.declared.commands.CommandName.{CommandName}
 use Rattle.command_words.specs.declared.commands.CommandName.TheVariants as name
 use Rattle.command_words.specs.declared.commands.Height.{Height}
@@ -17,15 +18,25 @@ name_text name.Import = codes "import"
 name_text name.KeyGen = codes "key-gen"
 name_text name.Log = codes "log"
 name_text name.Record = codes "record"
+name_text name.Seal = codes "seal"
+name_text name.Snapshot = codes "snapshot"
+name_text name.PolicyApply = codes "policy-apply"
+name_text name.Explain = codes "explain"
+name_text name.Annotate = codes "annotate"
 
 -- the words behind this first one ask for the command
 abbrev pub AsksFor : CommandName → List (List ℕ) → Command → Type 0
-AsksFor name.VerifyRef rest command = (reference : List ℕ) × (stdin : Bool) × (command ≡ VerifyRef reference stdin) × AsksVerdict reference stdin rest
+AsksFor name.VerifyRef rest command = (reference : List ℕ) × (root : Option (List (List ℕ))) × (stdin : Bool) × (command ≡ VerifyRef reference root stdin) × AsksVerdict reference root stdin rest
 AsksFor name.Export rest command = (command ≡ Export) × Takes (bare_app (codes "export")) rest
 AsksFor name.Import rest command = (command ≡ Import) × Takes (bare_app (codes "import")) rest
 AsksFor name.KeyGen rest command = (height : Height) × (width : Width) × (command ≡ KeyGen height width) × AsksKey height width rest
 AsksFor name.Log rest command = (command ≡ Log) × Takes (bare_app (codes "log")) rest
-AsksFor name.Record rest command = (reference : List ℕ) × (command ≡ Record reference) × AsksRecord reference rest
+AsksFor name.Record rest command = (reference : List ℕ) × (command ≡ Record reference) × AsksReference (codes "record") reference rest
+AsksFor name.Seal rest command = (add : Bool) × (command ≡ Seal add) × AsksSeal add rest
+AsksFor name.Snapshot rest command = (reference : List ℕ) × (command ≡ Snapshot reference) × AsksReference (codes "snapshot") reference rest
+AsksFor name.PolicyApply rest command = (command ≡ PolicyApply) × Takes (bare_app (codes "policy-apply")) rest
+AsksFor name.Explain rest command = (space : Space) × (text : List ℕ) × (command ≡ Explain space text) × AsksReasons space text rest
+AsksFor name.Annotate rest command = (skip : Bool) × (ids : List (List ℕ)) × (message : List ℕ) × (command ≡ Annotate skip ids message) × AsksNote skip ids message rest
 
 abbrev pub AsksForNone : CommandName → List (List ℕ) → Type 0
 AsksForNone first rest = (command : Command) → AsksFor first rest command → ⊥
@@ -47,11 +58,16 @@ pub record IsCommand (words : List (List ℕ)) (command : Command) : Type 0 wher
 abbrev pub IsNoCommand : List (List ℕ) → Type 0
 IsNoCommand words = (command : Command) → IsCommand words command → ⊥
 
--- no reference of a command is the log's own
-abbrev pub NamesNoLog : Command → Type 0
-NamesNoLog (VerifyRef name stdin) = name ≢ log_name
-NamesNoLog Export = Unit {0}
-NamesNoLog Import = Unit {0}
-NamesNoLog (KeyGen height width) = Unit {0}
-NamesNoLog Log = Unit {0}
-NamesNoLog (Record name) = name ≢ log_name
+-- the values of a command are within their limits, and no reference is the log's own
+abbrev pub IsWithinLimits : Command → Type 0
+IsWithinLimits (VerifyRef name root stdin) = name ≢ log_name
+IsWithinLimits Export = Unit {0}
+IsWithinLimits Import = Unit {0}
+IsWithinLimits (KeyGen height width) = Unit {0}
+IsWithinLimits Log = Unit {0}
+IsWithinLimits (Record name) = name ≢ log_name
+IsWithinLimits (Seal add) = Unit {0}
+IsWithinLimits (Snapshot name) = name ≢ log_name
+IsWithinLimits PolicyApply = Unit {0}
+IsWithinLimits (Explain space text) = Unit {0}
+IsWithinLimits (Annotate skip ids message) = (0 < length ids) × (length ids ≤ 256) × (length message ≤ 65536)

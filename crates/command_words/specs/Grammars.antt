@@ -19,6 +19,10 @@ bare_app name = on_top (λ s. record s {
 abbrev pub positional_rule : Text → Rule
 positional_rule id = record (new_rule id) { action = Some Set; required = true }
 
+-- an option with a value, `--name value` or `--name=value`
+abbrev pub option_rule : Text → Rule
+option_rule name = record (new_rule name) { long = Some name; action = Some Set }
+
 -- a flag, `--name`
 abbrev pub flag_rule : Text → Rule
 flag_rule name = record (new_rule name) { long = Some name; action = Some SetTrue }

@@ -1,10 +1,13 @@
 -- What holds of the grammar.
-use Rattle.std.specs.Prelude.{◌≡◌, ◌≢◌, ◌∷◌, [], ℕ, Bool, true, false, List, codes}
+use Rattle.std.specs.Prelude.{◌≡◌, ◌≢◌, ◌++◌, ◌∷◌, [], ℕ, Bool, true, false, List, None, codes}
 use Rattle.git_object.specs.Names.{IsRefName, log_name}
-use Rattle.command_words.specs.Commands.{height_text, width_text}
+use Rattle.ref_patterns.specs.Patterns.{prefix}
+use Rattle.ref_patterns.specs.declared.space.Space.{Space}
+use Rattle.word_values.specs.Ids.{AreIds}
+use Rattle.command_words.specs.Commands.{height_text, kind_text, width_text}
 use Rattle.command_words.specs.FirstWords.{IsCommand}
 use Rattle.command_words.specs.declared.commands.Command.{Command}
-use Rattle.command_words.specs.declared.commands.Command.TheVariants.{VerifyRef, Export, Import, KeyGen, Log, Record}
+use Rattle.command_words.specs.declared.commands.Command.TheVariants.{VerifyRef, Export, Import, KeyGen, Log, Record, Seal, Snapshot, PolicyApply, Explain, Annotate}
 use Rattle.command_words.specs.declared.commands.Height.{Height}
 use Rattle.command_words.specs.declared.commands.Width.{Width}
 
@@ -13,18 +16,23 @@ abbrev pub OneCommand : Type 0
 OneCommand = (words : List (List ℕ)) (a b : Command) → IsCommand words a → IsCommand words b → a ≡ b
 
 -- the word of a flag that is given
-abbrev pub flag_words : Bool → List (List ℕ)
-flag_words true = codes "--stdin" ∷ []
-flag_words false = []
+abbrev pub flag_words : List ℕ → Bool → List (List ℕ)
+flag_words flag true = flag ∷ []
+flag_words flag false = []
 
--- the plain words of each command ask for it
+-- the plain words of a command ask for it
 pub record PlainWords : Type 0 where
   pub verify_ref : (name : List ℕ) (stdin : Bool) → IsRefName name → name ≢ log_name
-      → IsCommand (codes "verify-ref" ∷ name ∷ flag_words stdin) (VerifyRef name stdin)
+      → IsCommand (codes "verify-ref" ∷ name ∷ flag_words (codes "--stdin") stdin) (VerifyRef name None stdin)
   pub flag_first : (name : List ℕ) → IsRefName name → name ≢ log_name
-      → IsCommand (codes "verify-ref" ∷ codes "--stdin" ∷ name ∷ []) (VerifyRef name true)
+      → IsCommand (codes "verify-ref" ∷ codes "--stdin" ∷ name ∷ []) (VerifyRef name None true)
   pub export : IsCommand (codes "export" ∷ []) Export
   pub import : IsCommand (codes "import" ∷ []) Import
   pub key_gen : (height : Height) (width : Width) → IsCommand (codes "key-gen" ∷ height_text height ∷ width_text width ∷ []) (KeyGen height width)
   pub log : IsCommand (codes "log" ∷ []) Log
   pub recorded : (name : List ℕ) → IsRefName name → name ≢ log_name → IsCommand (codes "record" ∷ name ∷ []) (Record name)
+  pub seal : (add : Bool) → IsCommand (codes "seal" ∷ flag_words (codes "--add") add) (Seal add)
+  pub snapshot : (name : List ℕ) → IsRefName name → name ≢ log_name → IsCommand (codes "snapshot" ∷ name ∷ []) (Snapshot name)
+  pub policy_apply : IsCommand (codes "policy-apply" ∷ []) PolicyApply
+  pub explain : (space : Space) (text : List ℕ) → IsCommand (codes "explain" ∷ (prefix space ++ text) ∷ []) (Explain space text)
+  pub annotate : (skip : Bool) (text : List ℕ) (ids : List (List ℕ)) → AreIds 256 text ids → IsCommand (codes "annotate" ∷ kind_text skip ∷ text ∷ []) (Annotate skip ids [])

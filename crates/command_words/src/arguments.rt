@@ -2,7 +2,7 @@
 
 ghost use Rattle.std.specs.Prelude.{◌≡◌, true, false, map, option_map, string_bytes, IfOk, IsErrOf, OnOk};
 ghost use Rattle.clap.specs.Words.{app_of, first_of, found_of, is_simple_and_free, matches_of, rows_of, rule_of, with_rule};
-ghost use Rattle.command_words.specs.Grammars.{Takes, bare_app, flag_rule, is_yes, positional_rule};
+ghost use Rattle.command_words.specs.Grammars.{Takes, bare_app, flag_rule, is_yes, option_rule, positional_rule};
 
 use crate::words_fault::WordsFault;
 use clap::error::ErrorKind;
@@ -26,6 +26,14 @@ pub(crate) fn positional<'a>(alloc: Global, id: &'a str) -> Arg<'a>
     ensures local { result.global ≡ false }
 {
     Arg::new(alloc, id).action(ArgAction::Set).required(true)
+}
+
+/// An option with a value, `--name value` or `--name=value`.
+pub(crate) fn option<'a>(alloc: Global, name: &'a str) -> Arg<'a>
+    ensures rule { rule_of result ≡ option_rule name.entry.now }
+    ensures local { result.global ≡ false }
+{
+    Arg::new(alloc, name).long(name).action(ArgAction::Set)
 }
 
 /// A flag, `--name`.

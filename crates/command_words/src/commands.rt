@@ -1,6 +1,8 @@
 //! The commands.
 
-use git_object::RefName;
+use git_object::{Ids, KeyId, RefName};
+use octets::{Items, Octets};
+use ref_patterns::Space;
 
 /// How many levels the tree of a key has: a key of `H5` signs 32 times, one of `H10` 1,024 and one of `H15` 32,768
 /// times.
@@ -21,20 +23,53 @@ pub enum Width {
 }
 
 /// What the words of a command ask for.
-#[derive(Debug, PartialEq, Eq, Drop)]
+#[derive(Drop)]
 pub enum Command {
-    /// The verdict on a reference; with `stdin` the repository is the one whose stream the source gives.
-    VerifyRef { name: RefName, stdin: bool },
+    /// The verdict on a reference; with `root` under the first policy whose root role has the keys of these ids, from 1
+    /// to 64 in the order of the words, a repeated one counting once; with `stdin` the repository is the one whose
+    /// stream the source gives.
+    VerifyRef {
+        name: RefName,
+        root: Option<Items<KeyId>>,
+        stdin: bool,
+    },
     /// The stream of the repository that the store holds.
     Export,
     /// To take the source's stream into the store.
     Import,
     /// To make a key on the key file.
-    KeyGen { height: Height, width: Width },
+    KeyGen {
+        height: Height,
+        width: Width,
+    },
     /// The entries of the log.
     Log,
     /// To record in the log where a reference stands.
-    Record { name: RefName },
+    Record {
+        name: RefName,
+    },
+    /// To sign the source's payload, or with `add` the payload of the source's envelope.
+    Seal {
+        add: bool,
+    },
+    /// To put the source's files on a reference as a commit.
+    Snapshot {
+        name: RefName,
+    },
+    /// To record the policy's reference where its policy succeeds.
+    PolicyApply,
+    /// The rules that the policy has for a name in a space; the name may be empty.
+    Explain {
+        space: Space,
+        text: Octets,
+    },
+    /// To note something of entries of the log, from 1 to 256 by their ids in this order, or to skip them, with a
+    /// message of at most 65,536 bytes.
+    Annotate {
+        skip: bool,
+        ids: Ids,
+        message: Octets,
+    },
 }
 
 /// The first word of a command.
@@ -46,4 +81,9 @@ pub enum CommandName {
     KeyGen,
     Log,
     Record,
+    Seal,
+    Snapshot,
+    PolicyApply,
+    Explain,
+    Annotate,
 }

@@ -44,5 +44,20 @@ pub(crate) fn named(word: &str) -> Option<CommandName>
     if is_word(word, "record") {
         return Some(CommandName::Record);
     }
+    if is_word(word, "seal") {
+        return Some(CommandName::Seal);
+    }
+    if is_word(word, "snapshot") {
+        return Some(CommandName::Snapshot);
+    }
+    if is_word(word, "policy-apply") {
+        return Some(CommandName::PolicyApply);
+    }
+    if is_word(word, "explain") {
+        return Some(CommandName::Explain);
+    }
+    if is_word(word, "annotate") {
+        return Some(CommandName::Annotate);
+    }
     None
 }

@@ -2,12 +2,14 @@
 
 ghost use Rattle.std.specs.Prelude.{◌≡◌, ◌≢◌, codes, map, option_map, string_bytes, IfOk, IfSome, IfNone, IsErrOf, Some};
 ghost use Rattle.clap.specs.Words.{app_of, first_of, found_of, rows_of};
-ghost use Rattle.command_words.specs.Commands.{AsksKey, height_text, key_gen_app, width_text};
+ghost use Rattle.command_words.specs.Commands.{height_text, key_gen_app, width_text};
+ghost use Rattle.command_words.specs.FirstWords.{AsksFor, AsksForNone};
+ghost use Rattle.command_words.specs.declared.commands.CommandName.TheVariants as name;
 ghost use Rattle.command_words.specs.declared.commands.Height.{Height};
 ghost use Rattle.command_words.specs.declared.commands.Width.{Width};
 
 use crate::arguments::{bare_command, positional, take_words, value_in, with_argument};
-use crate::commands::{Height, Width};
+use crate::commands::{Command, Height, Width};
 use crate::first_words::is_word;
 use crate::words_fault::WordsFault;
 use clap::ArgMatches;
@@ -73,12 +75,10 @@ fn width_in(matches: &ArgMatches) -> Option<Width>
     width_at(value_in(matches, "width")?)
 }
 
-/// The types of the key that the words after `key-gen` ask for. `Outside` comes exactly where they ask for none, want
-/// of memory aside.
-pub(crate) fn read_key_gen(alloc: Global, words: &[String]) -> Result<(Height, Width), WordsFault>
-    ensures found { IfOk result (λ found. AsksKey found.0 found.1 (map string_bytes words.now)) }
-    ensures outside { IsErrOf result WordsFault.Outside
-        → (height : Height) (width : Width) → AsksKey height width (map string_bytes words.now) → ⊥ }
+/// The command of the words after `key-gen`. `Outside` comes exactly where they ask for none, want of memory aside.
+pub(crate) fn read_key_gen(alloc: Global, words: &[String]) -> Result<Command, WordsFault>
+    ensures found { IfOk result (AsksFor name.KeyGen (map string_bytes words.now)) }
+    ensures outside { IsErrOf result WordsFault.Outside → AsksForNone name.KeyGen (map string_bytes words.now) }
 {
     let Ok(command) = key_gen_command(alloc) else {
         return Err(WordsFault::Memory);
@@ -90,5 +90,5 @@ pub(crate) fn read_key_gen(alloc: Global, words: &[String]) -> Result<(Height, W
     let Some(width) = width_in(&matches) else {
         return Err(WordsFault::Outside);
     };
-    Ok((height, width))
+    Ok(Command::KeyGen { height, width })
 }

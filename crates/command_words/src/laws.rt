@@ -7,9 +7,8 @@ pub fn one_command()
     ensures { OneCommand }
 {}
 
-/// `verify-ref` with the name of any reference but the log's own asks for the verdict on it, with `--stdin` behind
-/// the name, before it, or not at all, and `record` with such a name asks to record it; `key-gen` with a height and a
-/// width asks for such a key; `export`, `import` and `log` alone ask for what they name.
+/// The plain words of each command ask for it, and so does `verify-ref` with `--stdin` before or behind the name, or with
+/// the ids of a root behind it.
 pub fn plain_words()
     ensures { PlainWords }
 {}

@@ -9,16 +9,18 @@
 
 #![tactic(auto)]
 
+mod annotating;
 mod arguments;
 mod bare_words;
 mod commands;
+mod explaining;
 mod first_words;
 mod key_types;
 pub mod laws;
 mod places;
 mod reading;
-mod recording;
 mod references;
+mod sealing;
 #[cfg(test)]
 mod tests;
 mod verify_ref;

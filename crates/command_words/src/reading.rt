@@ -1,13 +1,16 @@
 //! Words into a command.
 
 ghost use Rattle.std.specs.Prelude.{map, string_bytes, IfOk, IsErrOf};
-ghost use Rattle.command_words.specs.FirstWords.{AreNamed, AsksFor, AsksForNone, IsCommand, IsNoCommand, NamesNoLog};
+ghost use Rattle.command_words.specs.FirstWords.{AreNamed, AsksFor, AsksForNone, IsCommand, IsNoCommand, IsWithinLimits};
 
+use crate::annotating::read_annotate;
 use crate::bare_words::read_no_more;
 use crate::commands::{Command, CommandName};
+use crate::explaining::read_explain;
 use crate::first_words::{named, split_first};
 use crate::key_types::read_key_gen;
-use crate::recording::read_record;
+use crate::references::read_reference;
+use crate::sealing::read_seal;
 use crate::verify_ref::read_verify_ref;
 use crate::words_fault::WordsFault;
 use std::alloc::Global;
@@ -18,10 +21,7 @@ fn read_rest(alloc: Global, first: CommandName, words: &[String]) -> Result<Comm
     ensures outside { IsErrOf result WordsFault.Outside → AsksForNone first (map string_bytes words.now) }
 {
     match first {
-        CommandName::VerifyRef => {
-            let (name, stdin) = read_verify_ref(alloc, words)?;
-            Ok(Command::VerifyRef { name, stdin })
-        }
+        CommandName::VerifyRef => read_verify_ref(alloc, words),
         CommandName::Export => {
             read_no_more(alloc, "export", words)?;
             Ok(Command::Export)
@@ -30,26 +30,34 @@ fn read_rest(alloc: Global, first: CommandName, words: &[String]) -> Result<Comm
             read_no_more(alloc, "import", words)?;
             Ok(Command::Import)
         }
-        CommandName::KeyGen => {
-            let (height, width) = read_key_gen(alloc, words)?;
-            Ok(Command::KeyGen { height, width })
-        }
+        CommandName::KeyGen => read_key_gen(alloc, words),
         CommandName::Log => {
             read_no_more(alloc, "log", words)?;
             Ok(Command::Log)
         }
         CommandName::Record => {
-            let name = read_record(alloc, words)?;
+            let name = read_reference(alloc, "record", words)?;
             Ok(Command::Record { name })
         }
+        CommandName::Seal => read_seal(alloc, words),
+        CommandName::Snapshot => {
+            let name = read_reference(alloc, "snapshot", words)?;
+            Ok(Command::Snapshot { name })
+        }
+        CommandName::PolicyApply => {
+            read_no_more(alloc, "policy-apply", words)?;
+            Ok(Command::PolicyApply)
+        }
+        CommandName::Explain => read_explain(alloc, words),
+        CommandName::Annotate => read_annotate(alloc, words),
     }
 }
 
-/// The command that words ask for; no reference that it names is the log's own. `Outside` comes exactly where they ask for none, want of memory aside; want of
-/// memory comes only where the first word is the name of a command.
+/// The command that words ask for, whose values are within their limits, and whose reference is not the log's own. `Outside` comes exactly where they ask for
+/// none, want of memory aside; want of memory comes only where the first word is the name of a command.
 pub fn read_command(alloc: Global, words: &[String]) -> Result<Command, WordsFault>
     ensures found { IfOk result (IsCommand (map string_bytes words.now)) }
-    ensures not_log { IfOk result NamesNoLog }
+    ensures within { IfOk result IsWithinLimits }
     ensures outside { IsErrOf result WordsFault.Outside → IsNoCommand (map string_bytes words.now) }
     ensures memory { IsErrOf result WordsFault.Memory → AreNamed (map string_bytes words.now) }
 {

@@ -1,21 +1,32 @@
 //! The words of `verify-ref`.
 
-ghost use Rattle.std.specs.Prelude.{◌≡◌, ℕ, Bool, List, map, string_bytes, IfOk, IsErrOf, OnOk};
-ghost use Rattle.clap.specs.Words.{app_of, found_of, matches_of, rows_of};
-ghost use Rattle.command_words.specs.Commands.{AsksVerdict, verify_ref_app};
+ghost use Rattle.std.specs.Prelude.{◌≡◌, ℕ, List, Option, codes, map, string_bytes, IfOk, IsErrOf, OnOk};
+ghost use Rattle.clap.specs.Words.{app_of, first_of, found_of, matches_of, rows_of};
+ghost use Rattle.command_words.specs.Commands.{IsRoot, verify_ref_app};
+ghost use Rattle.command_words.specs.FirstWords.{AsksFor, AsksForNone};
 ghost use Rattle.command_words.specs.Grammars.{Takes};
+ghost use Rattle.command_words.specs.declared.commands.CommandName.TheVariants as name;
 
-use crate::arguments::{bare_command, flag, has_flag, positional, take_words, with_argument};
+use crate::arguments::{
+    bare_command, flag, has_flag, option, positional, take_words, value_in, with_argument,
+};
+use crate::commands::Command;
 use crate::references::reference_in;
 use crate::words_fault::WordsFault;
 use clap::ArgMatches;
-use git_object::RefName;
+use git_object::KeyId;
+use octets::Items;
 use std::alloc::{AllocError, Global};
+use word_values::read_key_ids;
+
+/// The most ids of keys that are given.
+const MOST_KEYS: usize = 64;
 
 fn verify_ref_command<'a>(alloc: Global) -> Result<clap::Command<'a>, AllocError>
     ensures { IfOk result (λ c. app_of c ≡ verify_ref_app) }
 {
     let command = with_argument(bare_command(alloc, "verify-ref"), positional(alloc, "ref"))?;
+    let command = with_argument(command, option(alloc, "root"))?;
     with_argument(command, flag(alloc, "stdin"))
 }
 
@@ -31,17 +42,29 @@ fn take_verify_ref<'a>(alloc: Global, words: &'a [String]) -> Result<ArgMatches<
     take_words(command, words)
 }
 
-/// The reference of which the words after `verify-ref` ask, and whether `--stdin` is given. `Outside` comes
-/// exactly where they ask for none, want of memory aside.
-pub(crate) fn read_verify_ref(
-    alloc: Global,
-    words: &[String],
-) -> Result<(RefName, bool), WordsFault>
-    ensures found { IfOk result (λ found. AsksVerdict found.0 found.1 (map string_bytes words.now)) }
-    ensures outside { IsErrOf result WordsFault.Outside
-        → (name : List ℕ) (stdin : Bool) → AsksVerdict name stdin (map string_bytes words.now) → ⊥ }
+// The ids of keys that are given, if any are.
+fn root_in(alloc: Global, matches: &ArgMatches) -> Result<Option<Items<KeyId>>, WordsFault>
+    ensures found { IfOk result (IsRoot (first_of (codes "root") (rows_of (found_of matches.now)))) }
+    ensures outside { IsErrOf result WordsFault.Outside → (root : Option (List (List ℕ))) → IsRoot (first_of (codes "root") (rows_of (found_of matches.now))) root → ⊥ }
+{
+    let Some(text) = value_in(matches, "root") else {
+        return Ok(None);
+    };
+    match read_key_ids(alloc, text, MOST_KEYS) {
+        Ok(Some(ids)) => Ok(Some(ids)),
+        Ok(None) => Err(WordsFault::Outside),
+        Err(_) => Err(WordsFault::Memory),
+    }
+}
+
+/// The command of the words after `verify-ref`. `Outside` comes exactly where they ask for none, want of memory aside.
+pub(crate) fn read_verify_ref(alloc: Global, words: &[String]) -> Result<Command, WordsFault>
+    ensures found { IfOk result (AsksFor name.VerifyRef (map string_bytes words.now)) }
+    ensures outside { IsErrOf result WordsFault.Outside → AsksForNone name.VerifyRef (map string_bytes words.now) }
 {
     let matches = take_verify_ref(alloc, words)?;
     let name = reference_in(alloc, &matches)?;
-    Ok((name, has_flag(&matches, "stdin")))
+    let root = root_in(alloc, &matches)?;
+    let stdin = has_flag(&matches, "stdin");
+    Ok(Command::VerifyRef { name, root, stdin })
 }

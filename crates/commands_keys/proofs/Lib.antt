@@ -1,1 +1,6 @@
 mod ToldOutcome
+mod Placed
+mod OneKeyFile
+mod OneSeal
+mod ToldSeal
+mod SealedFrom

@@ -6,6 +6,7 @@ use Rattle.edge_disk.specs.declared.disks.Disk as disk
 use Rattle.endings.specs.Endings.{IsStopped}
 use Rattle.lmots.specs.declared.ots_type.OtsType.{OtsType}
 use Rattle.lms_keys.specs.declared.lms_type.LmsType.{LmsType}
+use Rattle.commands_keys.proofs.ToldSeal.{seal_told}
 use Rattle.commands_keys.specs.Contents.{KeyGenComes}
 use Rattle.commands_keys.specs.Laws.{TellsOfKeys}
 use Rattle.commands_keys.specs.MakingKeys.{KeyGenEnds, key_gen_ending}
@@ -30,4 +31,7 @@ module _ {D : Type 0} (disk_of : disk.Ghosts D) where
   told lms ots left left_now file now old new printed printed_now (Err Memory) held holds means = inr tt
 
   pub tells_of_keys : TellsOfKeys disk_of
-  tells_of_keys = record { key_gen = told }
+  tells_of_keys = record {
+    key_gen = told;
+    seal = λ add left_now bytes file now old new printed printed_now outcome held holds means. seal_told disk_of add left_now bytes file now old new printed printed_now outcome held holds means;
+  }

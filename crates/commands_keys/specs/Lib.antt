@@ -6,3 +6,9 @@ pub mod MakingKeys
 pub mod Contents
 -- the laws of these commands
 pub mod Laws
+-- what `seal` takes from the source
+pub mod Inputs
+-- what each outcome of signing an envelope means
+pub mod EnvelopeSigning
+-- what each outcome of `seal` means
+pub mod Sealing

@@ -6,5 +6,5 @@ pub mod Ended
 pub mod Unopened
 pub mod Told
 pub mod Counted
-mod OneOutcome
-mod ToldOutcome
+pub mod OneOutcome
+pub mod ToldOutcome

@@ -39,7 +39,7 @@ too_short : (n p : ℕ) → n < 64 → n ≡ 64 + p → ⊥
 too_short n p less is = omega arith
 
 -- a file is that of a key or of none
-not_both : (file : List ℕ) → IsNoKeyFile file → (secret : Secret) → IsKeyFile file secret → ⊥
+pub not_both : (file : List ℕ) → IsNoKeyFile file → (secret : Secret) → IsKeyFile file secret → ⊥
 not_both file (inl short) secret key = too_short (length file) (2 ^ height secret.lms) short key.size
 not_both file (inr (inl none)) secret key = none.none secret key.header
 not_both file (inr (inr other)) secret key = other.other (key.size ∙ ap (λ (h : ℕ). 64 + 2 ^ h) (one_height _ secret other.secret key.header other.header))
@@ -49,7 +49,7 @@ not_spent : (file : List ℕ) (s t : Secret) (leaf : ℕ) → IsUsedUp file s �
 not_spent file s t leaf used_up unused = used_up.used leaf (subst (λ (h : ℕ). leaf < 2 ^ h) (one_height _ t s unused.is.header used_up.is.header) unused.within) unused.free
 
 module _ (one : OneLog) (once : OneBreak) (apart : NeverBoth) (file : List ℕ) (was : Repository) where
-  not_full : (xs ys : List (List ℕ)) → IsLogOf was xs → IsLogOf was ys → length xs < 1000000 → length ys ≡ 1000000 → ⊥
+  pub not_full : (xs ys : List (List ℕ)) → IsLogOf was xs → IsLogOf was ys → length xs < 1000000 → length ys ≡ 1000000 → ⊥
   not_full xs ys is other short full =
       let same : length xs ≡ length ys = ap length (one (heads_of was) (get was.refs log_name) xs ys is other) in
       lt_irrefl 1000000 (subst (λ (n : ℕ). n < 1000000) (same ∙ full) short)

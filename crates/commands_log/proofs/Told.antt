@@ -1,5 +1,5 @@
 -- What was read of a store when something came of adding an entry to it.
-use Rattle.std.proofs.Common.{◌≡◌, ◌<◌, ℕ, List, length, subst}
+use Rattle.std.proofs.Common.{◌≡◌, ◌<◌, ◌∙◌, ℕ, List, ap, length}
 use Rattle.std.specs.Prelude.{Option, Some, Result, Ok, Err}
 use Rattle.git_object.specs.Repository.{Repository, value_of}
 use Rattle.keeper_api.specs.Undisturbed.{Undisturbed}
@@ -29,25 +29,30 @@ module _ {R D : Type 0} (keeper_of : keeper.Ghosts R) (disk_of : disk.Ghosts D) 
   told_before (Err Memory) ends now held = (now, ends.is.store.content now held)
   told_before (Err MemoryAfter) ends now held = (now, ends.is.0.content now held)
 
-module _ {R D : Type 0} (keeper_of : keeper.Ghosts R) (disk_of : disk.Ghosts D) (name : List ℕ) (left left_now : Option (List ℕ)) where
-  -- the log was read, then the reference's value, and then adding its entry came to this
-  pub tried : (secret : Secret) (ids : List (List ℕ)) (target : List ℕ) (body : EntryBody) (old opened mid new : R) (file file_mid file_now : D) (result : Result Appended AppendFault)
+module _ {R D : Type 0} (keeper_of : keeper.Ghosts R) (disk_of : disk.Ghosts D) (left left_now : Option (List ℕ)) (Is : EntryBody → Type 0) (IsSo : List (List ℕ) → EntryBody → Repository → Type 0) where
+  -- the log was read, then what the body wants, and then adding its entry came to this
+  pub tried : (secret : Secret) (ids : List (List ℕ)) (body : EntryBody) (old opened mid new : R) (file file_mid file_now : D) (result : Result Appended AppendFault)
       → length ids < 1000000 → Undisturbed keeper_of old opened → Undisturbed keeper_of opened mid
       → IsKept (disk_of.seen file) (disk_of.seen file_mid) (disk_of.may_leave file) (disk_of.may_leave file_mid)
       → ((r : Repository) → keeper_of.content opened ≡ Some r → IsLogOf r ids)
-      → ((r : Repository) → keeper_of.content mid ≡ Some r → target ≡ value_of r name)
-      → body ≡ Reference name target
+      → Is body
+      → ((r : Repository) → keeper_of.content mid ≡ Some r → IsSo ids body r)
       → AppendEnds keeper_of disk_of secret mid new file_mid file_now ids body left left_now result
-      → Tries keeper_of disk_of name left left_now old new file file_now result
-  tried secret ids target body old opened mid new file file_mid file_now result short first next kept log value is ends = record {
+      → Tries keeper_of disk_of left left_now old new file file_now Is IsSo result
+  tried secret ids body old opened mid new file file_mid file_now result short first next kept log is so ends = record {
     secret = secret;
     ids = ids;
-    target = target;
+    body = body;
+    is = is;
     short = short;
     read = λ now held.
         let was = told_before keeper_of disk_of secret mid new file_mid file_now ids body left left_now result ends now held in
         let then = next.content was.0 was.1 in
-        (was.0, first.content was.0 then, record { log = log was.0 then; value = value was.0 was.1 });
-    ends = append_from keeper_of disk_of secret old mid new file file_mid file_now (same_twice keeper_of old opened mid first next) kept ids (Reference name target) left left_now result
-        (subst (λ (b : EntryBody). AppendEnds keeper_of disk_of secret mid new file_mid file_now ids b left left_now result) is ends);
+        (was.0, first.content was.0 then, record { log = log was.0 then; so = so was.0 was.1 });
+    ends = append_from keeper_of disk_of secret old mid new file file_mid file_now (same_twice keeper_of old opened mid first next) kept ids body left left_now result ends;
   }
+
+-- the value of a reference is what its body records
+pub of_value : (name target : List ℕ) (body : EntryBody) (held : Option Repository) → body ≡ Reference name target → ((r : Repository) → held ≡ Some r → target ≡ value_of r name)
+    → (r : Repository) → held ≡ Some r → body ≡ Reference name (value_of r name)
+of_value name target body held is value r told = is ∙ ap (λ (t : List ℕ). Reference name t) (value r told)

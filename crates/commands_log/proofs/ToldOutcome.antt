@@ -1,15 +1,16 @@
--- What `record` comes to where store and disk tell what they hold.
+-- What `record` and `annotate` come to where store and disk tell what they hold.
 use Rattle.std.proofs.Common.{◌≡◌, ◌⊎◌, ℕ, List, inl, inr, subst}
 use Rattle.std.specs.Prelude.{Option, Some, Result, Ok, Err}
 use Rattle.git_object.specs.Repository.{Repository}
 use Rattle.keeper_api.specs.declared.keepers.Keeper as keeper
 use Rattle.edge_disk.specs.declared.disks.Disk as disk
+use Rattle.log_entries.specs.declared.entries.EntryBody.{EntryBody}
 use Rattle.leaf_journal.specs.KeyFile.{IsKeyFile}
 use Rattle.key_file.specs.Files.{IsLeastUnused, IsNoKeyFile, IsUsedUp}
 use Rattle.rsl_chain.specs.Logs.{IsBreakOf, IsLogOf}
 use Rattle.endings.specs.Endings.{IsStopped}
 use Rattle.commands_log.specs.Outcomes.{RecordComes, TellsOfLog, record_ending}
-use Rattle.commands_log.specs.Recording.{RecordEnds, Tries}
+use Rattle.commands_log.specs.Recording.{AddsTold, Annotates, AnyNoted, Records, RecordsValue, Tries}
 use Rattle.commands_log.specs.declared.appending.AppendFault.{AppendFault}
 use Rattle.commands_log.specs.declared.appending.AppendFault.TheVariants as append
 use Rattle.commands_log.specs.declared.appending.Appended.{Appended}
@@ -20,15 +21,15 @@ use Rattle.commands_log.specs.declared.recording.RecordFault.TheVariants.{Unread
 same_some : {X : Type 0} (x y : X) (told : Option X) → told ≡ Some x → told ≡ Some y → x ≡ y
 same_some x y told e f = cc
 
-module _ {R D : Type 0} (keeper_of : keeper.Ghosts R) (disk_of : disk.Ghosts D) (name : List ℕ) (left left_now : Option (List ℕ)) (was now : Repository) (file file_now : List ℕ) (old new : R) (key key_now : D)
+module _ {R D : Type 0} (keeper_of : keeper.Ghosts R) (disk_of : disk.Ghosts D) (Is : EntryBody → Type 0) (IsSo : List (List ℕ) → EntryBody → Repository → Type 0) (left left_now : Option (List ℕ)) (was now : Repository) (file file_now : List ℕ) (old new : R) (key key_now : D)
     (held : keeper_of.content old ≡ Some was) (holds : keeper_of.content new ≡ Some now) (seen : disk_of.seen key ≡ Some file) (sees : disk_of.seen key_now ≡ Some file_now) where
   -- the log that was read is that of the repository
-  read_log : (result : Result Appended AppendFault) (tries : Tries keeper_of disk_of name left left_now old new key key_now result) → IsLogOf was tries.ids
+  read_log : (result : Result Appended AppendFault) (tries : Tries keeper_of disk_of left left_now old new key key_now Is IsSo result) → IsLogOf was tries.ids
   read_log result tries =
       let found = tries.read now holds in
       subst (λ (r : Repository). IsLogOf r tries.ids) (same_some found.0 was (keeper_of.content old) found.1 held) found.2.log
 
-  told : (printed printed_now : Option (List ℕ)) (outcome : Result (Unit {0}) RecordFault) → RecordEnds keeper_of disk_of name left left_now old new key key_now printed printed_now outcome → RecordComes file was outcome ⊎ IsStopped (record_ending outcome)
+  pub told : (printed printed_now : Option (List ℕ)) (outcome : Result (Unit {0}) RecordFault) → AddsTold keeper_of disk_of left left_now old new key key_now Is IsSo printed printed_now outcome → RecordComes file was outcome ⊎ IsStopped (record_ending outcome)
   told printed printed_now (Ok done) means =
       let tries = means.1 in
       let signs = tries.ends.0.is.signs.signs in
@@ -90,5 +91,7 @@ module _ {R D : Type 0} (keeper_of : keeper.Ghosts R) (disk_of : disk.Ghosts D) 
 pub tells_of_log : {R D : Type 0} (keeper_of : keeper.Ghosts R) (disk_of : disk.Ghosts D) → TellsOfLog keeper_of disk_of
 tells_of_log keeper_of disk_of = record {
   recorded = λ name left left_now was now file file_now old new key key_now printed printed_now outcome held holds seen sees.
-      told keeper_of disk_of name left left_now was now file file_now old new key key_now held holds seen sees printed printed_now outcome;
+      told keeper_of disk_of (Records name) (RecordsValue name) left left_now was now file file_now old new key key_now held holds seen sees printed printed_now outcome;
+  annotated = λ noted skip message left left_now was now file file_now old new key key_now printed printed_now outcome held holds seen sees.
+      told keeper_of disk_of (Annotates noted skip message) AnyNoted left left_now was now file file_now old new key key_now held holds seen sees printed printed_now outcome;
 }

@@ -1,5 +1,6 @@
--- How `record` ends the program, what it comes to where store and disk tell what they hold, and the laws of it.
-use Rattle.std.specs.Prelude.{◌≡◌, ◌<◌, ◌⊎◌, ℕ, List, length, Option, Some, Result, Ok, Err}
+-- How `record` and `annotate` end the program, what they come to where store and disk tell what they hold, and the laws of
+-- them.
+use Rattle.std.specs.Prelude.{◌≡◌, ◌<◌, ◌⊎◌, ℕ, Bool, List, length, Option, Some, Result, Ok, Err}
 use Rattle.git_object.specs.Repository.{Repository}
 use Rattle.keeper_api.specs.declared.keepers.Keeper as keeper
 use Rattle.edge_disk.specs.declared.disks.Disk as disk
@@ -12,7 +13,7 @@ use Rattle.endings.specs.declared.ending.Ending.{Ending}
 use Rattle.endings.specs.declared.ending.Ending.TheVariants as ending
 use Rattle.endings.specs.declared.ending.Part.TheVariants as part
 use Rattle.endings.specs.declared.ending.Refusal.TheVariants as refusal
-use Rattle.commands_log.specs.Recording.{RecordEnds}
+use Rattle.commands_log.specs.Recording.{AnnotateEnds, RecordEnds}
 use Rattle.commands_log.specs.declared.appending.AppendFault.{AppendFault}
 use Rattle.commands_log.specs.declared.appending.AppendFault.TheVariants as append
 use Rattle.commands_log.specs.declared.opening.ReadingFault.{ReadingFault}
@@ -92,7 +93,7 @@ AppendComes file was append.CommitFailed = ⊥
 AppendComes file was append.Memory = ⊥
 AppendComes file was append.MemoryAfter = ⊥
 
--- what `record` comes to
+-- what `record` comes to, and `annotate`
 abbrev pub RecordComes : List ℕ → Repository → Result (Unit {0}) RecordFault → Type 0
 RecordComes file was (Ok done) = IsReady file was
 RecordComes file was (Err (Unread fault)) = ReadingComes file was fault
@@ -110,3 +111,6 @@ pub record TellsOfLog {R D : Type 0} (keeper_of : keeper.Ghosts R) (disk_of : di
   pub recorded : (name : List ℕ) (left left_now : Option (List ℕ)) (was now : Repository) (file file_now : List ℕ) (old new : R) (key key_now : D) (printed printed_now : Option (List ℕ)) (outcome : Result (Unit {0}) RecordFault)
       → keeper_of.content old ≡ Some was → keeper_of.content new ≡ Some now → disk_of.seen key ≡ Some file → disk_of.seen key_now ≡ Some file_now
       → RecordEnds keeper_of disk_of name left left_now old new key key_now printed printed_now outcome → RecordComes file was outcome ⊎ IsStopped (record_ending outcome)
+  pub annotated : (noted : List (List ℕ)) (skip : Bool) (message : List ℕ) (left left_now : Option (List ℕ)) (was now : Repository) (file file_now : List ℕ) (old new : R) (key key_now : D) (printed printed_now : Option (List ℕ)) (outcome : Result (Unit {0}) RecordFault)
+      → keeper_of.content old ≡ Some was → keeper_of.content new ≡ Some now → disk_of.seen key ≡ Some file → disk_of.seen key_now ≡ Some file_now
+      → AnnotateEnds keeper_of disk_of noted skip message left left_now old new key key_now printed printed_now outcome → RecordComes file was outcome ⊎ IsStopped (record_ending outcome)

@@ -1,10 +1,11 @@
--- What each outcome of `record` means.
+-- What each outcome of `record` and of `annotate` means.
 use Rattle.std.specs.Prelude.{◌≡◌, ◌<◌, ℕ, Bool, true, false, List, length, Option, Result, Ok, Err}
 use Rattle.octets.specs.Content.{GainsPart, Told, with_end}
 use Rattle.git_object.specs.Repository.{Repository, value_of}
 use Rattle.keeper_api.specs.declared.keepers.Keeper as keeper
 use Rattle.edge_disk.specs.declared.disks.Disk as disk
-use Rattle.log_entries.specs.declared.entries.EntryBody.TheVariants.{Reference}
+use Rattle.log_entries.specs.declared.entries.EntryBody.{EntryBody}
+use Rattle.log_entries.specs.declared.entries.EntryBody.TheVariants.{Annotation, Reference}
 use Rattle.lms_keys.specs.Secret.{Secret}
 use Rattle.rsl_chain.specs.Logs.{IsLogOf}
 use Rattle.commands_log.specs.Appending.{AppendEnds}
@@ -80,20 +81,22 @@ TellsUnread printed printed_now fault (BreakUntold id) = (fault ≡ reading.LogB
 TellsUnread printed printed_now fault (Unappended other) = ⊥
 TellsUnread printed printed_now fault SinkFailed = ⊥
 
--- the repository's log, and the value of the reference in it: zeros where it is not there
-pub record IsRead (name : List ℕ) (ids : List (List ℕ)) (target : List ℕ) (r : Repository) : Type 0 where
+-- the repository's log, and what is so of an entry's body behind it
+pub record IsRead (IsSo : List (List ℕ) → EntryBody → Repository → Type 0) (ids : List (List ℕ)) (body : EntryBody) (r : Repository) : Type 0 where
   pub log : IsLogOf r ids
-  pub value : target ≡ value_of r name
+  pub so : IsSo ids body r
 
-module _ {R D : Type 0} (keeper_of : keeper.Ghosts R) (disk_of : disk.Ghosts D) (name : List ℕ) (left left_now : Option (List ℕ)) (old new : R) (file file_now : D) where
-  -- the log and the reference's value were read, and adding the entry that records it came to this
-  pub record Tries (result : Result Appended AppendFault) : Type 0 where
+module _ {R D : Type 0} (keeper_of : keeper.Ghosts R) (disk_of : disk.Ghosts D) (left left_now : Option (List ℕ)) (old new : R) (file file_now : D) where
+  -- the log was read and a body made, of which this is so in any case, and this in the repository; and adding an entry of
+  -- it came to this
+  pub record Tries (Is : EntryBody → Type 0) (IsSo : List (List ℕ) → EntryBody → Repository → Type 0) (result : Result Appended AppendFault) : Type 0 where
     pub secret : Secret
     pub ids : List (List ℕ)
-    pub target : List ℕ
+    pub body : EntryBody
+    pub is : Is body
     pub short : length ids < 1000000
-    pub read : Told (λ was now. IsRead name ids target was) (keeper_of.content old) (keeper_of.content new)
-    pub ends : AppendEnds keeper_of disk_of secret old new file file_now ids (Reference name target) left left_now result
+    pub read : Told (λ was now. IsRead IsSo ids body was) (keeper_of.content old) (keeper_of.content new)
+    pub ends : AppendEnds keeper_of disk_of secret old new file file_now ids body left left_now result
 
   -- what was wanted was not read, nothing was asked of the clock, and store and disk are as they were
   pub record Refuses (fault : ReadingFault) : Type 0 where
@@ -101,16 +104,51 @@ module _ {R D : Type 0} (keeper_of : keeper.Ghosts R) (disk_of : disk.Ghosts D) 
     pub same : Untouched keeper_of disk_of old new file file_now
     pub unasked : left_now ≡ left
 
-  -- the entry was added, and nothing is printed yet; or why not
-  abbrev pub ValueEnds : Result Appended NotAppended → Type 0
-  ValueEnds (Ok appended) = Tries (Ok appended)
-  ValueEnds (Err (none.Unread fault)) = Refuses fault
-  ValueEnds (Err (none.Unappended fault)) = Tries (Err fault)
+  module _ (Is : EntryBody → Type 0) (IsSo : List (List ℕ) → EntryBody → Repository → Type 0) where
+    -- an entry was added, and nothing is printed yet; or why not
+    abbrev pub Adds : Result Appended NotAppended → Type 0
+    Adds (Ok appended) = Tries Is IsSo (Ok appended)
+    Adds (Err (none.Unread fault)) = Refuses fault
+    Adds (Err (none.Unappended fault)) = Tries Is IsSo (Err fault)
 
-  -- an entry was added and told; or why not, what is left of it, and what was printed
+    -- an entry was added and told; or why not, what is left of it, and what was printed
+    abbrev pub AddsTold : Option (List ℕ) → Option (List ℕ) → Result (Unit {0}) RecordFault → Type 0
+    AddsTold printed printed_now (Ok done) = (appended : Appended) × Tries Is IsSo (Ok appended) × (printed_now ≡ with_end printed (entry_line appended))
+    AddsTold printed printed_now (Err (Unread fault)) = Refuses fault × SaysUnread fault printed printed_now
+    AddsTold printed printed_now (Err (BreakUntold id)) = Refuses (reading.LogBroken id) × GainsPart printed printed_now (break_line id)
+    AddsTold printed printed_now (Err (Unappended fault)) = Tries Is IsSo (Err fault) × (printed_now ≡ printed)
+    AddsTold printed printed_now (Err SinkFailed) = (appended : Appended) × Tries Is IsSo (Ok appended) × GainsPart printed printed_now (entry_line appended)
+
+-- ---- `record`
+
+-- the body records a target of the reference
+abbrev pub Records : List ℕ → EntryBody → Type 0
+Records name body = (target : List ℕ) × (body ≡ Reference name target)
+
+-- which is its value: zeros where it is not there
+abbrev pub RecordsValue : List ℕ → List (List ℕ) → EntryBody → Repository → Type 0
+RecordsValue name ids body r = body ≡ Reference name (value_of r name)
+
+module _ {R D : Type 0} (keeper_of : keeper.Ghosts R) (disk_of : disk.Ghosts D) (name : List ℕ) (left left_now : Option (List ℕ)) (old new : R) (file file_now : D) where
+  abbrev pub ValueEnds : Result Appended NotAppended → Type 0
+  ValueEnds result = Adds keeper_of disk_of left left_now old new file file_now (Records name) (RecordsValue name) result
+
   abbrev pub RecordEnds : Option (List ℕ) → Option (List ℕ) → Result (Unit {0}) RecordFault → Type 0
-  RecordEnds printed printed_now (Ok done) = (appended : Appended) × Tries (Ok appended) × (printed_now ≡ with_end printed (entry_line appended))
-  RecordEnds printed printed_now (Err (Unread fault)) = Refuses fault × SaysUnread fault printed printed_now
-  RecordEnds printed printed_now (Err (BreakUntold id)) = Refuses (reading.LogBroken id) × GainsPart printed printed_now (break_line id)
-  RecordEnds printed printed_now (Err (Unappended fault)) = Tries (Err fault) × (printed_now ≡ printed)
-  RecordEnds printed printed_now (Err SinkFailed) = (appended : Appended) × Tries (Ok appended) × GainsPart printed printed_now (entry_line appended)
+  RecordEnds printed printed_now result = AddsTold keeper_of disk_of left left_now old new file file_now (Records name) (RecordsValue name) printed printed_now result
+
+-- ---- `annotate`
+
+-- the body is the annotation
+abbrev pub Annotates : List (List ℕ) → Bool → List ℕ → EntryBody → Type 0
+Annotates noted skip message body = body ≡ Annotation noted skip message
+
+-- of the repository nothing more is asked: the ids may be any
+abbrev pub AnyNoted : List (List ℕ) → EntryBody → Repository → Type 0
+AnyNoted ids body r = Unit {0}
+
+module _ {R D : Type 0} (keeper_of : keeper.Ghosts R) (disk_of : disk.Ghosts D) (noted : List (List ℕ)) (skip : Bool) (message : List ℕ) (left left_now : Option (List ℕ)) (old new : R) (file file_now : D) where
+  abbrev pub NoteEnds : Result Appended NotAppended → Type 0
+  NoteEnds result = Adds keeper_of disk_of left left_now old new file file_now (Annotates noted skip message) AnyNoted result
+
+  abbrev pub AnnotateEnds : Option (List ℕ) → Option (List ℕ) → Result (Unit {0}) RecordFault → Type 0
+  AnnotateEnds printed printed_now result = AddsTold keeper_of disk_of left left_now old new file file_now (Annotates noted skip message) AnyNoted printed printed_now result

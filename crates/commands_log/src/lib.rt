@@ -1,4 +1,4 @@
-//! The commands that add an entry to the log: `record`.
+//! The commands that add an entry to the log: `record` and `annotate`.
 //!
 //! This crate stands on `rsl_chain`, `key_file`, `keeper_api`, `edge_clock` and `edge_io`. Such a command reads the
 //! key file, then the log (`open_log`), then what it wants itself, and only then asks the clock, signs, commits once
@@ -8,6 +8,7 @@
 
 #![tactic(auto)]
 
+mod annotating;
 mod appending;
 mod committing;
 mod drafting;
@@ -21,7 +22,9 @@ mod signing;
 mod tests;
 mod values;
 
+pub use annotating::annotate;
 pub use appending::{AppendFault, Appended, append_entry};
-pub use opening::{OpenLog, ReadingFault, open_log};
+pub use lines::{LONGEST_LINE, write_entry_line};
+pub use opening::{OpenLog, ReadingFault, open_log, unread_log};
 pub use outcomes::record_ending;
-pub use recording::{RecordFault, record};
+pub use recording::{RecordFault, record, tell_unread};

@@ -49,7 +49,8 @@ fn of_key(fault: OpenFault) -> ReadingFault
     }
 }
 
-fn of_log(fault: LogFault) -> ReadingFault
+/// Why nothing was read, where the log was not.
+pub fn unread_log(fault: LogFault) -> ReadingFault
     ensures { result ≡ log_fault fault }
 {
     match fault {
@@ -85,7 +86,7 @@ pub fn open_log<R: Keeper, D: Disk>(
     };
     let log = match Log::load(alloc, keeper) {
         Ok(log) => log,
-        Err(fault) => return Err(of_log(fault)),
+        Err(fault) => return Err(unread_log(fault)),
     };
     if log.ids.len() >= 1000000 {
         return Err(ReadingFault::TooLarge);

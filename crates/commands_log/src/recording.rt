@@ -18,7 +18,7 @@ use git_object::{ObjectId, RefName};
 use keeper_api::Keeper;
 use std::alloc::Global;
 
-/// Why no value was recorded, or why that was not told.
+/// Why no entry was recorded, or why that was not told.
 #[derive(Clone, Copy, Debug, PartialEq, Eq)]
 pub enum RecordFault {
     /// What is wanted was not read. Nothing changed, and of a broken log its break was printed.
@@ -47,8 +47,9 @@ fn tell_break<K: Sink>(id: ObjectId, mut line: Vec<u8>, sink: &mut K) -> RecordF
     }
 }
 
-// Tells why nothing was read, where that is told here.
-fn tell_unread<K: Sink>(fault: ReadingFault, line: Vec<u8>, sink: &mut K) -> RecordFault
+/// Tells why nothing was read, where that is told here: of a broken log with the line of its break, into an empty buffer with
+/// room for it.
+pub fn tell_unread<K: Sink>(fault: ReadingFault, line: Vec<u8>, sink: &mut K) -> RecordFault
     requires empty { line.items ≡ [] }
     requires room { 92 ≤ vec_capacity line }
     ensures tells { TellsUnread (K.contents sink.old) (K.contents sink.new) fault result }

@@ -1,4 +1,4 @@
-use crate::{AppendFault, ReadingFault, RecordFault, record};
+use crate::{AppendFault, ReadingFault, RecordFault, annotate, record};
 use edge_clock::MemClock;
 use edge_disk::MemDisk;
 use edge_io::MemSink;
@@ -8,7 +8,7 @@ use leaf_journal::create;
 use lmots::OtsType;
 use lms_keys::LmsType;
 use octets::Octets;
-use rsl_chain::{Entry, Log, read_entry};
+use rsl_chain::{Entry, EntryBody, Log, read_entry};
 use std::alloc::Global;
 use std::test::Fail;
 
@@ -168,5 +168,60 @@ fn a_broken_log_is_told(rt: HostRuntime) -> Result<(), Fail> {
     assert_eq!(rt; sink.contents().len(), 76);
     let untold = RecordFault::BreakUntold { id };
     assert!(rt; record_main(alloc, &mut sink, &mut keeper, &mut disk)? == Some(untold));
+    Ok(())
+}
+
+fn is_recorded(
+    alloc: Global,
+    sink: &mut MemSink,
+    keeper: &mut MemKeeper,
+    disk: &mut MemDisk,
+) -> Result<bool, Fail> {
+    let name = RefName::read(alloc, b"refs/heads/main")?;
+    let mut clock = MemClock::new(vec![in alloc; 1234567890]?);
+    let outcome = record(alloc, &name, sink, keeper, disk, &mut clock);
+    Ok(outcome.is_ok())
+}
+
+fn annotate_tip(
+    alloc: Global,
+    sink: &mut MemSink,
+    keeper: &mut MemKeeper,
+    disk: &mut MemDisk,
+) -> Result<bool, Fail> {
+    let log = Log::load(alloc, keeper)?;
+    let message = Octets::from_slice(alloc, b"a slip")?;
+    let mut clock = MemClock::new(vec![in alloc; 1234567891]?);
+    if log.ids.is_empty() || log.ids.len() > 256 {
+        return Ok(false);
+    }
+    let outcome = annotate(
+        alloc, &log.ids, true, &message, sink, keeper, disk, &mut clock,
+    );
+    Ok(outcome.is_ok())
+}
+
+// Whether an entry skips the one of this id, with this message.
+fn skips(entry: &Entry, skipped: &ObjectId, wanted: &[u8]) -> bool {
+    match &entry.body {
+        EntryBody::Annotation { ids, skip, message } => {
+            *skip && ids.get(0) == Some(skipped) && message.as_slice() == wanted
+        }
+        EntryBody::Reference { name: _, target: _ } => false,
+    }
+}
+
+#[test]
+fn an_entry_is_skipped(rt: HostRuntime) -> Result<(), Fail> {
+    let alloc = rt.alloc();
+    let mut sink = MemSink::new(alloc, 160)?;
+    let mut keeper = MemKeeper::new(alloc);
+    let mut disk = new_key(alloc)?;
+    assert!(rt; is_recorded(alloc, &mut sink, &mut keeper, &mut disk)?);
+    assert!(rt; annotate_tip(alloc, &mut sink, &mut keeper, &mut disk)?);
+    let first = entry_at(alloc, &mut keeper, 0)?;
+    let second = entry_at(alloc, &mut keeper, 1)?;
+    assert!(rt; second.number == 2 && skips(&second, &first.id, b"a slip"));
+    assert!(rt; sink.contents().len() == 146);
     Ok(())
 }

@@ -6,7 +6,7 @@ use Rattle.std.proofs.lemmas.Bool.{false≢true}
 use Rattle.std.proofs.lemmas.List.{append-nil}
 use Rattle.git_object.specs.Names.{log_name}
 use Rattle.git_object.specs.Repository.{Repository, value_of}
-use Rattle.rsl_chain.specs.Chain.{IsBreak, NeverBoth, OneBreak}
+use Rattle.rsl_chain.specs.Chain.{OneBreak}
 use Rattle.rsl_chain.specs.Logs.{IsBreakOf, heads_of}
 use Rattle.clone_stream.specs.ExportLaws.{OneExport}
 use Rattle.clone_stream.specs.Faults.{fault_number}
@@ -14,30 +14,16 @@ use Rattle.clone_stream.specs.Laws.{OneRefusal}
 use Rattle.clone_stream.specs.Streams.{IsStreamText, OneSpelling}
 use Rattle.clone_stream.specs.declared.export_faults.ExportFault.{ExportFault}
 use Rattle.clone_stream.specs.declared.export_faults.ExportFault.TheVariants as export
-use Rattle.commands_store.specs.Contents.{ExportComes, ImportComes, IsBrokenLog, IsJudged, IsLogged, IsNotTaken, IsOpened, IsTaken, TakeComes, VerifyComes}
-use Rattle.commands_store.specs.Verdicts.{IsVerdictOn}
+use Rattle.commands_store.specs.Contents.{ExportComes, ImportComes, IsBrokenLog, IsJudged, IsNotTaken, IsOpened, IsTaken, TakeComes, VerifyComes}
+use Rattle.commands_store.specs.Verdicts.{RefVerdict, anchor_of}
+use Rattle.verify_ref.specs.Verdicts.{IsVerdict}
+use Rattle.verify_ref.proofs.OneVerdict.{one_verdict, verdict_or_break}
 use Rattle.commands_store.specs.declared.importing.ImportFault.{ImportFault}
 use Rattle.commands_store.specs.declared.importing.ImportFault.TheVariants as import
 use Rattle.commands_store.specs.declared.taking.TakeFault.{TakeFault}
 use Rattle.commands_store.specs.declared.taking.TakeFault.TheVariants as take
-use Rattle.commands_store.specs.declared.verdicts.Verdict.{Verdict}
-use Rattle.commands_store.specs.declared.verdicts.Verdict.TheVariants.{Accepted, TipDiffers}
 use Rattle.commands_store.specs.declared.verifying.VerifyFault.{VerifyFault}
 use Rattle.commands_store.specs.declared.verifying.VerifyFault.TheVariants as verify
-
--- a value has one verdict
-same_verdict : (value : List ℕ) (a b : Verdict) → IsVerdictOn value a → IsVerdictOn value b → a ≡ b
-same_verdict value (Accepted count) (Accepted other) is also = ap Accepted (is.1 ∙ sym also.1)
-same_verdict value (Accepted count) (TipDiffers kept recorded) is also = absurd (also.0 is.0)
-same_verdict value (TipDiffers kept recorded) (Accepted count) is also = absurd (is.0 also.0)
-same_verdict value (TipDiffers kept recorded) (TipDiffers other_kept other_recorded) is also =
-    let same_kept : kept ≡ other_kept = is.1 ∙ sym also.1 in
-    let same_recorded : recorded ≡ other_recorded = is.2 ∙ sym also.2 in
-    cc
-
-no_value : {X : Type 0} (found : Option X) → found ≡ None → IsSome found → ⊥
-no_value None e some = cc
-no_value (Some x) e some = cc
 
 -- a flag is not both given and missing
 no_flag : {X : Type 0} (flag : Bool) → IsTrue flag → flag ≡ false → X
@@ -86,68 +72,45 @@ module _ (spelling : OneSpelling) (refusal : OneRefusal) (was : Repository) (byt
   opened_or_declined stdin r fault (inr is) given refused = no_flag stdin given is.0
 
   -- what a verdict comes to
-  data Judging (name : List ℕ) (stdin : Bool) (outcome : Result Verdict VerifyFault) : Type 0 where
-    judged : (verdict : Verdict) → outcome ≡ Ok verdict → IsJudged name stdin was bytes verdict → Judging name stdin outcome
-    refused : (fault : TakeFault) → outcome ≡ Err (verify.Unopened fault) → IsTrue stdin → TakeComes was bytes fault → Judging name stdin outcome
-    logged : outcome ≡ Err verify.Logged → IsLogged stdin was bytes → Judging name stdin outcome
-    broken : (id : List ℕ) → outcome ≡ Err (verify.LogBroken id) → IsBrokenLog stdin was bytes id → Judging name stdin outcome
+  data Judging (name : List ℕ) (root : Option (List (List ℕ))) (stdin : Bool) (outcome : Result RefVerdict VerifyFault) : Type 0 where
+    judged : (verdict : RefVerdict) → outcome ≡ Ok verdict → IsJudged name root stdin was bytes verdict → Judging name root stdin outcome
+    refused : (fault : TakeFault) → outcome ≡ Err (verify.Unopened fault) → IsTrue stdin → TakeComes was bytes fault → Judging name root stdin outcome
+    broken : (id : List ℕ) → outcome ≡ Err (verify.LogBroken id) → IsBrokenLog stdin was bytes id → Judging name root stdin outcome
 
-  judging : (name : List ℕ) (stdin : Bool) (outcome : Result Verdict VerifyFault) → VerifyComes name stdin was bytes outcome → Judging name stdin outcome
-  judging name stdin (Ok verdict) is = judged verdict refl is
-  judging name stdin (Err (verify.Unopened fault)) is = refused fault refl is.0 is.1
-  judging name stdin (Err verify.Logged) is = logged refl is
-  judging name stdin (Err (verify.LogBroken id)) is = broken id refl is
-  judging name stdin (Err verify.KeeperFailed) is = absurd is
-  judging name stdin (Err verify.SinkFailed) is = absurd is
-  judging name stdin (Err verify.Memory) is = absurd is
+  judging : (name : List ℕ) (root : Option (List (List ℕ))) (stdin : Bool) (outcome : Result RefVerdict VerifyFault) → VerifyComes name root stdin was bytes outcome → Judging name root stdin outcome
+  judging name root stdin (Ok verdict) is = judged verdict refl is
+  judging name root stdin (Err (verify.Unopened fault)) is = refused fault refl is.0 is.1
+  judging name root stdin (Err (verify.LogBroken id)) is = broken id refl is
+  judging name root stdin (Err verify.KeeperFailed) is = absurd is
+  judging name root stdin (Err verify.SinkFailed) is = absurd is
+  judging name root stdin (Err verify.Memory) is = absurd is
 
-  judged_once : (name : List ℕ) (stdin : Bool) (a b : Verdict) → IsJudged name stdin was bytes a → IsJudged name stdin was bytes b → a ≡ b
-  judged_once name stdin a b is other =
+  judged_once : (name : List ℕ) (root : Option (List (List ℕ))) (stdin : Bool) (a b : RefVerdict) → IsJudged name root stdin was bytes a → IsJudged name root stdin was bytes b → a ≡ b
+  judged_once name root stdin a b is other =
       let repository = same_opened stdin is.repository other.repository is.opened other.opened in
-      let value : value_of is.repository name ≡ value_of other.repository name = ap (λ (r : Repository). value_of r name) repository in
-      same_verdict (value_of is.repository name) a b is.judged.on_value (subst (λ (v : List ℕ). IsVerdictOn v b) (sym value) other.judged.on_value)
+      one_verdict is.repository name (anchor_of root) a b is.judged (subst (λ (r : Repository). IsVerdict r name (anchor_of root) b) (sym repository) other.judged)
 
-  judged_or_logged : {X : Type 0} (name : List ℕ) (stdin : Bool) (verdict : Verdict) → IsJudged name stdin was bytes verdict → IsLogged stdin was bytes → X
-  judged_or_logged name stdin verdict is other =
+  judged_or_broken : {X : Type 0} (name : List ℕ) (root : Option (List (List ℕ))) (stdin : Bool) (verdict : RefVerdict) (id : List ℕ) → IsJudged name root stdin was bytes verdict → IsBrokenLog stdin was bytes id → X
+  judged_or_broken name root stdin verdict id is other =
       let repository = same_opened stdin is.repository other.repository is.opened other.opened in
-      absurd (no_value (get other.repository.refs log_name) (ap (λ (r : Repository). get r.refs log_name) (sym repository) ∙ is.judged.no_log) other.log.there)
+      absurd (verdict_or_break is.repository name (anchor_of root) verdict id is.judged (subst (λ (r : Repository). IsBreakOf r id) (sym repository) other.breaks))
 
-  judged_or_broken : {X : Type 0} (name : List ℕ) (stdin : Bool) (verdict : Verdict) (id : List ℕ) → IsJudged name stdin was bytes verdict → IsBrokenLog stdin was bytes id → X
-  judged_or_broken name stdin verdict id is other =
-      let repository = same_opened stdin is.repository other.repository is.opened other.opened in
-      let none = ap (λ (r : Repository). get r.refs log_name) (sym repository) ∙ is.judged.no_log in
-      absurd (subst (λ (tip : Option (List ℕ)). IsBreak (heads_of other.repository) tip id) none other.breaks)
-
-  module _ (one_break : OneBreak) (never_both : NeverBoth) (stdin : Bool) where
-    logged_or_broken : {X : Type 0} (id : List ℕ) → IsLogged stdin was bytes → IsBrokenLog stdin was bytes id → X
-    logged_or_broken id is other =
-        let repository = same_opened stdin is.repository other.repository is.opened other.opened in
-        let chain = is.log in
-        absurd (never_both (heads_of is.repository) (get is.repository.refs log_name) chain.ids id chain.log
-        (subst (λ (r : Repository). IsBreakOf r id) (sym repository) other.breaks))
-
+  module _ (one_break : OneBreak) (stdin : Bool) where
     broken_once : (id found : List ℕ) → IsBrokenLog stdin was bytes id → IsBrokenLog stdin was bytes found → id ≡ found
     broken_once id found is other =
         let repository = same_opened stdin is.repository other.repository is.opened other.opened in
         one_break (heads_of is.repository) (get is.repository.refs log_name) id found is.breaks (subst (λ (r : Repository). IsBreakOf r found) (sym repository) other.breaks)
 
-  one_judging : OneBreak → NeverBoth → (name : List ℕ) (stdin : Bool) (a b : Result Verdict VerifyFault) → Judging name stdin a → Judging name stdin b → a ≡ b
-  one_judging once apart name stdin a b (judged v e is) (judged w f other) = e ∙ ap Ok (judged_once name stdin v w is other) ∙ sym f
-  one_judging once apart name stdin a b (judged v e is) (refused n f given other) = opened_or_declined stdin is.repository n is.opened given other
-  one_judging once apart name stdin a b (judged v e is) (logged f other) = judged_or_logged name stdin v is other
-  one_judging once apart name stdin a b (judged v e is) (broken id f other) = judged_or_broken name stdin v id is other
-  one_judging once apart name stdin a b (refused m e given is) (judged w f other) = opened_or_declined stdin other.repository m other.opened given is
-  one_judging once apart name stdin a b (refused m e given is) (refused n f also other) = e ∙ ap (λ (k : TakeFault). Err (verify.Unopened k)) (same_fault m n is other) ∙ sym f
-  one_judging once apart name stdin a b (refused m e given is) (logged f other) = opened_or_declined stdin other.repository m other.opened given is
-  one_judging once apart name stdin a b (refused m e given is) (broken id f other) = opened_or_declined stdin other.repository m other.opened given is
-  one_judging once apart name stdin a b (logged e is) (judged w f other) = judged_or_logged name stdin w other is
-  one_judging once apart name stdin a b (logged e is) (refused n f given other) = opened_or_declined stdin is.repository n is.opened given other
-  one_judging once apart name stdin a b (logged e is) (logged f other) = e ∙ sym f
-  one_judging once apart name stdin a b (logged e is) (broken id f other) = logged_or_broken once apart stdin id is other
-  one_judging once apart name stdin a b (broken id e is) (judged w f other) = judged_or_broken name stdin w id other is
-  one_judging once apart name stdin a b (broken id e is) (refused n f given other) = opened_or_declined stdin is.repository n is.opened given other
-  one_judging once apart name stdin a b (broken id e is) (logged f other) = logged_or_broken once apart stdin id other is
-  one_judging once apart name stdin a b (broken id e is) (broken found f other) = e ∙ ap (λ (i : List ℕ). Err (verify.LogBroken i)) (broken_once once apart stdin id found is other) ∙ sym f
+  one_judging : OneBreak → (name : List ℕ) (root : Option (List (List ℕ))) (stdin : Bool) (a b : Result RefVerdict VerifyFault) → Judging name root stdin a → Judging name root stdin b → a ≡ b
+  one_judging once name root stdin a b (judged v e is) (judged w f other) = e ∙ ap Ok (judged_once name root stdin v w is other) ∙ sym f
+  one_judging once name root stdin a b (judged v e is) (refused n f given other) = opened_or_declined stdin is.repository n is.opened given other
+  one_judging once name root stdin a b (judged v e is) (broken id f other) = judged_or_broken name root stdin v id is other
+  one_judging once name root stdin a b (refused m e given is) (judged w f other) = opened_or_declined stdin other.repository m other.opened given is
+  one_judging once name root stdin a b (refused m e given is) (refused n f also other) = e ∙ ap (λ (k : TakeFault). Err (verify.Unopened k)) (same_fault m n is other) ∙ sym f
+  one_judging once name root stdin a b (refused m e given is) (broken id f other) = opened_or_declined stdin other.repository m other.opened given is
+  one_judging once name root stdin a b (broken id e is) (judged w f other) = judged_or_broken name root stdin w id other is
+  one_judging once name root stdin a b (broken id e is) (refused n f given other) = opened_or_declined stdin is.repository n is.opened given other
+  one_judging once name root stdin a b (broken id e is) (broken found f other) = e ∙ ap (λ (i : List ℕ). Err (verify.LogBroken i)) (broken_once once stdin id found is other) ∙ sym f
 
   one_import : (a b : Result (Unit {0}) ImportFault) → ImportComes was bytes a → ImportComes was bytes b → a ≡ b
   one_import (Ok done) (Ok also) is other = refl
@@ -157,10 +120,10 @@ module _ (spelling : OneSpelling) (refusal : OneRefusal) (was : Repository) (byt
   one_import (Err import.SinkFailed) b is other = absurd is
   one_import a (Err import.SinkFailed) is other = absurd other
 
-pub same_judging : OneSpelling → OneRefusal → OneBreak → NeverBoth → (name : List ℕ) (stdin : Bool) (was : Repository) (bytes : List ℕ) (a b : Result Verdict VerifyFault)
-    → VerifyComes name stdin was bytes a → VerifyComes name stdin was bytes b → a ≡ b
-same_judging spelling refusal once apart name stdin was bytes a b is other =
-    one_judging spelling refusal was bytes once apart name stdin a b (judging spelling refusal was bytes name stdin a is) (judging spelling refusal was bytes name stdin b other)
+pub same_judging : OneSpelling → OneRefusal → OneBreak → (name : List ℕ) (root : Option (List (List ℕ))) (stdin : Bool) (was : Repository) (bytes : List ℕ) (a b : Result RefVerdict VerifyFault)
+    → VerifyComes name root stdin was bytes a → VerifyComes name root stdin was bytes b → a ≡ b
+same_judging spelling refusal once name root stdin was bytes a b is other =
+    one_judging spelling refusal was bytes once name root stdin a b (judging spelling refusal was bytes name root stdin a is) (judging spelling refusal was bytes name root stdin b other)
 
 pub same_import : OneSpelling → OneRefusal → (was : Repository) (bytes : List ℕ) (a b : Result (Unit {0}) ImportFault) → ImportComes was bytes a → ImportComes was bytes b → a ≡ b
 same_import spelling refusal was bytes a b is other = one_import spelling refusal was bytes a b is other

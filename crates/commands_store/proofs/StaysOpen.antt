@@ -13,15 +13,16 @@ use Rattle.endings.specs.declared.ending.Refusal.TheVariants as refusal
 use Rattle.endings.proofs.Counting.{keeper_failed, keeper_quiet}
 use Rattle.commands_store.specs.Judging.{Judges, judge_failed}
 use Rattle.commands_store.specs.Taking.{Opens}
+use Rattle.commands_store.specs.Verdicts.{RefVerdict}
 use Rattle.commands_store.specs.Verifying.{LookEnds, verify_ending}
-use Rattle.commands_store.specs.declared.verdicts.Verdict.{Verdict}
-use Rattle.commands_store.specs.declared.verdicts.Verdict.TheVariants.{Accepted, TipDiffers}
+use Rattle.judging.specs.declared.verdicts.Verdict.TheVariants.{Accepted, TipDiffers, Violation}
 use Rattle.commands_store.specs.declared.verifying.VerifyFault.{VerifyFault}
-use Rattle.commands_store.specs.declared.verifying.VerifyFault.TheVariants.{Unopened, Logged, LogBroken, KeeperFailed, SinkFailed, Memory}
+use Rattle.commands_store.specs.declared.verifying.VerifyFault.TheVariants.{Unopened, LogBroken, KeeperFailed, SinkFailed, Memory}
 
-pub verdict_quiet : (verdict : Verdict) → part_of (verify_ending (Ok verdict)) ≡ None
+pub verdict_quiet : (verdict : RefVerdict) → part_of (verify_ending (Ok verdict)) ≡ None
 verdict_quiet (Accepted count) = refl
 verdict_quiet (TipDiffers kept recorded) = refl
+verdict_quiet (Violation number fault) = refl
 
 module _ {R : Type 0} (keeper_of : keeper.Ghosts R) (left left_now : Option (List ℕ)) (old mid new : R) (same : Undisturbed keeper_of mid new) where
   still_same : Undisturbed keeper_of old mid → Undisturbed keeper_of old new
@@ -55,27 +56,25 @@ module _ {R : Type 0} (keeper_of : keeper.Ghosts R) (left left_now : Option (Lis
   still_open stdin (inr unread) = inr (unread.0, unread.1, still_same unread.2)
 
   -- what judging comes to in a store that was opened
-  pub looked : (name : List ℕ) (stdin : Bool) (outcome : Result Verdict VerifyFault) → Opens stdin keeper_of left left_now old mid → Judges name (keeper_of.content new) outcome
-      → LookEnds name stdin keeper_of left left_now old new outcome
-  looked name stdin (Ok verdict) opens judges = record { opens = still_open stdin opens; is = judges }
-  looked name stdin (Err (Unopened fault)) opens judges = absurd judges
-  looked name stdin (Err Logged) opens judges = record { opens = still_open stdin opens; log = judges }
-  looked name stdin (Err (LogBroken id)) opens judges = record { opens = still_open stdin opens; breaks = judges }
-  looked name stdin (Err KeeperFailed) opens judges = still_open stdin opens
-  looked name stdin (Err SinkFailed) opens judges = absurd judges
-  looked name stdin (Err Memory) opens judges = still_open stdin opens
+  pub looked : (name : List ℕ) (root : Option (List (List ℕ))) (stdin : Bool) (outcome : Result RefVerdict VerifyFault) → Opens stdin keeper_of left left_now old mid → Judges name root (keeper_of.content new) outcome
+      → LookEnds name root stdin keeper_of left left_now old new outcome
+  looked name root stdin (Ok verdict) opens judges = record { opens = still_open stdin opens; is = judges }
+  looked name root stdin (Err (Unopened fault)) opens judges = absurd judges
+  looked name root stdin (Err (LogBroken id)) opens judges = record { opens = still_open stdin opens; breaks = judges }
+  looked name root stdin (Err KeeperFailed) opens judges = still_open stdin opens
+  looked name root stdin (Err SinkFailed) opens judges = absurd judges
+  looked name root stdin (Err Memory) opens judges = still_open stdin opens
 
 -- what it counts
-pub judge_counted : (name : List ℕ) (held : Option Repository) (f : Faults) (now : ℕ) (outcome : Result Verdict VerifyFault) → Judges name held outcome → HasCause judge_failed f.keeper now outcome
+pub judge_counted : (name : List ℕ) (root : Option (List (List ℕ))) (held : Option Repository) (f : Faults) (now : ℕ) (outcome : Result RefVerdict VerifyFault) → Judges name root held outcome → HasCause judge_failed f.keeper now outcome
     → IsCounted (verify_ending outcome) f (record f { keeper = now })
-judge_counted name held f now (Ok verdict) judges cause = keeper_quiet (verify_ending (Ok verdict)) f now (verdict_quiet verdict) cause.later cause.is
-judge_counted name held f now (Err (Unopened fault)) judges cause = absurd judges
-judge_counted name held f now (Err Logged) judges cause = keeper_quiet (ending.Refused refusal.NotBuiltLog) f now refl cause.later cause.is
-judge_counted name held f now (Err (LogBroken id)) judges cause = keeper_quiet ending.Broken f now refl cause.later cause.is
-judge_counted name held f now (Err KeeperFailed) judges cause = keeper_failed f now cause.later cause.is
-judge_counted name held f now (Err SinkFailed) judges cause = absurd judges
-judge_counted name held f now (Err Memory) judges cause = keeper_quiet (ending.Refused refusal.Memory) f now refl cause.later cause.is
+judge_counted name root held f now (Ok verdict) judges cause = keeper_quiet (verify_ending (Ok verdict)) f now (verdict_quiet verdict) cause.later cause.is
+judge_counted name root held f now (Err (Unopened fault)) judges cause = absurd judges
+judge_counted name root held f now (Err (LogBroken id)) judges cause = keeper_quiet ending.Broken f now refl cause.later cause.is
+judge_counted name root held f now (Err KeeperFailed) judges cause = keeper_failed f now cause.later cause.is
+judge_counted name root held f now (Err SinkFailed) judges cause = absurd judges
+judge_counted name root held f now (Err Memory) judges cause = keeper_quiet (ending.Refused refusal.Memory) f now refl cause.later cause.is
 
 -- an outcome that is another's
-pub counted_by : (looked outcome : Result Verdict VerifyFault) (before after : Faults) → looked ≡ outcome → IsCounted (verify_ending looked) before after → IsCounted (verify_ending outcome) before after
-counted_by looked outcome before after same counted = subst (λ (o : Result Verdict VerifyFault). IsCounted (verify_ending o) before after) same counted
+pub counted_by : (looked outcome : Result RefVerdict VerifyFault) (before after : Faults) → looked ≡ outcome → IsCounted (verify_ending looked) before after → IsCounted (verify_ending outcome) before after
+counted_by looked outcome before after same counted = subst (λ (o : Result RefVerdict VerifyFault). IsCounted (verify_ending o) before after) same counted

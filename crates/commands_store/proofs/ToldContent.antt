@@ -15,12 +15,12 @@ use Rattle.commands_store.specs.Contents.{ExportComes, ImportComes, IsNotTaken, 
 use Rattle.commands_store.specs.Exporting.{ExportEnds, export_ending}
 use Rattle.commands_store.specs.Importing.{ImportEnds, import_ending}
 use Rattle.commands_store.specs.Taking.{DeclinesTaking, Opens, RefusesStream, take_refusal}
+use Rattle.commands_store.specs.Verdicts.{RefVerdict}
 use Rattle.commands_store.specs.Verifying.{VerifyEnds, verify_ending}
 use Rattle.commands_store.specs.declared.importing.ImportFault.{ImportFault}
 use Rattle.commands_store.specs.declared.importing.ImportFault.TheVariants as import
 use Rattle.commands_store.specs.declared.taking.TakeFault.{TakeFault}
 use Rattle.commands_store.specs.declared.taking.TakeFault.TheVariants as take
-use Rattle.commands_store.specs.declared.verdicts.Verdict.{Verdict}
 use Rattle.commands_store.specs.declared.verifying.VerifyFault.{VerifyFault}
 use Rattle.commands_store.specs.declared.verifying.VerifyFault.TheVariants as verify
 
@@ -72,27 +72,26 @@ module _ {R : Type 0} (keeper_of : keeper.Ghosts R) (bytes : List ℕ) (left_now
   told_opened stdin (inr unread) = inr (unread.0, sym (same_some was now (keeper_of.content old) held (unread.2.content now holds)))
 
   module _ (printed printed_now : Option (List ℕ)) where
-    verify_told : (name : List ℕ) (stdin : Bool) (outcome : Result Verdict VerifyFault) → VerifyEnds name stdin keeper_of (Some bytes) left_now old new printed printed_now outcome → VerifyComes name stdin was bytes outcome ⊎ IsStopped (verify_ending outcome)
-    verify_told name stdin (Ok verdict) ends = inl (record { repository = now; opened = told_opened stdin ends.finds.opens; judged = ends.finds.is now holds })
-    verify_told name stdin (Err (verify.Unopened fault)) ends = elim (told_declined fault ends.why.1) [
+    verify_told : (name : List ℕ) (root : Option (List (List ℕ))) (stdin : Bool) (outcome : Result RefVerdict VerifyFault) → VerifyEnds name root stdin keeper_of (Some bytes) left_now old new printed printed_now outcome → VerifyComes name root stdin was bytes outcome ⊎ IsStopped (verify_ending outcome)
+    verify_told name root stdin (Ok verdict) ends = inl (record { repository = now; opened = told_opened stdin ends.finds.opens; judged = ends.finds.is now holds })
+    verify_told name root stdin (Err (verify.Unopened fault)) ends = elim (told_declined fault ends.why.1) [
       | inl comes ↦ inl (ends.why.0, comes)
       | inr stops ↦ inr stops
     ]
-    verify_told name stdin (Err verify.Logged) ends = inl (record { repository = now; opened = told_opened stdin ends.why.opens; log = ends.why.log now holds })
-    verify_told name stdin (Err (verify.LogBroken id)) ends = inl (record { repository = now; opened = told_opened stdin ends.finds.opens; breaks = ends.finds.breaks now holds })
-    verify_told name stdin (Err verify.KeeperFailed) ends = inr tt
-    verify_told name stdin (Err verify.SinkFailed) ends = inr tt
-    verify_told name stdin (Err verify.Memory) ends = inr tt
+    verify_told name root stdin (Err (verify.LogBroken id)) ends = inl (record { repository = now; opened = told_opened stdin ends.finds.opens; breaks = ends.finds.breaks now holds })
+    verify_told name root stdin (Err verify.KeeperFailed) ends = inr tt
+    verify_told name root stdin (Err verify.SinkFailed) ends = inr tt
+    verify_told name root stdin (Err verify.Memory) ends = inr tt
 
     import_told : (outcome : Result (Unit {0}) ImportFault) → ImportEnds keeper_of (Some bytes) left_now old new printed printed_now outcome → ImportComes was bytes outcome ⊎ IsStopped (import_ending outcome)
     import_told (Ok done) ends = inl (now, told_taken ends.0)
     import_told (Err (import.Untaken fault)) ends = told_declined fault ends.0
     import_told (Err import.SinkFailed) ends = inr tt
 
-pub told_verify : {R : Type 0} (keeper_of : keeper.Ghosts R) (name : List ℕ) (stdin : Bool) (bytes : List ℕ) (left_now : Option (List ℕ)) (was now : Repository) (old new : R) (printed printed_now : Option (List ℕ)) (outcome : Result Verdict VerifyFault)
+pub told_verify : {R : Type 0} (keeper_of : keeper.Ghosts R) (name : List ℕ) (root : Option (List (List ℕ))) (stdin : Bool) (bytes : List ℕ) (left_now : Option (List ℕ)) (was now : Repository) (old new : R) (printed printed_now : Option (List ℕ)) (outcome : Result RefVerdict VerifyFault)
     → keeper_of.content old ≡ Some was → keeper_of.content new ≡ Some now
-    → VerifyEnds name stdin keeper_of (Some bytes) left_now old new printed printed_now outcome → VerifyComes name stdin was bytes outcome ⊎ IsStopped (verify_ending outcome)
-told_verify keeper_of name stdin bytes left_now was now old new printed printed_now outcome held holds ends = verify_told keeper_of bytes left_now was now old new held holds printed printed_now name stdin outcome ends
+    → VerifyEnds name root stdin keeper_of (Some bytes) left_now old new printed printed_now outcome → VerifyComes name root stdin was bytes outcome ⊎ IsStopped (verify_ending outcome)
+told_verify keeper_of name root stdin bytes left_now was now old new printed printed_now outcome held holds ends = verify_told keeper_of bytes left_now was now old new held holds printed printed_now name root stdin outcome ends
 
 pub told_import : {R : Type 0} (keeper_of : keeper.Ghosts R) (bytes : List ℕ) (left_now : Option (List ℕ)) (was now : Repository) (old new : R) (printed printed_now : Option (List ℕ)) (outcome : Result (Unit {0}) ImportFault)
     → keeper_of.content old ≡ Some was → keeper_of.content new ≡ Some now

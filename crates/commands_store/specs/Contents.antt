@@ -1,5 +1,5 @@
 -- What each command comes to where the source and the store tell what they hold: one outcome, faults and memory aside.
-use Rattle.std.specs.Prelude.{◌≡◌, ◌≢◌, ◌≤◌, ◌⊎◌, ℕ, List, length, Result, Ok, Err, Bool, IsTrue, false}
+use Rattle.std.specs.Prelude.{◌≡◌, ◌≢◌, ◌≤◌, ◌⊎◌, ℕ, List, length, Option, Result, Ok, Err, Bool, IsTrue, false}
 use Rattle.git_object.specs.Repository.{Repository, empty_repository}
 use Rattle.clone_stream.specs.Deciding.{Decides}
 use Rattle.clone_stream.specs.Exporting.{IsDamagedAt, PassesFirst}
@@ -9,12 +9,12 @@ use Rattle.clone_stream.specs.declared.export_faults.ExportFault.{ExportFault}
 use Rattle.clone_stream.specs.declared.export_faults.ExportFault.TheVariants as export
 use Rattle.clone_stream.specs.declared.stream_faults.StreamFault.{StreamFault}
 use Rattle.rsl_chain.specs.Logs.{IsBreakOf}
-use Rattle.commands_store.specs.Verdicts.{HasChain, IsVerdict}
+use Rattle.verify_ref.specs.Verdicts.{IsVerdict}
+use Rattle.commands_store.specs.Verdicts.{RefVerdict, anchor_of}
 use Rattle.commands_store.specs.declared.importing.ImportFault.{ImportFault}
 use Rattle.commands_store.specs.declared.importing.ImportFault.TheVariants as import
 use Rattle.commands_store.specs.declared.taking.TakeFault.{TakeFault}
 use Rattle.commands_store.specs.declared.taking.TakeFault.TheVariants as take
-use Rattle.commands_store.specs.declared.verdicts.Verdict.{Verdict}
 use Rattle.commands_store.specs.declared.verifying.VerifyFault.{VerifyFault}
 use Rattle.commands_store.specs.declared.verifying.VerifyFault.TheVariants as verify
 
@@ -47,16 +47,10 @@ abbrev pub IsOpened : Bool → Repository → List ℕ → Repository → Type 0
 IsOpened stdin was bytes r = (IsTrue stdin × IsTaken was bytes r) ⊎ ((stdin ≡ false) × (r ≡ was))
 
 -- a repository is opened, and this is its verdict
-pub record IsJudged (name : List ℕ) (stdin : Bool) (was : Repository) (bytes : List ℕ) (verdict : Verdict) : Type 0 where
+pub record IsJudged (name : List ℕ) (root : Option (List (List ℕ))) (stdin : Bool) (was : Repository) (bytes : List ℕ) (verdict : RefVerdict) : Type 0 where
   pub repository : Repository
   pub opened : IsOpened stdin was bytes repository
-  pub judged : IsVerdict repository name verdict
-
--- a repository is opened, and has a log, which is one chain
-pub record IsLogged (stdin : Bool) (was : Repository) (bytes : List ℕ) : Type 0 where
-  pub repository : Repository
-  pub opened : IsOpened stdin was bytes repository
-  pub log : HasChain repository
+  pub judged : IsVerdict repository name (anchor_of root) verdict
 
 -- a repository is opened, and its log breaks at this id
 pub record IsBrokenLog (stdin : Bool) (was : Repository) (bytes : List ℕ) (id : List ℕ) : Type 0 where
@@ -65,14 +59,13 @@ pub record IsBrokenLog (stdin : Bool) (was : Repository) (bytes : List ℕ) (id 
   pub breaks : IsBreakOf repository id
 
 -- what `verify-ref` comes to
-abbrev pub VerifyComes : List ℕ → Bool → Repository → List ℕ → Result Verdict VerifyFault → Type 0
-VerifyComes name stdin was bytes (Ok verdict) = IsJudged name stdin was bytes verdict
-VerifyComes name stdin was bytes (Err (verify.Unopened fault)) = IsTrue stdin × TakeComes was bytes fault
-VerifyComes name stdin was bytes (Err verify.Logged) = IsLogged stdin was bytes
-VerifyComes name stdin was bytes (Err (verify.LogBroken id)) = IsBrokenLog stdin was bytes id
-VerifyComes name stdin was bytes (Err verify.KeeperFailed) = ⊥
-VerifyComes name stdin was bytes (Err verify.SinkFailed) = ⊥
-VerifyComes name stdin was bytes (Err verify.Memory) = ⊥
+abbrev pub VerifyComes : List ℕ → Option (List (List ℕ)) → Bool → Repository → List ℕ → Result RefVerdict VerifyFault → Type 0
+VerifyComes name root stdin was bytes (Ok verdict) = IsJudged name root stdin was bytes verdict
+VerifyComes name root stdin was bytes (Err (verify.Unopened fault)) = IsTrue stdin × TakeComes was bytes fault
+VerifyComes name root stdin was bytes (Err (verify.LogBroken id)) = IsBrokenLog stdin was bytes id
+VerifyComes name root stdin was bytes (Err verify.KeeperFailed) = ⊥
+VerifyComes name root stdin was bytes (Err verify.SinkFailed) = ⊥
+VerifyComes name root stdin was bytes (Err verify.Memory) = ⊥
 
 -- what `import` comes to
 abbrev pub ImportComes : Repository → List ℕ → Result (Unit {0}) ImportFault → Type 0

@@ -1,36 +1,32 @@
 -- What looking for the verdict in the store that is open comes to.
 use Rattle.std.specs.Prelude.{◌≡◌, ℕ, Bool, true, false, List, Option, Some, Result, Ok, Err}
 use Rattle.git_object.specs.Repository.{Repository}
-use Rattle.rsl_chain.specs.Logs.{IsBreakOf, IsLogOf}
-use Rattle.commands_store.specs.Verdicts.{HasChain, IsVerdict}
-use Rattle.commands_store.specs.declared.verdicts.Verdict.{Verdict}
+use Rattle.rsl_chain.specs.Logs.{IsBreakOf}
+use Rattle.rsl_chain.specs.declared.log_faults.LogFault.{LogFault}
+use Rattle.rsl_chain.specs.declared.log_faults.LogFault.TheVariants as log
+use Rattle.verify_ref.specs.Verdicts.{IsVerdict}
+use Rattle.commands_store.specs.Verdicts.{RefVerdict, anchor_of}
 use Rattle.commands_store.specs.declared.verifying.VerifyFault.{VerifyFault}
-use Rattle.commands_store.specs.declared.verifying.VerifyFault.TheVariants.{Unopened, Logged, LogBroken, KeeperFailed, SinkFailed, Memory}
+use Rattle.commands_store.specs.declared.verifying.VerifyFault.TheVariants.{Unopened, LogBroken, KeeperFailed, SinkFailed, Memory}
 
 -- the fault that the store counts
 abbrev pub judge_failed : VerifyFault → Bool
 judge_failed (Unopened fault) = false
-judge_failed Logged = false
 judge_failed (LogBroken id) = false
 judge_failed KeeperFailed = true
 judge_failed SinkFailed = false
 judge_failed Memory = false
 
--- what reading the log comes to, where the store tells: it is one, or it breaks at the id that is named
-abbrev pub ReadsLog : Option Repository → VerifyFault → Type 0
-ReadsLog held (Unopened fault) = ⊥
-ReadsLog held Logged = (r : Repository) → held ≡ Some r → (ids : List (List ℕ)) × IsLogOf r ids
-ReadsLog held (LogBroken id) = (r : Repository) → held ≡ Some r → IsBreakOf r id
-ReadsLog held KeeperFailed = Unit {0}
-ReadsLog held SinkFailed = ⊥
-ReadsLog held Memory = Unit {0}
+abbrev pub fault_of : LogFault → VerifyFault
+fault_of (log.Broken id) = LogBroken id
+fault_of log.Failed = KeeperFailed
+fault_of log.Memory = Memory
 
 -- what judging a reference comes to, where the store tells
-abbrev pub Judges : List ℕ → Option Repository → Result Verdict VerifyFault → Type 0
-Judges name held (Ok verdict) = (r : Repository) → held ≡ Some r → IsVerdict r name verdict
-Judges name held (Err (Unopened fault)) = ⊥
-Judges name held (Err Logged) = (r : Repository) → held ≡ Some r → HasChain r
-Judges name held (Err (LogBroken id)) = (r : Repository) → held ≡ Some r → IsBreakOf r id
-Judges name held (Err KeeperFailed) = Unit {0}
-Judges name held (Err SinkFailed) = ⊥
-Judges name held (Err Memory) = Unit {0}
+abbrev pub Judges : List ℕ → Option (List (List ℕ)) → Option Repository → Result RefVerdict VerifyFault → Type 0
+Judges name root held (Ok verdict) = (r : Repository) → held ≡ Some r → IsVerdict r name (anchor_of root) verdict
+Judges name root held (Err (Unopened fault)) = ⊥
+Judges name root held (Err (LogBroken id)) = (r : Repository) → held ≡ Some r → IsBreakOf r id
+Judges name root held (Err KeeperFailed) = Unit {0}
+Judges name root held (Err SinkFailed) = ⊥
+Judges name root held (Err Memory) = Unit {0}

@@ -7,24 +7,24 @@ use Rattle.endings.specs.Endings.{IsStopped}
 use Rattle.commands_store.specs.Contents.{ExportComes, ImportComes, VerifyComes}
 use Rattle.commands_store.specs.Exporting.{ExportEnds, export_ending}
 use Rattle.commands_store.specs.Importing.{ImportEnds, import_ending}
+use Rattle.commands_store.specs.Verdicts.{RefVerdict}
 use Rattle.commands_store.specs.Verifying.{VerifyEnds, verify_ending}
 use Rattle.commands_store.specs.declared.importing.ImportFault.{ImportFault}
-use Rattle.commands_store.specs.declared.verdicts.Verdict.{Verdict}
 use Rattle.commands_store.specs.declared.verifying.VerifyFault.{VerifyFault}
 
 -- each command comes to one outcome at most
 pub record OneOfStore : Type 0 where
-  pub verify : (name : List ℕ) (stdin : Bool) (was : Repository) (bytes : List ℕ) (a b : Result Verdict VerifyFault)
-      → VerifyComes name stdin was bytes a → VerifyComes name stdin was bytes b → a ≡ b
+  pub verify : (name : List ℕ) (root : Option (List (List ℕ))) (stdin : Bool) (was : Repository) (bytes : List ℕ) (a b : Result RefVerdict VerifyFault)
+      → VerifyComes name root stdin was bytes a → VerifyComes name root stdin was bytes b → a ≡ b
   pub import : (was : Repository) (bytes : List ℕ) (a b : Result (Unit {0}) ImportFault)
       → ImportComes was bytes a → ImportComes was bytes b → a ≡ b
   pub export : (was : Repository) (a b : Result (Unit {0}) ExportFault) → ExportComes was a → ExportComes was b → a ≡ b
 
 -- what ended is what the command comes to, or it stopped
 pub record TellsOfStore {R : Type 0} (keeper_of : keeper.Ghosts R) : Type 0 where
-  pub verify : (name : List ℕ) (stdin : Bool) (bytes : List ℕ) (left_now : Option (List ℕ)) (was now : Repository) (old new : R) (printed printed_now : Option (List ℕ)) (outcome : Result Verdict VerifyFault)
+  pub verify : (name : List ℕ) (root : Option (List (List ℕ))) (stdin : Bool) (bytes : List ℕ) (left_now : Option (List ℕ)) (was now : Repository) (old new : R) (printed printed_now : Option (List ℕ)) (outcome : Result RefVerdict VerifyFault)
       → keeper_of.content old ≡ Some was → keeper_of.content new ≡ Some now
-      → VerifyEnds name stdin keeper_of (Some bytes) left_now old new printed printed_now outcome → VerifyComes name stdin was bytes outcome ⊎ IsStopped (verify_ending outcome)
+      → VerifyEnds name root stdin keeper_of (Some bytes) left_now old new printed printed_now outcome → VerifyComes name root stdin was bytes outcome ⊎ IsStopped (verify_ending outcome)
   pub import : (bytes : List ℕ) (left_now : Option (List ℕ)) (was now : Repository) (old new : R) (printed printed_now : Option (List ℕ)) (outcome : Result (Unit {0}) ImportFault)
       → keeper_of.content old ≡ Some was → keeper_of.content new ≡ Some now
       → ImportEnds keeper_of (Some bytes) left_now old new printed printed_now outcome → ImportComes was bytes outcome ⊎ IsStopped (import_ending outcome)

@@ -10,33 +10,29 @@ use Rattle.endings.specs.declared.ending.Ending.TheVariants.{Done, Differs, Brok
 use Rattle.endings.specs.declared.ending.Part.TheVariants as part
 use Rattle.endings.specs.declared.ending.Refusal.TheVariants as refusal
 use Rattle.commands_store.specs.Taking.{DeclinesTaking, Opens, take_refusal}
-use Rattle.commands_store.specs.Verdicts.{HasChain, IsVerdict, line}
-use Rattle.commands_store.specs.declared.verdicts.Verdict.{Verdict}
-use Rattle.commands_store.specs.declared.verdicts.Verdict.TheVariants.{Accepted, TipDiffers}
+use Rattle.verify_ref.specs.Lines.{line}
+use Rattle.verify_ref.specs.Verdicts.{IsVerdict}
+use Rattle.commands_store.specs.Verdicts.{RefVerdict, anchor_of}
+use Rattle.judging.specs.declared.verdicts.Verdict.TheVariants.{Accepted, TipDiffers, Violation}
 use Rattle.commands_store.specs.declared.verifying.VerifyFault.{VerifyFault}
-use Rattle.commands_store.specs.declared.verifying.VerifyFault.TheVariants.{Unopened, Logged, LogBroken, KeeperFailed, SinkFailed, Memory}
+use Rattle.commands_store.specs.declared.verifying.VerifyFault.TheVariants.{Unopened, LogBroken, KeeperFailed, SinkFailed, Memory}
 
 -- how the program ends
-abbrev pub verify_ending : Result Verdict VerifyFault → Ending
+abbrev pub verify_ending : Result RefVerdict VerifyFault → Ending
 verify_ending (Ok (Accepted count)) = Done
 verify_ending (Ok (TipDiffers kept recorded)) = Differs
+verify_ending (Ok (Violation number fault)) = Differs
 verify_ending (Err (Unopened fault)) = Refused (take_refusal fault)
-verify_ending (Err Logged) = Refused refusal.NotBuiltLog
 verify_ending (Err (LogBroken id)) = Broken
 verify_ending (Err KeeperFailed) = Refused (refusal.Fault part.Keeper)
 verify_ending (Err SinkFailed) = Refused (refusal.Fault part.Sink)
 verify_ending (Err Memory) = Refused refusal.Memory
 
-module _ (name : List ℕ) (stdin : Bool) {R : Type 0} (keeper_of : keeper.Ghosts R) (left left_now : Option (List ℕ)) (old new : R) where
+module _ (name : List ℕ) (root : Option (List (List ℕ))) (stdin : Bool) {R : Type 0} (keeper_of : keeper.Ghosts R) (left left_now : Option (List ℕ)) (old new : R) where
   -- the repository is open, and this is the verdict on what the store then tells
-  pub record FindsVerdict (verdict : Verdict) : Type 0 where
+  pub record FindsVerdict (verdict : RefVerdict) : Type 0 where
     pub opens : Opens stdin keeper_of left left_now old new
-    pub is : (r : Repository) → keeper_of.content new ≡ Some r → IsVerdict r name verdict
-
-  -- the repository is open, and has a log, which is one chain
-  pub record FindsLog : Type 0 where
-    pub opens : Opens stdin keeper_of left left_now old new
-    pub log : (r : Repository) → keeper_of.content new ≡ Some r → HasChain r
+    pub is : (r : Repository) → keeper_of.content new ≡ Some r → IsVerdict r name (anchor_of root) verdict
 
   -- the repository is open, and its log breaks at this id
   pub record FindsBreak (id : List ℕ) : Type 0 where
@@ -44,10 +40,9 @@ module _ (name : List ℕ) (stdin : Bool) {R : Type 0} (keeper_of : keeper.Ghost
     pub breaks : (r : Repository) → keeper_of.content new ≡ Some r → IsBreakOf r id
 
   -- what looking for the verdict comes to, before anything is printed
-  abbrev pub LookEnds : Result Verdict VerifyFault → Type 0
+  abbrev pub LookEnds : Result RefVerdict VerifyFault → Type 0
   LookEnds (Ok verdict) = FindsVerdict verdict
   LookEnds (Err (Unopened fault)) = IsTrue stdin × DeclinesTaking keeper_of left left_now old new fault
-  LookEnds (Err Logged) = FindsLog
   LookEnds (Err (LogBroken id)) = FindsBreak id
   LookEnds (Err KeeperFailed) = Opens stdin keeper_of left left_now old new
   LookEnds (Err SinkFailed) = ⊥
@@ -55,13 +50,13 @@ module _ (name : List ℕ) (stdin : Bool) {R : Type 0} (keeper_of : keeper.Ghost
 
   module _ (printed printed_now : Option (List ℕ)) where
     -- exactly the verdict's line was printed
-    pub record AnswersVerdict (verdict : Verdict) : Type 0 where
+    pub record AnswersVerdict (verdict : RefVerdict) : Type 0 where
       pub finds : FindsVerdict verdict
       pub printed_is : printed_now ≡ with_end printed (line name verdict)
 
     -- a verdict was found, and a front of its line was printed, and not all
     pub record AnswersPart : Type 0 where
-      pub verdict : Verdict
+      pub verdict : RefVerdict
       pub finds : FindsVerdict verdict
       pub part : GainsPart printed printed_now (line name verdict)
 
@@ -81,10 +76,9 @@ module _ (name : List ℕ) (stdin : Bool) {R : Type 0} (keeper_of : keeper.Ghost
       pub why : LookEnds (Err fault)
       pub unprinted : printed_now ≡ printed
 
-    abbrev pub VerifyEnds : Result Verdict VerifyFault → Type 0
+    abbrev pub VerifyEnds : Result RefVerdict VerifyFault → Type 0
     VerifyEnds (Ok verdict) = AnswersVerdict verdict
     VerifyEnds (Err (Unopened fault)) = AnswersNothing (Unopened fault)
-    VerifyEnds (Err Logged) = AnswersNothing Logged
     VerifyEnds (Err (LogBroken id)) = AnswersBreak id
     VerifyEnds (Err KeeperFailed) = AnswersNothing KeeperFailed
     VerifyEnds (Err SinkFailed) = AnswersPart ⊎ AnswersBreakPart

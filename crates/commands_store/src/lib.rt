@@ -14,11 +14,9 @@ mod judging;
 pub mod laws;
 mod opening;
 mod taking;
-mod verdicts;
 mod verifying;
 
 pub use exporting::{export, export_ending};
 pub use importing::{ImportFault, import, import_ending};
 pub use taking::{TakeFault, take_refusal};
-pub use verdicts::Verdict;
 pub use verifying::{VerifyFault, verify_ending, verify_ref};

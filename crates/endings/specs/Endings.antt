@@ -5,17 +5,20 @@ use Rattle.endings.specs.declared.ending.Ending.{Ending}
 use Rattle.endings.specs.declared.ending.Ending.TheVariants.{Done, Differs, Broken, Refused}
 use Rattle.endings.specs.declared.ending.Part.{Part}
 use Rattle.endings.specs.declared.ending.Refusal.{Refusal}
-use Rattle.endings.specs.declared.ending.Refusal.TheVariants.{Words, Stream, NotBuiltLog, Object, TooLarge, NotEmpty, KeyFile, Fault, Memory, Exhausted}
+use Rattle.endings.specs.declared.ending.Refusal.TheVariants.{Words, Stream, Object, TooLarge, NotEmpty, KeyFile, Policy, Input, Fault, Memory, Exhausted}
+use Rattle.endings.specs.declared.messages.Line.{Line}
+use Rattle.endings.specs.declared.messages.Line.TheVariants.{Made, Held}
 
 -- the status of a refusal
 abbrev pub refusal_status : Refusal → ℕ
 refusal_status Words = 2
 refusal_status (Stream number) = 3
-refusal_status NotBuiltLog = 3
 refusal_status (Object id) = 3
 refusal_status TooLarge = 3
 refusal_status NotEmpty = 3
 refusal_status KeyFile = 3
+refusal_status (Policy line) = 3
+refusal_status Input = 3
 refusal_status (Fault part) = 4
 refusal_status Memory = 5
 refusal_status Exhausted = 6
@@ -31,24 +34,31 @@ status_of (Refused refusal) = refusal_status refusal
 abbrev pub refusal_line : Refusal → List ℕ
 refusal_line Words = codes "words refused\n"
 refusal_line (Stream number) = codes "stream " ++ decimal number ++ codes "\n"
-refusal_line NotBuiltLog = codes "not built log\n"
 refusal_line (Object id) = codes "object " ++ encode_lower id ++ codes "\n"
 refusal_line TooLarge = codes "too large\n"
 refusal_line NotEmpty = codes "not empty\n"
 refusal_line KeyFile = codes "key file\n"
+refusal_line (Policy line) = line
+refusal_line Input = codes "input\n"
 refusal_line (Fault part) = codes "fault\n"
 refusal_line Memory = codes "memory\n"
 refusal_line Exhausted = codes "exhausted\n"
+
+-- the bytes of a line
+abbrev pub line_bytes : Line → List ℕ
+line_bytes (Made message) = message
+line_bytes (Held bytes) = bytes.now
 
 -- the object that failed
 abbrev pub part_in : Refusal → Option Part
 part_in Words = None
 part_in (Stream number) = None
-part_in NotBuiltLog = None
 part_in (Object id) = None
 part_in TooLarge = None
 part_in NotEmpty = None
 part_in KeyFile = None
+part_in (Policy line) = None
+part_in Input = None
 part_in (Fault part) = Some part
 part_in Memory = None
 part_in Exhausted = None
@@ -63,11 +73,12 @@ part_of (Refused refusal) = part_in refusal
 abbrev pub IsStop : Refusal → Type 0
 IsStop Words = ⊥
 IsStop (Stream number) = ⊥
-IsStop NotBuiltLog = ⊥
 IsStop (Object id) = ⊥
 IsStop TooLarge = ⊥
 IsStop NotEmpty = ⊥
 IsStop KeyFile = ⊥
+IsStop (Policy line) = ⊥
+IsStop Input = ⊥
 IsStop (Fault part) = Unit {0}
 IsStop Memory = Unit {0}
 IsStop Exhausted = ⊥

@@ -4,6 +4,7 @@ ghost use Rattle.std.specs.Prelude.{◌≡◌, ◌≤◌};
 ghost use Rattle.endings.specs.Endings.{refusal_status, status_of};
 
 use git_object::ObjectId;
+use octets::Octets;
 
 /// An object outside that counts its faults.
 #[derive(Clone, Copy, Debug, PartialEq, Eq)]
@@ -17,14 +18,12 @@ pub enum Part {
 }
 
 /// Why a command is refused, in the order of its statuses: one variant for each line that the program can say there.
-#[derive(Clone, Copy, Debug, PartialEq, Eq)]
+#[derive(Debug, PartialEq, Eq, Drop)]
 pub enum Refusal {
     /// The words are outside the grammar.
     Words,
     /// The stream is refused, by the refusal of this number.
     Stream { number: u8 },
-    /// The repository has a log, which is not read yet.
-    NotBuiltLog,
     /// What is kept under this id is not its object.
     Object { id: ObjectId },
     /// The stream of the repository is longer than a stream may be, or its log has as many entries as a log may.
@@ -33,6 +32,10 @@ pub enum Refusal {
     NotEmpty,
     /// The disk holds no key file.
     KeyFile,
+    /// The policy is refused; the whole line that tells its fault, with its line feed.
+    Policy { line: Octets },
+    /// What the source gave is refused.
+    Input,
     /// This object outside failed.
     Fault { part: Part },
     Memory,
@@ -41,7 +44,7 @@ pub enum Refusal {
 }
 
 /// How a command ends.
-#[derive(Clone, Copy, Debug, PartialEq, Eq)]
+#[derive(Debug, PartialEq, Eq, Drop)]
 pub enum Ending {
     /// The answer was given.
     Done,
@@ -62,11 +65,12 @@ impl Refusal {
         match self {
             Refusal::Words => 2,
             Refusal::Stream { number: _ } => 3,
-            Refusal::NotBuiltLog => 3,
             Refusal::Object { id: _ } => 3,
             Refusal::TooLarge => 3,
             Refusal::NotEmpty => 3,
             Refusal::KeyFile => 3,
+            Refusal::Policy { line: _ } => 3,
+            Refusal::Input => 3,
             Refusal::Fault { part: _ } => 4,
             Refusal::Memory => 5,
             Refusal::Exhausted => 6,

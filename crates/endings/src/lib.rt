@@ -11,4 +11,4 @@ mod ending;
 mod messages;
 
 pub use ending::{Ending, Part, Refusal};
-pub use messages::Message;
+pub use messages::{Line, Message};

@@ -1,8 +1,8 @@
-//! The line that tells a refusal, which takes no memory.
+//! The line that tells a refusal. Telling it takes no memory.
 
 ghost use Rattle.std.specs.Prelude.{◌≡◌, ◌≤◌, ◌<◌, ◌+◌, ◌++◌, ◌∷◌, [], length, codes, decimal};
 ghost use Rattle.hex.specs.Hex.{encode_lower};
-ghost use Rattle.endings.specs.Endings.{refusal_line};
+ghost use Rattle.endings.specs.Endings.{line_bytes, refusal_line};
 
 use crate::Refusal;
 use git_object::ObjectId;
@@ -92,22 +92,42 @@ fn object_line(id: &ObjectId) -> Message
     line_of(b"object ", &id.to_hex())
 }
 
-impl Refusal {
-    /// The line that tells the refusal, with its line feed.
-    pub fn line(&self) -> Message
-        ensures { result ≡ refusal_line self.now }
+/// The line that tells a refusal: made for it, or held by it.
+#[derive(Drop)]
+pub enum Line<'a> {
+    Made(Message),
+    Held(&'a [u8]),
+}
+
+impl Line<'_> {
+    /// The bytes, lent.
+    pub fn as_slice(&self) -> &[u8]
+        ensures { result.now ≡ line_bytes self.now }
     {
         match self {
+            Line::Made(message) => message.as_slice(),
+            Line::Held(bytes) => bytes,
+        }
+    }
+}
+
+impl Refusal {
+    /// The line that tells the refusal, with its line feed.
+    pub fn line(&self) -> Line<'_>
+        ensures { line_bytes result ≡ refusal_line self.now }
+    {
+        Line::Made(match self {
             Refusal::Words => line_of(b"words refused", b""),
             Refusal::Stream { number } => stream_line(*number),
-            Refusal::NotBuiltLog => line_of(b"not built log", b""),
             Refusal::Object { id } => object_line(id),
             Refusal::TooLarge => line_of(b"too large", b""),
             Refusal::NotEmpty => line_of(b"not empty", b""),
             Refusal::KeyFile => line_of(b"key file", b""),
+            Refusal::Policy { line } => return Line::Held(line.as_slice()),
+            Refusal::Input => line_of(b"input", b""),
             Refusal::Fault { part: _ } => line_of(b"fault", b""),
             Refusal::Memory => line_of(b"memory", b""),
             Refusal::Exhausted => line_of(b"exhausted", b""),
-        }
+        })
     }
 }

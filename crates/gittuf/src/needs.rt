@@ -19,10 +19,27 @@ pub(crate) struct Needs {
 pub(crate) fn needs_of(alloc: Global, command: &[String]) -> Result<Needs, Refusal> {
     let (change, key, slow) = match read_command(alloc, command) {
         Ok(Command::Import) => (true, false, false),
-        Ok(Command::VerifyRef { name: _, stdin }) => (stdin, false, false),
+        Ok(
+            Command::VerifyRef {
+                name: _,
+                root: _,
+                stdin,
+            },
+        ) => (stdin, false, false),
         Ok(Command::Export) => (false, false, false),
         Ok(Command::Log) => (false, false, false),
         Ok(Command::Record { name: _ }) => (true, true, false),
+        Ok(Command::Seal { add: _ }) => (false, true, false),
+        Ok(Command::Snapshot { name: _ }) => (true, false, false),
+        Ok(Command::PolicyApply) => (true, true, false),
+        Ok(Command::Explain { space: _, text: _ }) => (false, false, false),
+        Ok(
+            Command::Annotate {
+                skip: _,
+                ids: _,
+                message: _,
+            },
+        ) => (true, true, false),
         Ok(Command::KeyGen { height, width: _ }) => (false, true, height == Height::H15),
         Err(WordsFault::Outside) => return Err(Refusal::Words),
         Err(WordsFault::Memory) => return Err(Refusal::Memory),

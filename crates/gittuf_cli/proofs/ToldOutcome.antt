@@ -17,21 +17,31 @@ use Rattle.endings.specs.declared.ending.Ending.{Ending}
 use Rattle.commands_history.specs.Laws.{LogComes, TellsOfHistory}
 use Rattle.commands_history.specs.Logging.{LogEnds, log_ending}
 use Rattle.commands_history.specs.declared.faults.LogCommandFault.{LogCommandFault}
-use Rattle.commands_keys.specs.Contents.{KeyGenComes}
+use Rattle.commands_keys.specs.Contents.{KeyGenComes, SealComes}
 use Rattle.commands_keys.specs.Laws.{TellsOfKeys}
 use Rattle.commands_keys.specs.MakingKeys.{KeyGenEnds, key_gen_ending}
+use Rattle.commands_keys.specs.Sealing.{SealEnds, seal_ending}
 use Rattle.commands_keys.specs.declared.making_keys.KeyGenFault.{KeyGenFault}
+use Rattle.commands_keys.specs.declared.sealing.SealFault.{SealFault}
 use Rattle.commands_log.specs.Outcomes.{RecordComes, TellsOfLog, record_ending}
-use Rattle.commands_log.specs.Recording.{RecordEnds}
+use Rattle.commands_log.specs.Recording.{AnnotateEnds, RecordEnds}
 use Rattle.commands_log.specs.declared.recording.RecordFault.{RecordFault}
+use Rattle.commands_policy.specs.Applying.{ApplyEnds}
+use Rattle.commands_policy.specs.Explaining.{ExplainEnds, explain_ending}
+use Rattle.commands_policy.specs.Outcomes.{ApplyComes, ExplainComes, TellsOfPolicy, apply_ending}
+use Rattle.commands_policy.specs.declared.applying.ApplyFault.{ApplyFault}
 use Rattle.commands_store.specs.Contents.{ExportComes, ImportComes, VerifyComes}
 use Rattle.commands_store.specs.Exporting.{ExportEnds, export_ending}
 use Rattle.commands_store.specs.Importing.{ImportEnds, import_ending}
 use Rattle.commands_store.specs.Laws.{TellsOfStore}
 use Rattle.commands_store.specs.Verifying.{VerifyEnds, verify_ending}
 use Rattle.commands_store.specs.declared.importing.ImportFault.{ImportFault}
-use Rattle.commands_store.specs.declared.verdicts.Verdict.{Verdict}
+use Rattle.commands_store.specs.Verdicts.{RefVerdict}
 use Rattle.commands_store.specs.declared.verifying.VerifyFault.{VerifyFault}
+use Rattle.commands_trees.specs.Contents.{SnapshotComes}
+use Rattle.commands_trees.specs.OutcomeLaws.{TellsOfTrees}
+use Rattle.commands_trees.specs.Snapshots.{SnapshotEnds, snapshot_ending}
+use Rattle.commands_trees.specs.declared.snapshots.SnapshotFault.{SnapshotFault}
 use Rattle.gittuf_cli.specs.Contents.{Comes, Content, Tells, TellsOutcome}
 use Rattle.gittuf_cli.specs.KeyTypes.{lms_of, ots_of}
 use Rattle.gittuf_cli.specs.Runs.{EndsOf}
@@ -40,17 +50,17 @@ use Rattle.gittuf_cli.specs.Worlds.{World}
 same_some : {X : Type 0} (x y : X) (told : Option X) → told ≡ Some x → told ≡ Some y → x ≡ y
 same_some x y told e f = cc
 
-module _ {S K R D E C : Type 0} (source_of : source.Ghosts S) (sink_of : sink.Ghosts K) (keeper_of : keeper.Ghosts R) (disk_of : disk.Ghosts D) (entropy_of : entropy.Ghosts E) (clock_of : clock.Ghosts C) (store : TellsOfStore keeper_of) (keys : TellsOfKeys disk_of) (history : TellsOfHistory) (log : TellsOfLog keeper_of disk_of) where
+module _ {S K R D E C : Type 0} (source_of : source.Ghosts S) (sink_of : sink.Ghosts K) (keeper_of : keeper.Ghosts R) (disk_of : disk.Ghosts D) (entropy_of : entropy.Ghosts E) (clock_of : clock.Ghosts C) (store : TellsOfStore keeper_of) (keys : TellsOfKeys disk_of) (history : TellsOfHistory) (log : TellsOfLog keeper_of disk_of) (trees : TellsOfTrees keeper_of) (policy : TellsOfPolicy keeper_of disk_of) where
   told_comes : (c : Command) (before after : World S K R D E C) (ending : Ending) (content : Content)
       → Tells source_of sink_of keeper_of disk_of entropy_of clock_of c before after content
       → EndsOf source_of sink_of keeper_of disk_of entropy_of clock_of c before after ending → Comes c content ending ⊎ IsStopped ending
-  told_comes (command.VerifyRef name stdin) before after ending content tells ends =
+  told_comes (command.VerifyRef name root stdin) before after ending content tells ends =
       told_ending verify_ending
-      (VerifyEnds name stdin keeper_of (source_of.left before.source) (source_of.left after.source) before.keeper after.keeper (sink_of.contents before.sink) (sink_of.contents after.sink))
-      (VerifyComes name stdin content.held content.bytes)
-      (λ (outcome : Result Verdict VerifyFault) means.
-      store.verify name stdin content.bytes (source_of.left after.source) content.held tells.1.now before.keeper after.keeper (sink_of.contents before.sink) (sink_of.contents after.sink) outcome tells.1.held tells.1.holds
-      (subst (λ (l : Option (List ℕ)). VerifyEnds name stdin keeper_of l (source_of.left after.source) before.keeper after.keeper (sink_of.contents before.sink) (sink_of.contents after.sink) outcome) tells.0 means))
+      (VerifyEnds name root stdin keeper_of (source_of.left before.source) (source_of.left after.source) before.keeper after.keeper (sink_of.contents before.sink) (sink_of.contents after.sink))
+      (VerifyComes name root stdin content.held content.bytes)
+      (λ (outcome : Result RefVerdict VerifyFault) means.
+      store.verify name root stdin content.bytes (source_of.left after.source) content.held tells.1.now before.keeper after.keeper (sink_of.contents before.sink) (sink_of.contents after.sink) outcome tells.1.held tells.1.holds
+      (subst (λ (l : Option (List ℕ)). VerifyEnds name root stdin keeper_of l (source_of.left after.source) before.keeper after.keeper (sink_of.contents before.sink) (sink_of.contents after.sink) outcome) tells.0 means))
       ending ends.0
   told_comes command.Export before after ending content tells ends =
       let same : tells.now ≡ content.held = sym (same_some content.held tells.now (keeper_of.content before.keeper) tells.held (ends.1.content tells.now tells.holds)) in
@@ -93,6 +103,48 @@ module _ {S K R D E C : Type 0} (source_of : source.Ghosts S) (sink_of : sink.Gh
       (RecordComes content.file content.held)
       (λ (outcome : Result (Unit {0}) RecordFault) means.
       log.recorded name (clock_of.left before.clock) (clock_of.left after.clock) content.held tells.0.now content.file tells.1.now before.keeper after.keeper before.disk after.disk (sink_of.contents before.sink) (sink_of.contents after.sink) outcome
+      tells.0.held tells.0.holds tells.1.held tells.1.holds means)
+      ending ends.0
+  told_comes (command.Seal add) before after ending content tells ends =
+      told_ending seal_ending
+      (SealEnds disk_of add (source_of.left before.source) (source_of.left after.source) before.disk after.disk (sink_of.contents before.sink) (sink_of.contents after.sink))
+      (SealComes add content.bytes content.file)
+      (λ (outcome : Result (Unit {0}) SealFault) means.
+      keys.seal add (source_of.left after.source) content.bytes content.file tells.1.now before.disk after.disk (sink_of.contents before.sink) (sink_of.contents after.sink) outcome tells.1.held tells.1.holds
+      (subst (λ (l : Option (List ℕ)). SealEnds disk_of add l (source_of.left after.source) before.disk after.disk (sink_of.contents before.sink) (sink_of.contents after.sink) outcome) tells.0 means))
+      ending ends.0
+  told_comes (command.Snapshot name) before after ending content tells ends =
+      told_ending snapshot_ending
+      (SnapshotEnds keeper_of name (source_of.left before.source) (source_of.left after.source) (clock_of.left before.clock) (clock_of.left after.clock) before.keeper after.keeper (sink_of.contents before.sink) (sink_of.contents after.sink))
+      (SnapshotComes name content.bytes content.held)
+      (λ (outcome : Result (Unit {0}) SnapshotFault) means.
+      trees.snapshot name (source_of.left after.source) content.bytes (clock_of.left before.clock) (clock_of.left after.clock) content.held tells.1.now before.keeper after.keeper (sink_of.contents before.sink) (sink_of.contents after.sink) outcome tells.1.held tells.1.holds
+      (subst (λ (l : Option (List ℕ)). SnapshotEnds keeper_of name l (source_of.left after.source) (clock_of.left before.clock) (clock_of.left after.clock) before.keeper after.keeper (sink_of.contents before.sink) (sink_of.contents after.sink) outcome) tells.0 means))
+      ending ends.0
+  told_comes command.PolicyApply before after ending content tells ends =
+      told_ending apply_ending
+      (ApplyEnds keeper_of disk_of (clock_of.left before.clock) (clock_of.left after.clock) before.keeper after.keeper before.disk after.disk (sink_of.contents before.sink) (sink_of.contents after.sink))
+      (ApplyComes content.file content.held)
+      (λ (outcome : Result (Unit {0}) ApplyFault) means.
+      policy.applied (clock_of.left before.clock) (clock_of.left after.clock) content.held tells.0.now content.file tells.1.now before.keeper after.keeper before.disk after.disk (sink_of.contents before.sink) (sink_of.contents after.sink) outcome
+      tells.0.held tells.0.holds tells.1.held tells.1.holds means)
+      ending ends.0
+  told_comes (command.Explain space text) before after ending content tells ends =
+      let same : tells.now ≡ content.held = sym (same_some content.held tells.now (keeper_of.content before.keeper) tells.held (ends.1.content tells.now tells.holds)) in
+      told_ending explain_ending
+      (ExplainEnds (keeper_of.content after.keeper) (sink_of.contents before.sink) (sink_of.contents after.sink) (record { space = space; text = text }))
+      (ExplainComes content.held)
+      (λ (outcome : Result (Unit {0}) LogCommandFault) means.
+      policy.explained content.held (sink_of.contents before.sink) (sink_of.contents after.sink) (record { space = space; text = text }) outcome
+      (subst (λ (r : Repository). ExplainEnds (Some r) (sink_of.contents before.sink) (sink_of.contents after.sink) (record { space = space; text = text }) outcome) same
+      (subst (λ (o : Option Repository). ExplainEnds o (sink_of.contents before.sink) (sink_of.contents after.sink) (record { space = space; text = text }) outcome) tells.holds means)))
+      ending ends.0
+  told_comes (command.Annotate skip ids message) before after ending content tells ends =
+      told_ending record_ending
+      (AnnotateEnds keeper_of disk_of ids skip message (clock_of.left before.clock) (clock_of.left after.clock) before.keeper after.keeper before.disk after.disk (sink_of.contents before.sink) (sink_of.contents after.sink))
+      (RecordComes content.file content.held)
+      (λ (outcome : Result (Unit {0}) RecordFault) means.
+      log.annotated ids skip message (clock_of.left before.clock) (clock_of.left after.clock) content.held tells.0.now content.file tells.1.now before.keeper after.keeper before.disk after.disk (sink_of.contents before.sink) (sink_of.contents after.sink) outcome
       tells.0.held tells.0.holds tells.1.held tells.1.holds means)
       ending ends.0
 

@@ -17,13 +17,18 @@ use Rattle.endings.specs.declared.ending.Ending.TheVariants.{Refused}
 use Rattle.endings.specs.declared.ending.Refusal.TheVariants as refusal
 use Rattle.commands_history.specs.Laws.{LogComes}
 use Rattle.commands_history.specs.Logging.{log_ending}
-use Rattle.commands_keys.specs.Contents.{KeyGenComes}
+use Rattle.commands_keys.specs.Contents.{KeyGenComes, SealComes}
 use Rattle.commands_keys.specs.MakingKeys.{key_gen_ending}
+use Rattle.commands_keys.specs.Sealing.{seal_ending}
 use Rattle.commands_log.specs.Outcomes.{RecordComes, record_ending}
+use Rattle.commands_policy.specs.Explaining.{explain_ending}
+use Rattle.commands_policy.specs.Outcomes.{ApplyComes, ExplainComes, apply_ending}
 use Rattle.commands_store.specs.Contents.{ExportComes, ImportComes, VerifyComes}
 use Rattle.commands_store.specs.Exporting.{export_ending}
 use Rattle.commands_store.specs.Importing.{import_ending}
 use Rattle.commands_store.specs.Verifying.{verify_ending}
+use Rattle.commands_trees.specs.Contents.{IsSettled, SnapshotComes}
+use Rattle.commands_trees.specs.Snapshots.{snapshot_ending}
 use Rattle.gittuf_cli.specs.Runs.{Ends}
 use Rattle.gittuf_cli.specs.Worlds.{World}
 
@@ -35,12 +40,22 @@ pub record Content : Type 0 where
 
 -- what a command comes to over this content
 abbrev pub Comes : Command → Content → Ending → Type 0
-Comes (command.VerifyRef name stdin) content = Ended verify_ending (VerifyComes name stdin content.held content.bytes)
+Comes (command.VerifyRef name root stdin) content = Ended verify_ending (VerifyComes name root stdin content.held content.bytes)
 Comes command.Export content = Ended export_ending (ExportComes content.held)
 Comes command.Import content = Ended import_ending (ImportComes content.held content.bytes)
 Comes (command.KeyGen height width) content = Ended key_gen_ending (KeyGenComes content.file)
 Comes command.Log content = Ended log_ending (LogComes content.held)
 Comes (command.Record name) content = Ended record_ending (RecordComes content.file content.held)
+Comes (command.Seal add) content = Ended seal_ending (SealComes add content.bytes content.file)
+Comes (command.Snapshot name) content = Ended snapshot_ending (SnapshotComes name content.bytes content.held)
+Comes command.PolicyApply content = Ended apply_ending (ApplyComes content.file content.held)
+Comes (command.Explain space text) content = Ended explain_ending (ExplainComes content.held)
+Comes (command.Annotate skip ids message) content = Ended record_ending (RecordComes content.file content.held)
+
+-- what is settled of the content where a command has one ending: nothing, but for the trees of a listing
+abbrev pub IsSettledFor : Command → Content → Type 0
+IsSettledFor (command.Snapshot name) content = IsSettled content.bytes
+IsSettledFor _ content = Unit {0}
 
 -- the words ask for this command, and it comes to this
 pub record IsAnswered (words : List (List ℕ)) (content : Content) (ending : Ending) : Type 0 where
@@ -71,12 +86,17 @@ module _ {S K R D E C : Type 0} (source_of : source.Ghosts S) (sink_of : sink.Gh
 
   -- the objects that a command reads tell their content
   abbrev pub Tells : Command → World S K R D E C → World S K R D E C → Content → Type 0
-  Tells (command.VerifyRef name stdin) before after content = TellsSource before content × TellsStore before after content
+  Tells (command.VerifyRef name root stdin) before after content = TellsSource before content × TellsStore before after content
   Tells command.Export before after content = TellsStore before after content
   Tells command.Import before after content = TellsSource before content × TellsStore before after content
   Tells (command.KeyGen height width) before after content = TellsDisk before after content
   Tells command.Log before after content = TellsStore before after content
   Tells (command.Record name) before after content = TellsStore before after content × TellsDisk before after content
+  Tells (command.Seal add) before after content = TellsSource before content × TellsDisk before after content
+  Tells (command.Snapshot name) before after content = TellsSource before content × TellsStore before after content
+  Tells command.PolicyApply before after content = TellsStore before after content × TellsDisk before after content
+  Tells (command.Explain space text) before after content = TellsStore before after content
+  Tells (command.Annotate skip ids message) before after content = TellsStore before after content × TellsDisk before after content
 
   -- where the content is told, an ending is the one for it, or the run stopped
   abbrev pub TellsOutcome : Type 0
@@ -85,6 +105,6 @@ module _ {S K R D E C : Type 0} (source_of : source.Ghosts S) (sink_of : sink.Gh
       → ((command : Command) → IsCommand words command → Tells command before after content)
       → Ends source_of sink_of keeper_of disk_of entropy_of clock_of words before after ending → IsOutcome words content ending ⊎ IsStopped ending
 
--- there is at most one ending for the same words and content
+-- there is at most one ending for the same words and content, where that is settled
 abbrev pub OneOutcome : Type 0
-OneOutcome = (words : List (List ℕ)) (content : Content) (a b : Ending) → IsOutcome words content a → IsOutcome words content b → a ≡ b
+OneOutcome = (words : List (List ℕ)) (content : Content) (a b : Ending) → ((command : Command) → IsCommand words command → IsSettledFor command content) → IsOutcome words content a → IsOutcome words content b → a ≡ b

@@ -21,11 +21,16 @@ use Rattle.endings.specs.declared.ending.Ending.TheVariants.{Done, Differs, Brok
 use Rattle.endings.specs.declared.ending.Refusal.TheVariants as refusal
 use Rattle.commands_history.specs.Logging.{LogEnds, log_ending}
 use Rattle.commands_keys.specs.MakingKeys.{KeyGenEnds, key_gen_ending}
+use Rattle.commands_keys.specs.Sealing.{SealEnds, seal_ending}
 use Rattle.commands_log.specs.Outcomes.{record_ending}
-use Rattle.commands_log.specs.Recording.{RecordEnds}
+use Rattle.commands_log.specs.Recording.{AnnotateEnds, RecordEnds}
+use Rattle.commands_policy.specs.Applying.{ApplyEnds}
+use Rattle.commands_policy.specs.Explaining.{ExplainEnds, explain_ending}
+use Rattle.commands_policy.specs.Outcomes.{apply_ending}
 use Rattle.commands_store.specs.Exporting.{ExportEnds, export_ending}
 use Rattle.commands_store.specs.Importing.{ImportEnds, import_ending}
 use Rattle.commands_store.specs.Verifying.{VerifyEnds, verify_ending}
+use Rattle.commands_trees.specs.Snapshots.{SnapshotEnds, snapshot_ending}
 use Rattle.gittuf_cli.specs.KeyTypes.{lms_of, ots_of}
 use Rattle.gittuf_cli.specs.Worlds.{World, faults_of}
 
@@ -44,8 +49,8 @@ Says told told_now faults faults_now (Refused refused) = SaysLine told told_now 
 module _ {S K R D E C : Type 0} (source_of : source.Ghosts S) (sink_of : sink.Ghosts K) (keeper_of : keeper.Ghosts R) (disk_of : disk.Ghosts D) (entropy_of : entropy.Ghosts E) (clock_of : clock.Ghosts C) where
   -- what it means that a command ended so, and that it touched no object but those that it uses
   abbrev pub EndsOf : Command → World S K R D E C → World S K R D E C → Ending → Type 0
-  EndsOf (command.VerifyRef name stdin) before after ending =
-      Ended verify_ending (VerifyEnds name stdin keeper_of (source_of.left before.source) (source_of.left after.source) before.keeper after.keeper (sink_of.contents before.sink) (sink_of.contents after.sink)) ending
+  EndsOf (command.VerifyRef name root stdin) before after ending =
+      Ended verify_ending (VerifyEnds name root stdin keeper_of (source_of.left before.source) (source_of.left after.source) before.keeper after.keeper (sink_of.contents before.sink) (sink_of.contents after.sink)) ending
       × (stdin ≡ false → after.source ≡ before.source)
       × (after ≡ record before { source = after.source; sink = after.sink; keeper = after.keeper })
   EndsOf command.Export before after ending =
@@ -64,6 +69,25 @@ module _ {S K R D E C : Type 0} (source_of : source.Ghosts S) (sink_of : sink.Gh
       × (after ≡ record before { sink = after.sink; keeper = after.keeper })
   EndsOf (command.Record name) before after ending =
       Ended record_ending (RecordEnds keeper_of disk_of name (clock_of.left before.clock) (clock_of.left after.clock) before.keeper after.keeper before.disk after.disk (sink_of.contents before.sink) (sink_of.contents after.sink)) ending
+      × LeavesOnly disk_of.moment disk_of.left_since before.disk after.disk (KeepsUsed (disk_of.may_leave before.disk))
+      × (after ≡ record before { sink = after.sink; keeper = after.keeper; disk = after.disk; clock = after.clock })
+  EndsOf (command.Seal add) before after ending =
+      Ended seal_ending (SealEnds disk_of add (source_of.left before.source) (source_of.left after.source) before.disk after.disk (sink_of.contents before.sink) (sink_of.contents after.sink)) ending
+      × LeavesOnly disk_of.moment disk_of.left_since before.disk after.disk (KeepsUsed (disk_of.may_leave before.disk))
+      × (after ≡ record before { source = after.source; sink = after.sink; disk = after.disk })
+  EndsOf (command.Snapshot name) before after ending =
+      Ended snapshot_ending (SnapshotEnds keeper_of name (source_of.left before.source) (source_of.left after.source) (clock_of.left before.clock) (clock_of.left after.clock) before.keeper after.keeper (sink_of.contents before.sink) (sink_of.contents after.sink)) ending
+      × (after ≡ record before { source = after.source; sink = after.sink; keeper = after.keeper; clock = after.clock })
+  EndsOf command.PolicyApply before after ending =
+      Ended apply_ending (ApplyEnds keeper_of disk_of (clock_of.left before.clock) (clock_of.left after.clock) before.keeper after.keeper before.disk after.disk (sink_of.contents before.sink) (sink_of.contents after.sink)) ending
+      × LeavesOnly disk_of.moment disk_of.left_since before.disk after.disk (KeepsUsed (disk_of.may_leave before.disk))
+      × (after ≡ record before { sink = after.sink; keeper = after.keeper; disk = after.disk; clock = after.clock })
+  EndsOf (command.Explain space text) before after ending =
+      Ended explain_ending (ExplainEnds (keeper_of.content after.keeper) (sink_of.contents before.sink) (sink_of.contents after.sink) (record { space = space; text = text })) ending
+      × Undisturbed keeper_of before.keeper after.keeper
+      × (after ≡ record before { sink = after.sink; keeper = after.keeper })
+  EndsOf (command.Annotate skip ids message) before after ending =
+      Ended record_ending (AnnotateEnds keeper_of disk_of ids skip message (clock_of.left before.clock) (clock_of.left after.clock) before.keeper after.keeper before.disk after.disk (sink_of.contents before.sink) (sink_of.contents after.sink)) ending
       × LeavesOnly disk_of.moment disk_of.left_since before.disk after.disk (KeepsUsed (disk_of.may_leave before.disk))
       × (after ≡ record before { sink = after.sink; keeper = after.keeper; disk = after.disk; clock = after.clock })
 

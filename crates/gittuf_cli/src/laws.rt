@@ -6,7 +6,9 @@ use command_words::laws::one_command;
 use commands_history::laws::{one_of_history, tells_of_history};
 use commands_keys::laws::{one_of_keys, tells_of_keys};
 use commands_log::laws::{one_of_log, tells_of_log};
+use commands_policy::laws::{one_of_policy, tells_of_policy};
 use commands_store::laws::{one_of_store, tells_of_store};
+use commands_trees::outcome_laws::{one_of_trees, tells_of_trees};
 use edge_clock::Clock;
 use edge_disk::{Disk, Entropy};
 use edge_io::{Sink, Source};
@@ -21,9 +23,12 @@ pub fn tells_outcome<S: Source, K: Sink, R: Keeper, D: Disk, E: Entropy, C: Cloc
     tells_of_keys::<D>();
     tells_of_history();
     tells_of_log::<R, D>();
+    tells_of_trees::<R>();
+    tells_of_policy::<R, D>();
 }
 
-/// There is at most one ending for the same words and content.
+/// There is at most one ending for the same words and content; for `snapshot` where objects are made of the listing or
+/// refused, and not both.
 pub fn one_outcome()
     ensures { OneOutcome }
 {
@@ -32,4 +37,6 @@ pub fn one_outcome()
     one_of_keys();
     one_of_history();
     one_of_log();
+    one_of_trees();
+    one_of_policy();
 }

@@ -1,7 +1,7 @@
 //! The one call that the program makes.
 
 ghost use Rattle.std.specs.Prelude.{◌≡◌, ◌≤◌, map, string_bytes};
-ghost use Rattle.command_words.specs.FirstWords.{NamesNoLog};
+ghost use Rattle.command_words.specs.FirstWords.{IsWithinLimits};
 ghost use Rattle.endings.specs.Counts.{IsCounted};
 ghost use Rattle.gittuf_cli.specs.Runs.{Ends, EndsOf, Ran, Says};
 ghost use Rattle.gittuf_cli.specs.Worlds.{faults_of, world_of};
@@ -10,9 +10,11 @@ use crate::Outside;
 use crate::key_types::{lms_of, ots_of};
 use command_words::{Command, WordsFault, read_command};
 use commands_history::{log, log_ending};
-use commands_keys::{key_gen, key_gen_ending};
-use commands_log::{record, record_ending};
+use commands_keys::{key_gen, key_gen_ending, seal, seal_ending};
+use commands_log::{annotate, record, record_ending};
+use commands_policy::{apply_ending, explain, explain_ending, policy_apply};
 use commands_store::{export, export_ending, import, import_ending, verify_ending, verify_ref};
+use commands_trees::{snapshot, snapshot_ending};
 use edge_clock::Clock;
 use edge_disk::{Disk, Entropy};
 use edge_io::{Sink, Source, write_all};
@@ -26,16 +28,17 @@ fn carry_out<S: Source, K: Sink, F: Sink, R: Keeper, D: Disk, E: Entropy, C: Clo
     command: &Command,
     outside: &mut Outside<S, K, F, R, D, E, C>,
 ) -> Ending
-    requires { NamesNoLog command.now }
+    requires { IsWithinLimits command.now }
     ensures ends { EndsOf S.Source K.Sink R.Keeper D.Disk E.Entropy C.Clock command.now (world_of outside.old) (world_of outside.new) result }
     ensures counted { IsCounted result (faults_of S.Source K.Sink R.Keeper D.Disk E.Entropy C.Clock (world_of outside.old)) (faults_of S.Source K.Sink R.Keeper D.Disk E.Entropy C.Clock (world_of outside.new)) }
     ensures unsaid { outside.new.faults_out ≡ outside.old.faults_out }
 {
     match command {
-        Command::VerifyRef { name, stdin } => {
+        Command::VerifyRef { name, root, stdin } => {
             let outcome = verify_ref(
                 alloc,
                 name,
+                root,
                 *stdin,
                 &mut outside.source,
                 &mut outside.sink,
@@ -75,6 +78,60 @@ fn carry_out<S: Source, K: Sink, F: Sink, R: Keeper, D: Disk, E: Entropy, C: Clo
             let outcome = record(
                 alloc,
                 name,
+                &mut outside.sink,
+                &mut outside.keeper,
+                &mut outside.disk,
+                &mut outside.clock,
+            );
+            record_ending(&outcome)
+        }
+        Command::Seal { add } => {
+            let outcome = seal(
+                alloc,
+                *add,
+                &mut outside.source,
+                &mut outside.sink,
+                &mut outside.disk,
+            );
+            seal_ending(&outcome)
+        }
+        Command::Snapshot { name } => {
+            let outcome = snapshot(
+                alloc,
+                name,
+                &mut outside.source,
+                &mut outside.sink,
+                &mut outside.keeper,
+                &mut outside.clock,
+            );
+            snapshot_ending(&outcome)
+        }
+        Command::PolicyApply => {
+            let outcome = policy_apply(
+                alloc,
+                &mut outside.sink,
+                &mut outside.keeper,
+                &mut outside.disk,
+                &mut outside.clock,
+            );
+            apply_ending(outcome)
+        }
+        Command::Explain { space, text } => {
+            let outcome = explain(
+                alloc,
+                *space,
+                text.as_slice(),
+                &mut outside.sink,
+                &mut outside.keeper,
+            );
+            explain_ending(&outcome)
+        }
+        Command::Annotate { skip, ids, message } => {
+            let outcome = annotate(
+                alloc,
+                ids,
+                *skip,
+                message,
                 &mut outside.sink,
                 &mut outside.keeper,
                 &mut outside.disk,

@@ -5,6 +5,8 @@
 #![tactic(auto)]
 
 #[cfg(test)]
+mod command_rows;
+#[cfg(test)]
 mod epoch_rows;
 #[cfg(test)]
 mod fault_rows;

@@ -1,7 +1,7 @@
 //! Targets of policies in a keeper.
 
-use git_object::{Kind, Mode, Object, ObjectId, Objects};
-use keeper_api::{Change, Keeper, MemKeeper, RefChanges};
+use git_object::{Kind, Mode, Object, ObjectId, Objects, RefName};
+use keeper_api::{Change, Keeper, MemKeeper, RefChange, RefChanges};
 use octets::Octets;
 use policy_reading::check_policy;
 use std::alloc::Global;
@@ -22,8 +22,8 @@ fn append_entry(body: &mut Octets, mode: Mode, name: &[u8], id: &ObjectId) -> Re
     Ok(body.append(id.as_bytes())?)
 }
 
-/// A keeper of these files of a directory `metadata`, in the order of their names, and the commit of it.
-pub fn keeper_of(alloc: Global, files: &[(&[u8], &Octets)]) -> Result<(MemKeeper, ObjectId), Fail> {
+// The objects of these files of a directory `metadata`, in the order of their names, and the commit of it.
+fn objects_of(alloc: Global, files: &[(&[u8], &Octets)]) -> Result<(Objects, ObjectId), Fail> {
     let mut objects = Objects::new(alloc);
     let mut entries = Octets::new(alloc);
     for file in files {
@@ -35,7 +35,28 @@ pub fn keeper_of(alloc: Global, files: &[(&[u8], &Octets)]) -> Result<(MemKeeper
     append_entry(&mut root, Mode::Dir, b"metadata", &metadata)?;
     let tree = put(alloc, &mut objects, Kind::Tree, root)?;
     let target = commit(alloc, &mut objects, &tree)?;
+    Ok((objects, target))
+}
+
+/// A keeper of these files of a directory `metadata`, in the order of their names, and the commit of it.
+pub fn keeper_of(alloc: Global, files: &[(&[u8], &Octets)]) -> Result<(MemKeeper, ObjectId), Fail> {
+    let (objects, target) = objects_of(alloc, files)?;
     Ok((filled(alloc, objects)?, target))
+}
+
+/// Puts the policy's reference on a commit of these files.
+pub fn set_policy(
+    alloc: Global,
+    keeper: &mut MemKeeper,
+    files: &[(&[u8], &Octets)],
+) -> Result<(), Fail> {
+    let (objects, target) = objects_of(alloc, files)?;
+    let mut refs = RefChanges::new(alloc);
+    refs.push(RefChange {
+        name: RefName::read(alloc, b"refs/gittuf/policy")?,
+        to: Some(target),
+    })?;
+    Ok(keeper.commit(alloc, &Change { objects, refs })?)
 }
 
 fn commit(alloc: Global, objects: &mut Objects, tree: &ObjectId) -> Result<ObjectId, Fail> {

@@ -55,14 +55,16 @@ fn keys_text(alloc: Global, key: &Key) -> Result<Octets, Fail> {
     )
 }
 
-/// The payload of a root of this key, which signs the root and the top file.
-pub fn root_text(alloc: Global, key: &Key) -> Result<Octets, Fail> {
+/// The payload of a root of this version and key, which signs the root and the top file.
+pub fn root_text_of(alloc: Global, version: &[u8], key: &Key) -> Result<Octets, Fail> {
     let keys = keys_text(alloc, key)?;
     let id = key.id.to_hex();
     joined(
         alloc,
         &[
-            b"{\"type\":\"root\",\"version\":1,\"keys\":",
+            b"{\"type\":\"root\",\"version\":",
+            version,
+            b",\"keys\":",
             keys.as_slice(),
             b",\"roles\":{\"root\":{\"keyids\":[\"",
             &id,
@@ -73,8 +75,42 @@ pub fn root_text(alloc: Global, key: &Key) -> Result<Octets, Fail> {
     )
 }
 
-/// The payload of a rule file of this name, with one rule of this key.
-pub fn rules_text(alloc: Global, name: &[u8], rule: &[u8], key: &Key) -> Result<Octets, Fail> {
+/// The payload of a first root of this key.
+pub fn root_text(alloc: Global, key: &Key) -> Result<Octets, Fail> {
+    root_text_of(alloc, b"1", key)
+}
+
+/// A rule of this name and key for one pattern.
+pub fn rule_text(
+    alloc: Global,
+    name: &[u8],
+    pattern: &[u8],
+    terminating: bool,
+    key: &Key,
+) -> Result<Octets, Fail> {
+    let ends = if terminating {
+        b"true".as_slice()
+    } else {
+        b"false".as_slice()
+    };
+    joined(
+        alloc,
+        &[
+            b"{\"name\":\"",
+            name,
+            b"\",\"paths\":[\"",
+            pattern,
+            b"\"],\"terminating\":",
+            ends,
+            b",\"keyids\":[\"",
+            &key.id.to_hex(),
+            b"\"],\"threshold\":1}",
+        ],
+    )
+}
+
+/// The payload of a rule file of this name and key, with these rules.
+pub fn file_text(alloc: Global, name: &[u8], rules: &[u8], key: &Key) -> Result<Octets, Fail> {
     let keys = keys_text(alloc, key)?;
     joined(
         alloc,
@@ -83,13 +119,17 @@ pub fn rules_text(alloc: Global, name: &[u8], rule: &[u8], key: &Key) -> Result<
             name,
             b"\",\"keys\":",
             keys.as_slice(),
-            b",\"rules\":[{\"name\":\"",
-            rule,
-            b"\",\"paths\":[\"git:*\"],\"terminating\":false,\"keyids\":[\"",
-            &key.id.to_hex(),
-            b"\"],\"threshold\":1}]}",
+            b",\"rules\":[",
+            rules,
+            b"]}",
         ],
     )
+}
+
+/// The payload of a rule file of this name, with one rule of this key.
+pub fn rules_text(alloc: Global, name: &[u8], rule: &[u8], key: &Key) -> Result<Octets, Fail> {
+    let rule = rule_text(alloc, rule, b"git:*", false, key)?;
+    file_text(alloc, name, rule.as_slice(), key)
 }
 
 // The envelope of a payload with this signature.

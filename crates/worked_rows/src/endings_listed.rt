@@ -10,7 +10,6 @@ fn rows() -> [(Refusal, u8, &'static [u8]); 14] {
         (Refusal::Stream { number: 1 }, 3, b"stream 1\n"),
         (Refusal::Stream { number: 8 }, 3, b"stream 8\n"),
         (Refusal::Stream { number: 255 }, 3, b"stream 255\n"),
-        (Refusal::NotBuiltLog, 3, b"not built log\n"),
         (
             Refusal::Object {
                 id: ObjectId::zeros(),
@@ -21,6 +20,7 @@ fn rows() -> [(Refusal, u8, &'static [u8]); 14] {
         (Refusal::TooLarge, 3, b"too large\n"),
         (Refusal::NotEmpty, 3, b"not empty\n"),
         (Refusal::KeyFile, 3, b"key file\n"),
+        (Refusal::Input, 3, b"input\n"),
         (Refusal::Fault { part: Part::Source }, 4, b"fault\n"),
         (Refusal::Fault { part: Part::Sink }, 4, b"fault\n"),
         (Refusal::Fault { part: Part::Keeper }, 4, b"fault\n"),

@@ -1,5 +1,5 @@
 use Rattle.std.proofs.lemmas.Result.{IfOk-weaker}
-use Rattle.command_words.proofs.OneCommand.{found, none_after, none_named, not_log_after}
+use Rattle.command_words.proofs.OneCommand.{found, none_after, none_named, within_after}
 use Rattle.command_words.proofs.reading.read_command.Goals as goal
 
 pub returns-in_default-named-clause-outside : goal.returns-in_default-named-clause-outside
@@ -14,6 +14,6 @@ pub returns-clause-outside : goal.returns-clause-outside
 returns-clause-outside c =
     λ is_outside. none_after _ _ _ _ c.in-Some.ensures.found c.in-Some-named.ensures.found (c.read_rest.ensures.outside is_outside)
 
-pub returns-clause-not_log : goal.returns-clause-not_log
-returns-clause-not_log c =
-    IfOk-weaker c.read_rest.result _ _ (not_log_after _ _) c.read_rest.ensures.found
+pub returns-clause-within : goal.returns-clause-within
+returns-clause-within c =
+    IfOk-weaker c.read_rest.result _ _ (within_after _ _) c.read_rest.ensures.found

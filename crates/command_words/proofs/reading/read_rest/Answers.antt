@@ -1,13 +1,16 @@
-use Rattle.std.proofs.Common.{◌≡◌, ap}
-use Rattle.std.specs.Prelude.{Err}
-use Rattle.std.proofs.lemmas.Result.{err_from_is_err_and}
-use Rattle.command_words.specs.declared.words_fault.WordsFault.TheVariants.{Outside}
 use Rattle.command_words.proofs.reading.read_rest.Goals as goal
 
-pub returns-in_err-name-in-VerifyRef-clause-outside :
-    goal.returns-in_err-name-in-VerifyRef-clause-outside
-returns-in_err-name-in-VerifyRef-clause-outside c =
-    let exit = err_from_is_err_and c.from_residual.result c.from_residual.ensures.1 in
-    rw (exit.1, exit.2, c.in-VerifyRef.is) (λ is_outside command asks.
-    let same : c.in_err-name-in-VerifyRef.field-0.0 ≡ Outside = cc in
-    c.in_err-name-in-VerifyRef.ensures.outside (ap Err same) asks.0 asks.1 asks.3)
+pub returns-in-VerifyRef-clause-outside : goal.returns-in-VerifyRef-clause-outside
+returns-in-VerifyRef-clause-outside c = rw c.in-VerifyRef.is c.read_verify_ref.ensures.outside
+
+pub returns-in-KeyGen-clause-outside : goal.returns-in-KeyGen-clause-outside
+returns-in-KeyGen-clause-outside c = rw c.in-KeyGen.is c.read_key_gen.ensures.outside
+
+pub returns-in-Seal-clause-outside : goal.returns-in-Seal-clause-outside
+returns-in-Seal-clause-outside c = rw c.in-Seal.is c.read_seal.ensures.outside
+
+pub returns-in-Explain-clause-outside : goal.returns-in-Explain-clause-outside
+returns-in-Explain-clause-outside c = rw c.in-Explain.is c.read_explain.ensures.outside
+
+pub returns-in-Annotate-clause-outside : goal.returns-in-Annotate-clause-outside
+returns-in-Annotate-clause-outside c = rw c.in-Annotate.is c.read_annotate.ensures.outside

@@ -13,13 +13,13 @@ returns-in-Err-clause-why g c =
 
 pub returns-in-Err-load-clause-why : goal.returns-in-Err-load-clause-why
 returns-in-Err-load-clause-why g c =
-    subst (λ (f : ReadingFault). WhyUnread g.R.Keeper g.D.Disk c.load.new.keeper c.open_key.new.disk f) (sym c.of_log.ensures)
+    subst (λ (f : ReadingFault). WhyUnread g.R.Keeper g.D.Disk c.load.new.keeper c.open_key.new.disk f) (sym c.unread_log.ensures)
     (not_loaded g.R.Keeper g.D.Disk c.load.new.keeper c.open_key.new.disk c.in-Err-load.fault
     (holds_key g.R.Keeper g.D.Disk c.load.new.keeper c.open_key.new.disk c.in-Ok.key.signer c.in-Ok.ensures.loaded) c.in-Err-load.ensures.broken)
 
 pub returns-in-Err-load-clause-disk : goal.returns-in-Err-load-clause-disk
 returns-in-Err-load-clause-disk g c =
-    no_cause unread_disk c.of_log.result _ _ (subst (λ (f : ReadingFault). unread_disk f ≡ false) (sym c.of_log.ensures) (log_disk c.in-Err-load.fault))
+    no_cause unread_disk c.unread_log.result _ _ (subst (λ (f : ReadingFault). unread_disk f ≡ false) (sym c.unread_log.ensures) (log_disk c.in-Err-load.fault))
     c.in-Ok.ensures.cause.later c.in-Ok.ensures.cause.is
 
 pub returns-then-len-ge1000000-clause-why : goal.returns-then-len-ge1000000-clause-why

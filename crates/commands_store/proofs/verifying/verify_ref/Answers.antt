@@ -1,12 +1,15 @@
-use Rattle.std.proofs.Common.{◌≡◌, refl, rules}
-use Rattle.std.specs.Prelude.{Ok, Err}
+use Rattle.std.proofs.Common.{ap, ◌∙◌, ◌≡◌, refl, rules}
+use Rattle.std.specs.Prelude.{None, Ok, Err, Result}
 use Rattle.endings.proofs.Counting.{after, quiet, sink_failed, sink_quiet}
 use Rattle.endings.specs.Counts.{Faults}
 use Rattle.endings.specs.declared.ending.Ending.TheVariants.{Broken, Refused}
 use Rattle.endings.specs.declared.ending.Part.TheVariants as part
 use Rattle.endings.specs.declared.ending.Refusal.TheVariants as refusal
+use Rattle.commands_store.specs.Verdicts.{RefVerdict}
 use Rattle.commands_store.specs.Verifying.{verify_ending}
-use Rattle.commands_store.specs.declared.verifying.VerifyFault.TheVariants.{Unopened, Logged, LogBroken, KeeperFailed, Memory}
+use Rattle.commands_store.specs.declared.verifying.VerifyFault.{VerifyFault}
+use Rattle.endings.specs.Endings.{part_of}
+use Rattle.commands_store.specs.declared.verifying.VerifyFault.TheVariants.{Unopened, LogBroken, KeeperFailed, Memory}
 use Rattle.commands_store.proofs.StaysOpen.{counted_by, verdict_quiet}
 use Rattle.commands_store.proofs.verifying.verify_ref.Goals as goal
 
@@ -16,14 +19,6 @@ returns-in-Err-Unopened-clause-counted g c = λ rest.
     let mid : Faults = record rest { source = g.S.Source.faults c.look-looked.new.source; sink = g.K.Sink.faults c.args.sink.now; keeper = g.R.Keeper.faults c.look-looked.new.keeper } in
     let is : c.look-looked.result ≡ Err (Unopened c.in-Err-Unopened.fault) = search rules in
     let looked = counted_by c.look-looked.result (Err (Unopened c.in-Err-Unopened.fault)) was mid is (c.look-looked.ensures.counted (record rest { sink = g.K.Sink.faults c.args.sink.now })) in
-    looked
-
-pub returns-in-Err-Logged-clause-counted : goal.returns-in-Err-Logged-clause-counted
-returns-in-Err-Logged-clause-counted g c = λ rest.
-    let was : Faults = record rest { source = g.S.Source.faults c.args.source.now; sink = g.K.Sink.faults c.args.sink.now; keeper = g.R.Keeper.faults c.args.keeper.now } in
-    let mid : Faults = record rest { source = g.S.Source.faults c.look-looked.new.source; sink = g.K.Sink.faults c.args.sink.now; keeper = g.R.Keeper.faults c.look-looked.new.keeper } in
-    let is : c.look-looked.result ≡ Err Logged = search rules in
-    let looked = counted_by c.look-looked.result (Err Logged) was mid is (c.look-looked.ensures.counted (record rest { sink = g.K.Sink.faults c.args.sink.now })) in
     looked
 
 pub returns-in-Err-KeeperFailed-clause-counted : goal.returns-in-Err-KeeperFailed-clause-counted
@@ -71,13 +66,13 @@ returns-in-Ok-write_all-clause-counted g c = λ rest.
     let was : Faults = record rest { source = g.S.Source.faults c.args.source.now; sink = g.K.Sink.faults c.args.sink.now; keeper = g.R.Keeper.faults c.args.keeper.now } in
     let mid : Faults = record rest { source = g.S.Source.faults c.look-looked.new.source; sink = g.K.Sink.faults c.args.sink.now; keeper = g.R.Keeper.faults c.look-looked.new.keeper } in
     let is : c.look-looked.result ≡ Ok c.in-Ok.verdict = search rules in
-    let looked = counted_by c.look-looked.result (Ok c.in-Ok.verdict) was mid is (c.look-looked.ensures.counted (record rest { sink = g.K.Sink.faults c.args.sink.now })) in
-    let told = verify_ending (Ok c.in-Ok.verdict) in
-    after {m = mid} told told (verdict_quiet c.in-Ok.verdict) looked
-    (sink_quiet told mid (g.K.Sink.faults c.write_all.new.sink) (verdict_quiet c.in-Ok.verdict) c.in-Ok-write_all.ensures.cause.later c.in-Ok-write_all.ensures.cause.is)
+    let told = verify_ending c.look-looked.result in
+    let silent : part_of told ≡ None = ap (λ (o : Result RefVerdict VerifyFault). part_of (verify_ending o)) is ∙ verdict_quiet c.in-Ok.verdict in
+    after {m = mid} told told silent (c.look-looked.ensures.counted (record rest { sink = g.K.Sink.faults c.args.sink.now }))
+    (sink_quiet told mid (g.K.Sink.faults c.write_all.new.sink) silent c.in-Ok-write_all.ensures.cause.later c.in-Ok-write_all.ensures.cause.is)
 
-pub returns-clause-counted : goal.returns-clause-counted
-returns-clause-counted g c = λ rest.
+pub returns-in-Err-write_all-clause-counted : goal.returns-in-Err-write_all-clause-counted
+returns-in-Err-write_all-clause-counted g c = λ rest.
     let was : Faults = record rest { source = g.S.Source.faults c.args.source.now; sink = g.K.Sink.faults c.args.sink.now; keeper = g.R.Keeper.faults c.args.keeper.now } in
     let mid : Faults = record rest { source = g.S.Source.faults c.look-looked.new.source; sink = g.K.Sink.faults c.args.sink.now; keeper = g.R.Keeper.faults c.look-looked.new.keeper } in
     let is : c.look-looked.result ≡ Ok c.in-Ok.verdict = search rules in

@@ -1,11 +1,16 @@
 use Rattle.endings.proofs.Counting.{as_ended}
 use Rattle.commands_history.specs.Logging.{log_ending}
 use Rattle.commands_keys.specs.MakingKeys.{key_gen_ending}
+use Rattle.commands_keys.specs.Sealing.{seal_ending}
 use Rattle.commands_log.proofs.Counted.{counted}
 use Rattle.commands_log.specs.Outcomes.{record_ending}
+use Rattle.commands_policy.proofs.Counted as policy
+use Rattle.commands_policy.specs.Explaining.{explain_ending}
+use Rattle.commands_policy.specs.Outcomes.{apply_ending}
 use Rattle.commands_store.specs.Exporting.{export_ending}
 use Rattle.commands_store.specs.Importing.{import_ending}
 use Rattle.commands_store.specs.Verifying.{verify_ending}
+use Rattle.commands_trees.specs.Snapshots.{snapshot_ending}
 use Rattle.gittuf_cli.specs.Worlds.{faults_of, world_of}
 use Rattle.gittuf_cli.proofs.running.carry_out.Goals as goal
 
@@ -39,3 +44,30 @@ returns-in-Record-clause-counted g c =
     as_ended _ _ c.record_ending.result (record_ending c.record-outcome.result) c.record_ending.ensures
     (counted (faults_of g.S.Source g.K.Sink g.R.Keeper g.D.Disk g.E.Entropy g.C.Clock (world_of c.args.outside.now)) _ _ _ _ c.record-outcome.result
     c.record-outcome.ensures.sink c.record-outcome.ensures.keeper c.record-outcome.ensures.disk c.record-outcome.ensures.clock)
+
+pub returns-in-Seal-clause-counted : goal.returns-in-Seal-clause-counted
+returns-in-Seal-clause-counted g c =
+    as_ended _ _ c.seal_ending.result (seal_ending c.seal-outcome.result) c.seal_ending.ensures
+    (c.seal-outcome.ensures.counted (faults_of g.S.Source g.K.Sink g.R.Keeper g.D.Disk g.E.Entropy g.C.Clock (world_of c.args.outside.now)))
+
+pub returns-in-Snapshot-clause-counted : goal.returns-in-Snapshot-clause-counted
+returns-in-Snapshot-clause-counted g c =
+    as_ended _ _ c.snapshot_ending.result (snapshot_ending c.snapshot-outcome.result) c.snapshot_ending.ensures
+    (c.snapshot-outcome.ensures.counted (faults_of g.S.Source g.K.Sink g.R.Keeper g.D.Disk g.E.Entropy g.C.Clock (world_of c.args.outside.now)))
+
+pub returns-in-Annotate-clause-counted : goal.returns-in-Annotate-clause-counted
+returns-in-Annotate-clause-counted g c =
+    as_ended _ _ c.record_ending-in-Annotate.result (record_ending c.annotate-outcome.result) c.record_ending-in-Annotate.ensures
+    (counted (faults_of g.S.Source g.K.Sink g.R.Keeper g.D.Disk g.E.Entropy g.C.Clock (world_of c.args.outside.now)) _ _ _ _ c.annotate-outcome.result
+    c.annotate-outcome.ensures.sink c.annotate-outcome.ensures.keeper c.annotate-outcome.ensures.disk c.annotate-outcome.ensures.clock)
+
+pub returns-in-PolicyApply-clause-counted : goal.returns-in-PolicyApply-clause-counted
+returns-in-PolicyApply-clause-counted g c =
+    as_ended _ _ c.apply_ending.result (apply_ending c.policy_apply-outcome.result) c.apply_ending.ensures
+    (policy.counted (faults_of g.S.Source g.K.Sink g.R.Keeper g.D.Disk g.E.Entropy g.C.Clock (world_of c.args.outside.now)) _ _ _ _ c.policy_apply-outcome.result
+    c.policy_apply-outcome.ensures.sink c.policy_apply-outcome.ensures.keeper c.policy_apply-outcome.ensures.disk c.policy_apply-outcome.ensures.clock)
+
+pub returns-in-Explain-clause-counted : goal.returns-in-Explain-clause-counted
+returns-in-Explain-clause-counted g c =
+    as_ended _ _ c.explain_ending.result (explain_ending c.explain-outcome.result) c.explain_ending.ensures
+    (c.explain-outcome.ensures.counted (faults_of g.S.Source g.K.Sink g.R.Keeper g.D.Disk g.E.Entropy g.C.Clock (world_of c.args.outside.now)))

@@ -1,0 +1,82 @@
+-- Values that begin with no dash are taken as values.
+use Rattle.std.proofs.Common.{◌≡◌, ◌≢◌, ◌≤◌, ◌<◌, ◌^◌, ◌==◌, ℕ, Bool, true, false, List, [], ◌∷◌, ◌++◌, get_or, length, slice_index, refl, sym, ap, subst, ◌∙◌, arith}
+use Rattle.std.specs.Prelude.{Option, Some, None, codes, decimal, map}
+use Rattle.std.specs.List.{join_with_byte}
+use Rattle.std.specs.Option.{IsSomeAnd}
+use Rattle.std.proofs.lemmas.Bool.{true≢false, ne_eqb}
+use Rattle.std.proofs.lemmas.Fmt.{first_decimal}
+use Rattle.std.proofs.lemmas.List.Elements.{All-head}
+use Rattle.clap.specs.Faults.{defaults_fault, flags_fault, walk_fault}
+use Rattle.clap.specs.Walk.{walked}
+use Rattle.hex.specs.Hex.{encode_lower}
+use Rattle.text_reader.specs.Hexadecimal.{IsLowerHexadecimal, is_lower_digit}
+use Rattle.git_object.specs.Ids.{IsId}
+use Rattle.git_object.specs.Names.{IsRefName, log_name}
+use Rattle.git_object.proofs.IdLemmas.{id_is_lower}
+use Rattle.word_values.specs.Ids.{AreIds}
+use Rattle.word_values.specs.Numbers.{IsCount}
+use Rattle.command_words.specs.Commands.{AsksNote, IsAsked, IsMessage, annotate_app, kind_text}
+use Rattle.command_words.specs.Grammars.{Takes, is_given, value_of}
+use Rattle.command_words.proofs.LetterFirst.{letter_first}
+
+-- a text begins with a byte that is no dash
+pub record Begins (text : List ℕ) : Type 0 where
+  pub first : ℕ
+  pub rest : List ℕ
+  pub is : text ≡ first ∷ rest
+  pub no_dash : (first == 45) ≡ false
+
+of_digits : (text : List ℕ) → IsLowerHexadecimal 32 text → Begins text
+of_digits [] is = absurd (omega (arith, is.0))
+of_digits (d ∷ rest) is =
+    let digit : is_lower_digit d ≡ true = All-head (λ (b : ℕ). is_lower_digit b ≡ true) d rest is.1 in
+    record { first = d; rest = rest; is = refl; no_dash = ne_eqb d 45 (λ same. true≢false (sym digit ∙ ap is_lower_digit same)) }
+
+of_more : (text more : List ℕ) → Begins text → Begins (text ++ more)
+of_more text more begins = record { first = begins.first; rest = begins.rest ++ more; is = ap (λ (t : List ℕ). t ++ more) begins.is; no_dash = begins.no_dash }
+
+of_id : (id : List ℕ) → IsId id → Begins (encode_lower id)
+of_id id is = of_digits (encode_lower id) (id_is_lower id is)
+
+of_list : (ids : List (List ℕ)) → 1 ≤ length ids → ((k : ℕ) (d : List ℕ) → k < length ids → IsId (get_or ids k d)) → Begins (join_with_byte 44 (map encode_lower ids))
+of_list [] some are = absurd (omega arith)
+of_list (id ∷ []) some are = of_id id (All-head IsId id [] are)
+of_list (id ∷ next ∷ ids) some are = of_more (encode_lower id) (44 ∷ join_with_byte 44 (map encode_lower (next ∷ ids))) (of_id id (All-head IsId id (next ∷ ids) are))
+
+of_ids : (most : ℕ) (text : List ℕ) (ids : List (List ℕ)) → AreIds most text ids → Begins text
+of_ids most text ids is = subst Begins (sym is.written) (of_list ids is.some is.are)
+
+-- ---- annotate <kind> <ids>
+annotate_taken : (skip : Bool) (d : ℕ) (rest : List ℕ) → (d == 45) ≡ false → Takes annotate_app (kind_text skip ∷ (d ∷ rest) ∷ [])
+unfolding walk_fault walked flags_fault defaults_fault
+annotate_taken true d rest other = simp other
+annotate_taken false d rest other = simp other
+
+annotate_kind : (skip : Bool) (d : ℕ) (rest : List ℕ) → (d == 45) ≡ false → value_of annotate_app (codes "kind") (kind_text skip ∷ (d ∷ rest) ∷ []) ≡ Some (kind_text skip)
+unfolding walked
+annotate_kind true d rest other = simp other
+annotate_kind false d rest other = simp other
+
+annotate_given : (skip : Bool) (d : ℕ) (rest : List ℕ) → (d == 45) ≡ false → value_of annotate_app (codes "ids") (kind_text skip ∷ (d ∷ rest) ∷ []) ≡ Some (d ∷ rest)
+unfolding walked
+annotate_given true d rest other = simp other
+annotate_given false d rest other = simp other
+
+annotate_silent : (skip : Bool) (d : ℕ) (rest : List ℕ) → (d == 45) ≡ false → value_of annotate_app (codes "message") (kind_text skip ∷ (d ∷ rest) ∷ []) ≡ None
+unfolding walked
+annotate_silent true d rest other = simp other
+annotate_silent false d rest other = simp other
+
+annotate_begun : (skip : Bool) (d : ℕ) (rest : List ℕ) (ids : List (List ℕ)) → (d == 45) ≡ false → AreIds 256 (d ∷ rest) ids → AsksNote skip ids [] (kind_text skip ∷ (d ∷ rest) ∷ [])
+annotate_begun skip d rest ids other are = record {
+  takes = annotate_taken skip d rest other;
+  is_kind = annotate_kind skip d rest other;
+  lists = subst (λ (given : Option (List ℕ)). IsSomeAnd given (λ text. AreIds 256 text ids)) (sym (annotate_given skip d rest other)) are;
+  says = subst (λ (given : Option (List ℕ)). IsMessage given []) (sym (annotate_silent skip d rest other)) refl;
+}
+
+pub annotate_asks : (skip : Bool) (text : List ℕ) (ids : List (List ℕ)) → AreIds 256 text ids → AsksNote skip ids [] (kind_text skip ∷ text ∷ [])
+annotate_asks skip text ids are =
+    let begins = of_ids 256 text ids are in
+    subst (λ (t : List ℕ). AreIds 256 t ids → AsksNote skip ids [] (kind_text skip ∷ t ∷ [])) (sym begins.is)
+    (annotate_begun skip begins.first begins.rest ids begins.no_dash) are

@@ -1,0 +1,7 @@
+pub mod Listed
+pub mod PolicyName
+pub mod Judging
+pub mod Explained
+pub mod Counted
+mod OneOutcome
+mod ToldOutcome

@@ -1,0 +1,138 @@
+//! Reading the policy that is to be recorded, and adding its entry, before anything is printed.
+
+ghost use Rattle.std.specs.Prelude.{◌≡◌, IfErr, IfOk, Some};
+ghost use Rattle.octets.specs.Causes.{HasCause};
+ghost use Rattle.edge_disk.specs.Moments.{LeavesOnly};
+ghost use Rattle.git_object.specs.Repository.{Repository};
+ghost use Rattle.keeper_api.specs.Undisturbed.{Undisturbed};
+ghost use Rattle.leaf_journal.specs.KeyFile.{KeepsUsed};
+ghost use Rattle.log_entries.specs.Entries.{policy_name};
+ghost use Rattle.rsl_chain.specs.Logs.{IsBrokenAs, IsLogOf, log_failed};
+ghost use Rattle.commands_policy.specs.Applying.{IsRefusal, Judges, PolicyEnds, no_clock, no_disk, no_keeper, policy_line};
+
+use commands_log::{AppendFault, Appended, ReadingFault, append_entry, open_log, unread_log};
+use edge_clock::Clock;
+use edge_disk::Disk;
+use git_object::{Ids, ObjectId, RefFault, RefName};
+use keeper_api::{Keeper, KeeperFault};
+use log_entries::EntryBody;
+use log_epochs::epoch_fault;
+use octets::{Memory, Octets};
+use policy_epochs::PolicyFault;
+use rsl_chain::LogFault;
+use std::alloc::Global;
+
+/// Why no entry was added.
+#[derive(Drop)]
+pub enum NotApplied {
+    /// What is wanted was not read.
+    Unread { fault: ReadingFault },
+    /// The entry would be no epoch; and the line that tells why.
+    Refused { why: PolicyFault, line: Octets },
+    /// It would be one.
+    Unappended { fault: AppendFault },
+}
+
+fn policy_ref(alloc: Global) -> Result<RefName, Memory>
+    ensures { IfOk result (λ name. name ≡ policy_name) }
+{
+    match RefName::read(alloc, b"refs/gittuf/policy") {
+        Ok(name) => Ok(name),
+        Err(RefFault::Memory) => Err(Memory),
+        Err(RefFault::BadRef) => unreachable!(),
+    }
+}
+
+fn policy_line(alloc: Global, why: &PolicyFault) -> Result<Octets, Memory>
+    ensures { IfOk result (λ line. line ≡ policy_line why.now) }
+{
+    let mut line = Octets::from_slice(alloc, b"policy ")?;
+    line.append(why.text(alloc)?.as_slice())?;
+    line.append(b"\n")?;
+    Ok(line)
+}
+
+// The refusal of a policy.
+fn refused(alloc: Global, why: PolicyFault) -> NotApplied
+    ensures { IsRefusal why result }
+{
+    match policy_line(alloc, &why) {
+        Ok(line) => NotApplied::Refused { why, line },
+        Err(Memory) => NotApplied::Unread {
+            fault: ReadingFault::Memory,
+        },
+    }
+}
+
+// The value of the policy's reference, where it is an epoch behind the entries at the ids of a log, or what keeps it from
+// being one.
+fn judge_value<R: Keeper>(
+    alloc: Global,
+    name: &RefName,
+    ids: &Ids,
+    keeper: &mut R,
+) -> Result<Result<ObjectId, PolicyFault>, LogFault>
+    ensures judges { IfOk result (λ judged. (r : Repository) → R.content keeper.new ≡ Some r → IsLogOf r ids.now → Judges r name.now judged) }
+    ensures broken { IfErr result (λ fault. (r : Repository) → R.content keeper.new ≡ Some r → IsLogOf r ids.now → IsBrokenAs r fault) }
+    ensures same { Undisturbed R.Keeper keeper.old keeper.new }
+    ensures cause { HasCause log_failed (R.faults keeper.old) (R.faults keeper.new) result }
+{
+    let found = match keeper.read_ref(alloc, name) {
+        Ok(found) => found,
+        Err(KeeperFault::Failed) => return Err(LogFault::Failed),
+        Err(KeeperFault::Memory) => return Err(LogFault::Memory),
+    };
+    let target = found.unwrap_or(ObjectId::zeros());
+    match epoch_fault(alloc, keeper, None, ids.as_slice(), &target) {
+        Ok(None) => Ok(Ok(target)),
+        Ok(Some(why)) => Ok(Err(why)),
+        Err(fault) => Err(fault),
+    }
+}
+
+/// Adds an entry that records the value of the policy's reference to the log, where it is an epoch.
+pub fn append_policy<R: Keeper, D: Disk, C: Clock>(
+    alloc: Global,
+    keeper: &mut R,
+    disk: &mut D,
+    clock: &mut C,
+) -> Result<Appended, NotApplied>
+    ensures ends { PolicyEnds R.Keeper D.Disk (C.left clock.old) (C.left clock.new) keeper.old keeper.new disk.old disk.new result }
+    ensures any_moment { LeavesOnly D.moment D.left_since disk.old disk.new (KeepsUsed (D.may_leave disk.old)) }
+    ensures keeper { HasCause no_keeper (R.faults keeper.old) (R.faults keeper.new) result }
+    ensures disk { HasCause no_disk (D.faults disk.old) (D.faults disk.new) result }
+    ensures clock { HasCause no_clock (C.faults clock.old) (C.faults clock.new) result }
+{
+    let Ok(name) = policy_ref(alloc) else {
+        return Err(NotApplied::Unread {
+            fault: ReadingFault::Memory,
+        });
+    };
+    let opened = match open_log(alloc, keeper, disk) {
+        Ok(opened) => opened,
+        Err(fault) => {
+            drop(name);
+            return Err(NotApplied::Unread { fault });
+        }
+    };
+    let target = match judge_value(alloc, &name, &opened.log.ids, keeper) {
+        Ok(Ok(target)) => target,
+        Ok(Err(why)) => {
+            drop(opened);
+            drop(name);
+            return Err(refused(alloc, why));
+        }
+        Err(fault) => {
+            drop(opened);
+            drop(name);
+            return Err(NotApplied::Unread {
+                fault: unread_log(fault),
+            });
+        }
+    };
+    let body = EntryBody::Reference { name, target };
+    match append_entry(alloc, opened, body, keeper, disk, clock) {
+        Ok(appended) => Ok(appended),
+        Err(fault) => Err(NotApplied::Unappended { fault }),
+    }
+}

@@ -1,0 +1,6 @@
+mod CommitAt
+mod Committed
+mod ListingMade
+mod Stored
+mod OneSnapshot
+mod ToldSnapshot
