@@ -4,7 +4,7 @@ ghost use Rattle.std.specs.Prelude.{◌≡◌, false};
 ghost use Rattle.endings.specs.Counts.{Faults, IsCounted};
 ghost use Rattle.commands_store.specs.Verifying.{LookEnds, VerifyEnds, verify_ending};
 
-use crate::judging::judge;
+use crate::held_verdict::judge;
 use crate::opening::open;
 use crate::taking::{TakeFault, take_refusal};
 use commands_history::print_break;
