@@ -21,4 +21,4 @@ mod scenes;
 #[cfg(test)]
 mod streams;
 #[cfg(test)]
-mod verify_ref;
+mod verdicts;
