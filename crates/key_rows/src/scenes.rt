@@ -1,0 +1,40 @@
+//! A key file, and signing with it.
+
+use edge_disk::MemDisk;
+use key_file::sign_message;
+use lms_keys::verify;
+use octets::Octets;
+use std::alloc::Global;
+use std::test::Fail;
+
+pub(crate) const I: [u8; 16] = *b"fedcba9876543210";
+
+pub(crate) const SEED: [u8; 32] = *b"a seed of thirty-two bytes here.";
+
+pub(crate) const MESSAGE: &[u8; 9] = b"a message";
+
+/// The new key file of these, of 5 levels and width 1.
+pub(crate) const FILE: &[u8; 96] =
+    b"LMSKEY01\0\0\0\x05\0\0\0\x01fedcba9876543210a seed of thirty-two bytes here.\
+\0\0\0\0\0\0\0\0\0\0\0\0\0\0\0\0\0\0\0\0\0\0\0\0\0\0\0\0\0\0\0\0";
+
+/// A disk with the first bytes of the key file, in which a byte is another.
+pub(crate) fn disk_of(alloc: Global, len: usize, at: usize, byte: u8) -> Result<MemDisk, Fail> {
+    let mut file = Vec::from_slice(alloc, FILE.as_slice())?;
+    file.truncate(len);
+    if let Some(place) = file.as_mut_slice().get_mut(at) {
+        *place = byte;
+    }
+    Ok(MemDisk::new(Octets::from_vec(file), 96, 64)?)
+}
+
+/// The leaf that signs next, if one does: the number in front of its signature, which has to be good.
+pub(crate) fn next_leaf(alloc: Global, disk: &mut MemDisk) -> Result<Option<u8>, Fail> {
+    let Ok(signed) = sign_message(alloc, disk, MESSAGE) else {
+        return Ok(None);
+    };
+    if !verify(&signed.public, MESSAGE, signed.signature.as_slice()) {
+        return Err("a good signature".into());
+    }
+    Ok(signed.signature.as_slice().get(3).copied())
+}
