@@ -1,0 +1,126 @@
+//! Runs commands over repositories in memory, row by row, and prints a line for each run.
+//!
+//! Standard input is the rows that `tools/make-rows` writes: bytes that nothing of this workspace made, and the words
+//! of the commands to run over them. `stdout` beside it has the lines that must come, which were typed by hand from
+//! what the formats say. A line is the row's name, the status, and what the command printed and what it said of a
+//! refusal.
+#![tactic(auto)]
+
+mod lines;
+mod records;
+mod runs;
+mod scenes;
+
+use crate::lines::line_of;
+use crate::records::{Piece, Record, first_record};
+use crate::runs::Seen;
+use crate::scenes::Scene;
+use edge_io::{Failed, ReadFault, Sink, StdSink, StdSource, read_all, write_all};
+use octets::Memory;
+use std::alloc::{AllocFailed, Global};
+use std::io;
+
+// So many bytes of rows are read at most.
+const MOST: usize = 16_777_216;
+
+// Why the rows were not run to their end.
+#[derive(Clone, Copy, Drop)]
+enum Stop {
+    Input,
+    Output,
+    Memory,
+}
+
+impl From<Memory> for Stop {
+    fn from(_error: Memory) -> Stop {
+        Stop::Memory
+    }
+}
+
+impl<T: Drop> From<AllocFailed<T>> for Stop {
+    fn from(_error: AllocFailed<T>) -> Stop {
+        Stop::Memory
+    }
+}
+
+impl From<Failed> for Stop {
+    fn from(_error: Failed) -> Stop {
+        Stop::Output
+    }
+}
+
+impl From<ReadFault> for Stop {
+    fn from(fault: ReadFault) -> Stop {
+        match fault {
+            ReadFault::Memory => Stop::Memory,
+            _ => Stop::Input,
+        }
+    }
+}
+
+// Prints a line for each of what was seen.
+fn tell<K: Sink>(alloc: Global, name: &[u8], seen: &[Seen], out: &mut K) -> Result<(), Stop> {
+    for one in seen {
+        let line = line_of(alloc, name, one)?;
+        write_all(out, line.as_slice())?;
+    }
+    Ok(())
+}
+
+// The bytes that are kept under a name.
+fn kept<'a>(pieces: &[Piece<'a>], name: &[u8]) -> Option<&'a [u8]> {
+    for piece in pieces {
+        if piece.name == name {
+            return Some(piece.bytes);
+        }
+    }
+    None
+}
+
+// Runs all rows, one record after the other.
+fn play<K: Sink>(alloc: Global, rows: &[u8], out: &mut K) -> Result<(), Stop> {
+    let mut scene = Scene::new(alloc, b"")?;
+    let mut pieces = Vec::new(alloc);
+    let mut rest = rows;
+    for _ in 0..u64::MAX {
+        if rest.is_empty() {
+            break;
+        }
+        let Some((record, after)) = first_record(rest) else {
+            return Err(Stop::Input);
+        };
+        rest = after;
+        match record {
+            Record::Row { name } => scene = Scene::new(alloc, name)?,
+            Record::Bytes { bytes } => scene.add_bytes(bytes)?,
+            Record::Keep { piece } => pieces.push(piece)?,
+            Record::Take { name } => match kept(pieces.as_slice(), name) {
+                Some(bytes) => scene.add_bytes(bytes)?,
+                None => return Err(Stop::Input),
+            },
+            Record::Key { key } => scene.set_key(alloc, key)?,
+            Record::Run { way, words } => {
+                let (seen, later) = scene.run(alloc, way, words)?;
+                scene = later;
+                tell(alloc, scene.name(), seen.as_slice(), out)?;
+            }
+        }
+    }
+    Ok(())
+}
+
+fn read_and_play(rt: &HostRuntime) -> Result<(), Stop> {
+    let mut source = StdSource::new(rt.stdin());
+    let rows = read_all(rt.alloc(), &mut source, MOST)?;
+    let mut out = StdSink::new(rt.stdout());
+    play(rt.alloc(), rows.as_slice(), &mut out)
+}
+
+fn main(rt: HostRuntime) -> io::Result<()> {
+    match read_and_play(&rt) {
+        Ok(()) => Ok(()),
+        Err(Stop::Input) => println!(rt; "these are no rows"),
+        Err(Stop::Output) => println!(rt; "a line could not be printed"),
+        Err(Stop::Memory) => println!(rt; "out of memory"),
+    }
+}

@@ -1,0 +1,89 @@
+"""Keys and signatures of LMS with LM-OTS over SHA-256 (RFC 8554), of height 5 and width 8.
+
+Secrets come from one seed as in the standard's appendix A, and so does the randomizer of each leaf, under the chain
+number 0xfffd. Nothing here may guard anything: a key's seed is its name.
+"""
+
+import hashlib
+
+HEIGHT, LEAVES, CHAINS, LAST = 5, 32, 34, 255
+LMS_TYPE, OTS_TYPE = (5).to_bytes(4, "big"), (4).to_bytes(4, "big")
+RANDOMIZER, MESSAGE, PUBLIC, LEAF, INNER = 0xFFFD, 0x8181, 0x8080, 0x8282, 0x8383
+
+
+def sha256(*parts):
+    return hashlib.sha256(b"".join(parts)).digest()
+
+
+def short(number):
+    return number.to_bytes(2, "big")
+
+
+def long(number):
+    return number.to_bytes(4, "big")
+
+
+class Key:
+    """A key by name. What it signs is signed by the leaf that is told."""
+
+    kind = "lms"
+
+    def __init__(self, name):
+        self.identifier = sha256(b"identifier of ", name.encode())[:16]
+        self.seed = sha256(b"seed of ", name.encode())
+        self.nodes = {LEAVES + leaf: self.leaf_node(leaf) for leaf in range(LEAVES)}
+        for node in range(LEAVES - 1, 0, -1):
+            children = self.nodes[2 * node], self.nodes[2 * node + 1]
+            self.nodes[node] = sha256(self.identifier, long(node), short(INNER), *children)
+        self.public = LMS_TYPE + OTS_TYPE + self.identifier + self.nodes[1]
+        self.id = sha256(self.public).hex()
+
+    def derived(self, leaf, number):
+        return sha256(self.identifier, long(leaf), short(number), b"\xff", self.seed)
+
+    def walked(self, leaf, chain, steps):
+        """The value of a chain after so many steps from its secret start."""
+        value = self.derived(leaf, chain)
+        front = self.identifier + long(leaf) + short(chain)
+        for step in range(steps):
+            value = hashlib.sha256(front + bytes((step,)) + value).digest()
+        return value
+
+    def leaf_node(self, leaf):
+        ends = [self.walked(leaf, chain, LAST) for chain in range(CHAINS)]
+        public = sha256(self.identifier, long(leaf), short(PUBLIC), *ends)
+        return sha256(self.identifier, long(LEAVES + leaf), short(LEAF), public)
+
+    def sign(self, leaf, message):
+        """The LMS signature of a message by a leaf, 1,292 bytes."""
+        if not 0 <= leaf < LEAVES:
+            raise ValueError("the key has no such leaf")
+        randomizer = self.derived(leaf, RANDOMIZER)
+        digest = sha256(self.identifier, long(leaf), short(MESSAGE), randomizer, message)
+        digits = digest + short(sum(LAST - digit for digit in digest))
+        values = [self.walked(leaf, chain, digit) for chain, digit in enumerate(digits)]
+        node, path = LEAVES + leaf, []
+        while node > 1:
+            path.append(self.nodes[node ^ 1])
+            node //= 2
+        return b"".join((long(leaf), OTS_TYPE, randomizer, *values, LMS_TYPE, *path))
+
+    def file(self, marks):
+        """The key file of this key, with a byte a leaf."""
+        return b"LMSKEY01" + LMS_TYPE + OTS_TYPE + self.identifier + self.seed + marks
+
+
+class TwoLevels:
+    """A key of two levels (HSS): the first leaf of one key signs another key, whose leaves sign messages."""
+
+    kind = "hss"
+
+    def __init__(self, name):
+        self.top, self.bottom = Key(f"{name}, the top"), Key(f"{name}, the bottom")
+        self.public = long(2) + self.top.public
+        self.id = sha256(self.public).hex()
+
+    def sign(self, leaf, message):
+        """The HSS signature of a message by a leaf of the bottom key, 2,644 bytes."""
+        link = self.top.sign(0, self.bottom.public) + self.bottom.public
+        return long(1) + link + self.bottom.sign(leaf, message)
