@@ -1,6 +1,7 @@
 """Histories to be judged: a repository with a log, made entry by entry, and what must come of a run over it."""
 
 import hashlib
+import textwrap
 
 from rows_objects import AUTHOR, EMPTY_TREE, FILE, ZEROS, Repository
 from rows_policies import approval, base64_of, encoded, envelope, root, rule, rule_file
@@ -13,6 +14,7 @@ LOG = "refs/gittuf/reference-state-log"
 OWNER, MAINTAINER, REVIEWER, KEEPER, NEWCOMER = (
     Key(name) for name in ("owner", "maintainer", "reviewer", "keeper", "newcomer")
 )
+MESSAGE_BEGINS, MESSAGE_ENDS, MESSAGE_WIDTH = "-----BEGIN MESSAGE-----", "-----END MESSAGE-----", 64
 # A text of more bytes is printed by its digest.
 LONG = 1000
 # Two trees that differ in one path alone.
@@ -26,20 +28,22 @@ def lines_of(lines):
 class History:
     """A repository with a log. Each key signs with its leaves in order, in each history anew."""
 
-    def __init__(self):
-        self.repository, self.ids, self.used, self.commits = Repository(), [], {}, 0
+    def __init__(self, author=AUTHOR):
+        self.repository, self.ids, self.used, self.commits = Repository(author), [], {}, 0
 
     def sign(self, key, message):
         leaf = self.used.get(key, 0)
         self.used[key] = leaf + 1
         return key.sign(leaf, message)
 
-    def add(self, title, lines, signer):
-        """Adds an entry to the log, signed or not."""
+    def add(self, title, lines, signer, message=None):
+        """Adds an entry to the log, signed or not, with a message or not."""
         number = len(self.ids) + 1
         head = [f"tree {EMPTY_TREE}", *(f"parent {id}" for id in self.ids[-1:])]
-        head += [f"{who} {AUTHOR.decode()}" for who in ("author", "committer")]
+        head += [f"{who} {self.repository.author.decode()}" for who in ("author", "committer")]
         tail = ["", title, "", *lines, f"number: {number}"]
+        if message is not None:
+            tail += [MESSAGE_BEGINS, *textwrap.wrap(base64_of(message), MESSAGE_WIDTH), MESSAGE_ENDS]
         if signer:
             head.append(f"lmssig {signer.id} {base64_of(self.sign(signer, lines_of(head + tail)))}")
         self.ids.append(self.repository.add(b"commit", lines_of(head + tail)))
@@ -50,9 +54,22 @@ class History:
         self.add("RSL Reference Entry", [f"ref: {reference}", f"targetID: {target}"], signer)
         self.repository.set(reference, target)
 
+    def annotate(self, skip, ids, signer, message=None):
+        """Skips the entries of ids, or notes something of them."""
+        lines = [*(f"entryID: {id}" for id in ids), f"skip: {str(skip).lower()}"]
+        self.add("RSL Annotation Entry", lines, signer, message)
+
     def skip(self, number, signer):
         """Skips the entry of a number."""
-        self.add("RSL Annotation Entry", [f"entryID: {self.ids[number - 1]}", "skip: true"], signer)
+        self.annotate(True, [self.ids[number - 1]], signer)
+
+    def snapshot(self, reference, files):
+        """Puts a reference at a commit of files, which are (mode, bytes) by path, after the commit where it stands."""
+        rows = {path: (mode, self.repository.blob(body)) for path, (mode, body) in files.items()}
+        parents = [self.repository.references[reference]] if reference in self.repository.references else []
+        commit = self.repository.commit(self.repository.tree(rows), b"snapshot", parents)
+        self.repository.set(reference, commit)
+        return commit
 
     def commit(self, files):
         """A commit of files by path, which are bytes, or a mode and an id. No two commits are the same."""
@@ -118,15 +135,17 @@ def guarded(top=None, **files):
 
 
 class Run:
-    """A command, how it is run, and the endings that must be seen: a status, what is printed, and what is said. A key
-    file is that of this run and of those after it in the row."""
+    """A command, how it is run, and the endings that must be seen: a status, what is printed, and what is said. What is
+    told of a key file and of standard input is for this run and for those after it in the row; each of them finds the
+    key file as the run before left it."""
 
-    def __init__(self, words, *endings, way="run", key=b""):
-        self.way, self.words, self.endings, self.key = way, words, endings, key
+    def __init__(self, words, *endings, way="run", key=None, source=None):
+        self.way, self.words, self.endings, self.key, self.source = way, words, endings, key, source
 
     def record(self):
-        key = b"key %d\n%s\n" % (len(self.key), self.key) if self.key else b""
-        return key + f"{self.way} {self.words}\n".encode()
+        told = ((b"key", self.key), (b"source", self.source))
+        records = [b"%s %d\n%s\n" % (word, len(body), body) for word, body in told if body is not None]
+        return b"".join(records) + f"{self.way} {self.words}\n".encode()
 
     def lines(self, name):
         return "".join(f"{name} {status} {quoted(printed)} {quoted(said)}\n" for status, printed, said in self.endings)

@@ -7,6 +7,8 @@ FILE, EXECUTABLE, LINK, MODULE, DIRECTORY = b"100644", b"100755", b"120000", b"1
 # Log entries have the empty tree, which is not kept.
 EMPTY_TREE = hashlib.sha256(b"tree 0\0").hexdigest()
 AUTHOR = b"rows <rows@localhost> 0 +0000"
+# The author of what the commands of a row commit, whose clock gives each of them the moment 1.
+PROGRAM = b"gittuf <gittuf@localhost> 1 +0000"
 
 
 def object_id(kind, body):
@@ -24,10 +26,10 @@ def tree_body(entries):
 
 
 class Repository:
-    """Objects by id, and references by name."""
+    """Objects by id, and references by name. All commits have one author."""
 
-    def __init__(self):
-        self.objects, self.references = {}, {}
+    def __init__(self, author=AUTHOR):
+        self.objects, self.references, self.author = {}, {}, author
 
     def add(self, kind, body):
         id = object_id(kind, body)
@@ -51,7 +53,7 @@ class Repository:
 
     def commit(self, tree, message, parents=()):
         lines = [b"tree %s" % tree.encode(), *(b"parent %s" % parent.encode() for parent in parents)]
-        lines += [b"author " + AUTHOR, b"committer " + AUTHOR, b"", message]
+        lines += [b"author " + self.author, b"committer " + self.author, b"", message]
         return self.add(b"commit", b"".join(line + b"\n" for line in lines))
 
     def set(self, name, id):

@@ -93,6 +93,7 @@ fn play<K: Sink>(alloc: Global, rows: &[u8], out: &mut K) -> Result<(), Stop> {
         match record {
             Record::Row { name } => scene = Scene::new(alloc, name)?,
             Record::Bytes { bytes } => scene.add_bytes(bytes)?,
+            Record::Source { bytes } => scene.set_bytes(alloc, bytes)?,
             Record::Keep { piece } => pieces.push(piece)?,
             Record::Take { name } => match kept(pieces.as_slice(), name) {
                 Some(bytes) => scene.add_bytes(bytes)?,

@@ -4,7 +4,9 @@
 //!     bytes <size> LF <bytes> LF          adds to what the source gives to each command of the row from here on
 //!     piece <name> <size> LF <bytes> LF   keeps bytes under a name for all rows
 //!     take <name> LF                      adds the bytes that are kept under a name
-//!     key <size> LF <bytes> LF            what the key file holds for each command of the row from here on
+//!     source <size> LF <bytes> LF         what the source gives to each command of the row from here on
+//!     key <size> LF <bytes> LF            what the key file holds for the next command of the row; what is signed over
+//!                                         the row's store changes it for those after
 //!     <way> <word> <word> .. LF           runs the command of these words in one of the four ways
 
 use text_reader::{read_decimal, split_front, split_line, split_word, strip_front};
@@ -35,6 +37,7 @@ pub struct Piece<'a> {
 pub enum Record<'a> {
     Row { name: &'a [u8] },
     Bytes { bytes: &'a [u8] },
+    Source { bytes: &'a [u8] },
     Keep { piece: Piece<'a> },
     Take { name: &'a [u8] },
     Key { key: &'a [u8] },
@@ -67,6 +70,10 @@ pub fn first_record(text: &[u8]) -> Option<(Record<'_>, &[u8])> {
         b"bytes" => {
             let (bytes, after) = sized(rest, after)?;
             Some((Record::Bytes { bytes }, after))
+        }
+        b"source" => {
+            let (bytes, after) = sized(rest, after)?;
+            Some((Record::Source { bytes }, after))
         }
         b"piece" => {
             let (name, size) = split_word(rest)?;

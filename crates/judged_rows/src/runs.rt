@@ -54,17 +54,18 @@ fn status_of(alloc: Global, words: &[String], outside: &mut InMemory) -> u8 {
     run(alloc, words, outside)
 }
 
-/// Runs the command of these words over a source, a store and a key file of these bytes. Answered is what is seen, and
-/// the store.
+/// Runs the command of these words over a source, a store and a key file of these bytes. Answered is what is seen, the
+/// store, and the bytes of the key file afterwards.
 pub fn run_over(
     alloc: Global,
     words: &[String],
     source: MemSource,
     keeper: MemKeeper,
     key: &[u8],
-) -> Result<(Seen, MemKeeper), Memory> {
+) -> Result<(Seen, MemKeeper, Octets), Memory> {
     let mut outside = objects(alloc, source, keeper, key)?;
     let status = status_of(alloc, words, &mut outside);
     let seen = ending_of(alloc, status, &outside)?;
-    Ok((seen, outside.keeper))
+    let key = Octets::from_slice(alloc, outside.disk.contents())?;
+    Ok((seen, outside.keeper, key))
 }

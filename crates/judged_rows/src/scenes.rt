@@ -75,6 +75,11 @@ impl Scene {
         self.bytes.append(bytes)
     }
 
+    pub fn set_bytes(&mut self, alloc: Global, bytes: &[u8]) -> Result<(), Memory> {
+        self.bytes = Octets::from_slice(alloc, bytes)?;
+        Ok(())
+    }
+
     pub fn set_key(&mut self, alloc: Global, key: &[u8]) -> Result<(), Memory> {
         self.key = Octets::from_slice(alloc, key)?;
         Ok(())
@@ -103,7 +108,7 @@ impl Scene {
             keeper,
         } = self;
         let keeper = MemKeeper::failing(keeper, calls, Vec::new(alloc));
-        let (one, keeper) = run_over(alloc, words, source, keeper, key.as_slice())?;
+        let (one, keeper, key) = run_over(alloc, words, source, keeper, key.as_slice())?;
         let status = one.status;
         add(seen, one)?;
         let scene = Scene {
@@ -142,7 +147,7 @@ impl Scene {
         seen: &mut Vec<Seen>,
     ) -> Result<u8, Memory> {
         let keeper = MemKeeper::new(alloc);
-        let (one, _) = run_over(alloc, words, source, keeper, self.key.as_slice())?;
+        let (one, ..) = run_over(alloc, words, source, keeper, self.key.as_slice())?;
         let status = one.status;
         add(seen, one)?;
         Ok(status)
