@@ -44,7 +44,7 @@ module _ (trees : Trees) (blob path : List ℕ) (old : Option (List ℕ)) where
       ∙ ap (λ (o : Result (List TreeEntry) (List ℕ)). in_entries o (λ entries. put_last old path blob entries (entry_named path entries))) is ∙ last
 
   module _ (name rest : List ℕ) (whole : path ≡ name ++ 47 ∷ rest) (plain : has_byte 47 name ≡ false) (entries : List TreeEntry) (is : old_entries trees old ≡ Ok entries) where
-    split_put : put_file trees blob (components path) old ≡ put_dir old name entries (put_below (put_file trees blob (components rest)) (entry_named name entries))
+    pub split_put : put_file trees blob (components path) old ≡ put_dir old name entries (put_below (put_file trees blob (components rest)) (entry_named name entries))
     split_put =
         ap (λ (names : List (List ℕ)). put_file trees blob names old) (ap components whole ∙ cut_parts name rest plain)
         ∙ put_next trees blob name (components rest) old (some_parts rest)
