@@ -1,8 +1,8 @@
 use Rattle.std.proofs.Common.{subst, sym}
 use Rattle.std.specs.Prelude.{IsUtf8}
 use Rattle.std.proofs.lemmas.Str.{IsUtf8-string_bytes}
-use Rattle.commands_keys.proofs.SealedFrom.{text_of_bytes}
-use Rattle.commands_keys.proofs.envelope_signing.id_text.Goals as goal
+use Rattle.key_seals.proofs.Lengths.{text_of_bytes}
+use Rattle.key_seals.proofs.id_text.Goals as goal
 
 pub returns-clause-utf8 : goal.returns-clause-utf8
 returns-clause-utf8 c =

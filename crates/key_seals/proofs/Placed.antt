@@ -10,7 +10,7 @@ use Rattle.dsse_envelope.specs.Sealing.{has_room, place_of, put_at, sealed}
 use Rattle.dsse_envelope.specs.Written.{HasTextId, IsWritable}
 use Rattle.dsse_envelope.specs.declared.envelope.Envelope.{Envelope}
 use Rattle.dsse_envelope.specs.declared.envelope.Signature.{Signature}
-use Rattle.commands_keys.specs.Inputs.{IsSealable}
+use Rattle.key_seals.specs.Seals.{IsSealable}
 
 -- a signature more, or one in place of another
 put_long : (s : Signature) (ss : List Signature) (at : Option ℕ) → place_of s.keyid ss ≡ at → (is_some at || nat_lt (length ss) 64) ≡ true → length ss ≤ 64

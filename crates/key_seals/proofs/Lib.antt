@@ -1,0 +1,3 @@
+pub mod Placed
+pub mod Plain
+pub mod Lengths
