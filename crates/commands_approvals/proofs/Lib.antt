@@ -1,0 +1,3 @@
+mod Sealed
+mod Moved
+mod Refused
