@@ -1,3 +1,5 @@
 mod Sealed
 mod Moved
 mod Refused
+mod Free
+mod ToldOutcome

@@ -21,7 +21,7 @@ use Rattle.commands_log.specs.declared.recording.RecordFault.{RecordFault}
 use Rattle.commands_log.specs.declared.recording.RecordFault.TheVariants.{Unread, BreakUntold, Unappended, SinkFailed}
 use Rattle.commands_approvals.specs.Approving.{ApproveEnds, KeptEnds, TellsRefusal, Tries, clock_failed, disk_failed, keeper_failed, no_clock, no_disk, no_keeper, not_kept}
 use Rattle.commands_approvals.specs.Storing.{StoreEnds}
-use Rattle.commands_approvals.specs.Wanted.{HasRoom, IsWanted, WhyNotWanted}
+use Rattle.commands_approvals.specs.Wanted.{HasRoom, IsFree, IsWanted, WhyNotWanted}
 use Rattle.commands_approvals.specs.declared.approving.ApproveFault.{ApproveFault}
 use Rattle.commands_approvals.specs.declared.approving.ApproveFault.TheVariants.{Unrecorded, Unreadable, Full, TooLong}
 use Rattle.commands_approvals.specs.declared.ends.Ends.{Ends}
@@ -64,9 +64,9 @@ module _ {R D : Type 0} (keeper_of : keeper.Ghosts R) (disk_of : disk.Ghosts D) 
 
   -- all was read, and then signing and keeping came to this
   pub tried : (left_now : Option (List ℕ)) (new : R) (file_now : D) (ends : Ends) (envelope : Envelope) (result : Result Ends AppendFault) → HasRoom signing.secret envelope
-      → ((r : Repository) → keeper_of.content mid ≡ Some r → IsWanted r ids name target ends envelope) → StoreEnds keeper_of disk_of name ends envelope signing.secret mid new file_mid file_now left left_now result
+      → ((r : Repository) → keeper_of.content mid ≡ Some r → IsWanted r ids name target ends envelope) → ((r : Repository) → keeper_of.content mid ≡ Some r → IsFree r name ends) → StoreEnds keeper_of disk_of name ends envelope signing.secret mid new file_mid file_now left left_now result
       → Tries keeper_of disk_of name target left left_now old new file file_now result
-  tried left_now new file_now ends envelope result room wanted it = record {
+  tried left_now new file_now ends envelope result room wanted free it = record {
     secret = signing.secret;
     ids = ids;
     ends = ends;
@@ -75,7 +75,7 @@ module _ {R D : Type 0} (keeper_of : keeper.Ghosts R) (disk_of : disk.Ghosts D) 
     read = λ now held.
         let was = told_before keeper_of disk_of name ends envelope signing.secret mid new file_mid file_now left left_now result it now held in
         let then = next.content was.0 was.1 in
-        (was.0, first.content was.0 then, (is_log was.0 then, wanted was.0 was.1));
+        (was.0, first.content was.0 then, (is_log was.0 then, wanted was.0 was.1, free was.0 was.1));
     stores = store_from keeper_of disk_of name ends envelope signing.secret old mid new file file_mid file_now (same_twice keeper_of old opened mid first next) read left left_now result it;
   }
 

@@ -20,7 +20,7 @@ use Rattle.commands_log.specs.declared.recording.RecordFault.{RecordFault}
 use Rattle.commands_log.specs.declared.recording.RecordFault.TheVariants.{Unread, BreakUntold, Unappended, SinkFailed}
 use Rattle.commands_approvals.specs.Lines.{approval_line}
 use Rattle.commands_approvals.specs.Storing.{StoreEnds}
-use Rattle.commands_approvals.specs.Wanted.{HasRoom, IsFull, IsOverlong, IsUnreadable, IsWanted}
+use Rattle.commands_approvals.specs.Wanted.{HasRoom, IsFree, IsFull, IsOverlong, IsUnreadable, IsWanted}
 use Rattle.commands_approvals.specs.declared.approving.ApproveFault.{ApproveFault}
 use Rattle.commands_approvals.specs.declared.approving.ApproveFault.TheVariants.{Unrecorded, Unreadable, Full, TooLong}
 use Rattle.commands_approvals.specs.declared.ends.Ends.{Ends}
@@ -96,15 +96,15 @@ TellsRefusal printed printed_now none.TooLong answer = (answer ≡ TooLong) × (
 TellsRefusal printed printed_now (none.Unappended fault) answer = (answer ≡ Unrecorded (Unappended fault)) × (printed_now ≡ printed)
 
 module _ {R D : Type 0} (keeper_of : keeper.Ghosts R) (disk_of : disk.Ghosts D) (name target : List ℕ) (left left_now : Option (List ℕ)) (old new : R) (file file_now : D) where
-  -- the log was read, and the approval of the reference to the target's tree, in which the key's signature has room; and
-  -- signing and keeping it came to this
+  -- the log was read, and the approval of the reference to the target's tree, in which the key's signature has room, and of
+  -- whose place nothing is in the way; and signing and keeping it came to this
   pub record Tries (result : Result Ends AppendFault) : Type 0 where
     pub secret : Secret
     pub ids : List (List ℕ)
     pub ends : Ends
     pub envelope : Envelope
     pub room : HasRoom secret envelope
-    pub read : Told (λ was now. IsLogOf was ids × IsWanted was ids name target ends envelope) (keeper_of.content old) (keeper_of.content new)
+    pub read : Told (λ was now. IsLogOf was ids × IsWanted was ids name target ends envelope × IsFree was name ends) (keeper_of.content old) (keeper_of.content new)
     pub stores : StoreEnds keeper_of disk_of name ends envelope secret old new file file_now left left_now result
 
   -- what was wanted was not read, nothing was asked of the clock, and store and disk are as they were; a log is never too long

@@ -8,3 +8,5 @@ pub mod Storing
 pub mod Lines
 -- what each outcome of `approve` means
 pub mod Approving
+-- how it ends the program
+pub mod Outcomes

@@ -54,6 +54,10 @@ pub record IsInWay (r : Repository) (name : List ℕ) (ends : Ends) (secret : Se
   pub room : HasRoom secret envelope
   pub in_way : IsInWayOf r (value_of r attestations_name) name ends.from ends.tree id
 
+-- nothing is in the way of the approval's place
+pub record IsFree (r : Repository) (name : List ℕ) (ends : Ends) : Type 0 where
+  pub free : (id : List ℕ) → IsInWayOf r (value_of r attestations_name) name ends.from ends.tree id → ⊥
+
 -- an approval that can be signed by the key and put among the attestations
 pub record IsPrepared (secret : Secret) (name : List ℕ) (prepared : Prepared) : Type 0 where
   pub approves : is_approval name prepared.ends.from prepared.ends.tree prepared.envelope ≡ true

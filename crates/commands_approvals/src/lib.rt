@@ -12,9 +12,14 @@
 mod approving;
 mod ends;
 mod keeping;
+pub mod laws;
 mod lines;
+mod outcomes;
 mod preparing;
 mod storing;
+#[cfg(test)]
+mod tests;
 
 pub use approving::{ApproveFault, approve};
 pub use ends::Ends;
+pub use outcomes::approve_ending;
