@@ -174,6 +174,21 @@ def counts_distinct_signers(repositories):
     guarded.wants(f"accepted {TWO} 3 entries", name=TWO)
 
 
+def approves_by_command(repositories):
+    """approve signs for the move to a commit's files beside other signatures, and refuses a commit that is not there"""
+    guarded = Guarded(repositories, "approved")
+    commit = take_snapshot(guarded.place, FIRST, TWO)
+    line = f"approval {ZEROS} {tree_of(TEXT)}\n".encode()
+    for who in ("keeper", "owner", "keeper"):
+        want_run((LAUNCHER, f"{guarded.place}/", guarded.keys[who], "approve", TWO, commit), 0, line)
+    guarded.sign("owner", "record", ATTESTATIONS)
+    guarded.sign("maintainer", "record", TWO)
+    guarded.wants(f"accepted {TWO} 1 entries", name=TWO)
+    missing = "1" * 64
+    words = (LAUNCHER, f"{guarded.place}/", guarded.keys["keeper"], "approve", TWO, missing)
+    want_run(words, 3, errors=f"object {missing}\n".encode())
+
+
 def names_a_missing_tree(repositories):
     """an entry whose tree went missing is a violation that names the tree"""
     guarded = Guarded(repositories, "treeless")
@@ -219,6 +234,7 @@ CHECKS = (
     names_a_stranger,
     names_a_path,
     counts_distinct_signers,
+    approves_by_command,
     names_a_missing_tree,
     keeps_the_policy_in_force,
     guards_as_the_readme_says,

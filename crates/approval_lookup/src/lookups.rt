@@ -1,6 +1,6 @@
 //! The approval for a change, and who signed it.
 
-ghost use Rattle.std.specs.Prelude.{◌≡◌, ◌≤◌, ◌+◌, length, Some, None, IfOk};
+ghost use Rattle.std.specs.Prelude.{◌≡◌, ◌≤◌, ◌+◌, length, true, Some, None, IfOk, IfSome};
 ghost use Rattle.std.specs.List.{AllByRecursion};
 ghost use Rattle.std.specs.Result.{result_ok};
 ghost use Rattle.octets.specs.Causes.{HasCause};
@@ -9,9 +9,10 @@ ghost use Rattle.git_object.specs.Names.{IsRefName, components};
 ghost use Rattle.git_object.specs.Repository.{Repository};
 ghost use Rattle.git_object.specs.Trees.{IsEntryName};
 ghost use Rattle.dsse_envelope.specs.Envelopes.{reading};
+ghost use Rattle.dsse_envelope.specs.Written.{IsWritable};
 ghost use Rattle.keeper_api.specs.Faults.{keeper_failed};
 ghost use Rattle.keeper_api.specs.Undisturbed.{Undisturbed};
-ghost use Rattle.approval_lookup.specs.Approvals.{approval_path};
+ghost use Rattle.approval_lookup.specs.Approvals.{approval_path, is_approval};
 ghost use Rattle.approval_lookup.specs.Lookups.{approval_at, approval_of, approvers_of};
 
 use crate::files::load_file;
@@ -65,7 +66,8 @@ pub fn path_of(
 
 // The envelope that bytes are.
 fn envelope_in(alloc: Global, bytes: &[u8]) -> Result<Option<Envelope>, Memory>
-    ensures { IfOk result (λ found. found ≡ result_ok (reading bytes.now)) }
+    ensures found { IfOk result (λ found. found ≡ result_ok (reading bytes.now)) }
+    ensures writable { IfOk result (λ found. IfSome found IsWritable) }
 {
     match Envelope::read(alloc, bytes) {
         Ok(envelope) => Ok(Some(envelope)),
@@ -85,7 +87,9 @@ fn approval_of(
     from: &ObjectId,
     tree: &ObjectId,
 ) -> Result<Option<Envelope>, Memory>
-    ensures { IfOk result (λ found. found ≡ approval_of name.now from.now tree.now bytes.now) }
+    ensures found { IfOk result (λ found. found ≡ approval_of name.now from.now tree.now bytes.now) }
+    ensures approves { IfOk result (λ found. IfSome found (λ envelope. is_approval name.now from.now tree.now envelope ≡ true)) }
+    ensures writable { IfOk result (λ found. IfSome found IsWritable) }
 {
     let Some(envelope) = envelope_in(alloc, bytes)? else {
         return Ok(None);
@@ -109,6 +113,8 @@ pub fn load_approval<R: Keeper>(
     tree: &ObjectId,
 ) -> Result<Option<Envelope>, KeeperFault>
     ensures found { IfOk result (λ found. (r : Repository) → R.content keeper.new ≡ Some r → found ≡ approval_at r attestations.now name.now from.now tree.now) }
+    ensures approves { IfOk result (λ found. IfSome found (λ envelope. is_approval name.now from.now tree.now envelope ≡ true)) }
+    ensures writable { IfOk result (λ found. IfSome found IsWritable) }
     ensures same { Undisturbed R.Keeper keeper.old keeper.new }
     ensures cause { HasCause keeper_failed (R.faults keeper.old) (R.faults keeper.new) result }
     ensures reads { R.reads keeper.new ≤ R.reads keeper.old + 28 }

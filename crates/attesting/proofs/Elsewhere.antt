@@ -1,11 +1,9 @@
 -- Where a file is put, every other path keeps what it has.
-use Rattle.std.proofs.Common.{◌≡◌, ◌≢◌, ℕ, Bool, true, false, List, [], ◌∷◌, ◌++◌, Option, Some, None, refl, sym, ap, subst, ◌∙◌, inl, inr}
-use Rattle.std.specs.Prelude.{Result, Ok, Err, option_and_then, if◌then◌else◌}
+use Rattle.std.proofs.Common.{◌≡◌, ◌≢◌, ℕ, Bool, List, [], ◌∷◌, Option, Some, None, refl, sym, ap, subst, ◌∙◌, inl, inr}
+use Rattle.std.specs.Prelude.{Ok, option_and_then, if◌then◌else◌}
 use Rattle.std.specs.List.{AllByRecursion}
 use Rattle.std.specs.Option.{option_map}
 use Rattle.git_object.specs.EntryParts.{entry_of}
-use Rattle.git_object.specs.Objects.{Pair}
-use Rattle.git_object.specs.Trees.{AreWellFormed, IsEntryName}
 use Rattle.git_object.specs.declared.modes.Mode.TheVariants.{Dir, File}
 use Rattle.git_object.specs.declared.trees.TreeEntry.{TreeEntry}
 use Rattle.git_object.proofs.Decisions.{is_text}
@@ -15,7 +13,7 @@ use Rattle.tree_paths.specs.Readings.{Trees}
 use Rattle.tree_paths.specs.States.{PathValue}
 use Rattle.tree_paths.specs.Walks.{is_dir, listed}
 use Rattle.attesting.specs.Entries.{IsPut, put_entry}
-use Rattle.attesting.specs.Files.{NewTrees, Putting, entries_or, old_entries, put_below, put_dir, put_file, put_last, tree_pair, with_tree}
+use Rattle.attesting.specs.Files.{NewTrees, Putting, entries_or, old_entries, put_below, put_dir, put_file, put_last, tree_pair}
 use Rattle.attesting.specs.Finding.{IsAllElseKept, no_dir, path_at, path_from}
 use Rattle.attesting.specs.Named.{IsAlike}
 use Rattle.attesting.proofs.InOrder.{put_is}

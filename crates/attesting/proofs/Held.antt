@@ -4,10 +4,10 @@ use Rattle.git_object.specs.Objects.{Pair}
 use Rattle.git_object.specs.Repository.{HasObject, Repository}
 use Rattle.git_object.specs.Trees.{AreEntries}
 use Rattle.git_object.specs.declared.trees.TreeEntry.{TreeEntry}
-use Rattle.tree_paths.specs.Readings.{AreReadings, IsTreeAt, Readings}
+use Rattle.tree_paths.specs.Readings.{IsTreeAt}
 use Rattle.tree_paths.specs.Walks.{listed}
 use Rattle.tree_paths.proofs.ObjectsRead.{tree_there}
-use Rattle.attesting.specs.Finding.{AreHeld, AreRead}
+use Rattle.attesting.specs.Finding.{AreHeld}
 
 by_tree : (r : Repository) (id : List ℕ) (tree : Option (List TreeEntry)) → IsTreeAt r id tree → AreEntries (listed tree)
 by_tree r id None at = record { formed = record { named = tt; ordered = tt }; ids = tt }

@@ -2,6 +2,9 @@ pub mod InOrder
 pub mod Puts
 pub mod AttestationsName
 pub mod Found
+pub mod Surveyed
+pub mod Alike
+pub mod Sited
 pub mod Elsewhere
 pub mod Held
 pub mod Tied

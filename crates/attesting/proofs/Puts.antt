@@ -1,5 +1,5 @@
 -- A file put at a path, by the path's first name.
-use Rattle.std.proofs.Common.{◌≡◌, ◌≢◌, ℕ, ◌<◌, ◌≤◌, Bool, true, false, List, [], ◌∷◌, ◌++◌, length, Option, Some, None, refl, sym, ap, subst, ◌∙◌, append_assoc, arith}
+use Rattle.std.proofs.Common.{◌≡◌, ◌≢◌, ℕ, ◌<◌, ◌≤◌, Bool, true, false, List, [], ◌∷◌, ◌++◌, length, Option, Some, refl, sym, ap, subst, ◌∙◌, append_assoc, arith}
 use Rattle.std.specs.Prelude.{Result, Ok, Err, nat_le, if◌then◌else◌}
 use Rattle.std.specs.List.{AllByRecursion}
 use Rattle.std.proofs.lemmas.Bool.{leb-true, le-leb}
@@ -10,11 +10,10 @@ use Rattle.git_object.specs.Objects.{Pair, object_id, pair_id}
 use Rattle.git_object.specs.Repository.{largest_body}
 use Rattle.git_object.specs.Trees.{IsEntryName, IsTreeText, entries_text}
 use Rattle.git_object.specs.declared.kinds.Kind.TheVariants as kind
-use Rattle.git_object.specs.declared.modes.Mode.TheVariants.{Dir, File}
+use Rattle.git_object.specs.declared.modes.Mode.TheVariants.{Dir}
 use Rattle.git_object.specs.declared.trees.TreeEntry.{TreeEntry}
 use Rattle.tree_paths.specs.Lookups.{entry_named}
 use Rattle.tree_paths.specs.Readings.{Trees}
-use Rattle.tree_paths.specs.Walks.{is_dir}
 use Rattle.tree_paths.proofs.PathNames.{cut_parts, plain_parts, some_parts}
 use Rattle.attesting.specs.Entries.{put_entry}
 use Rattle.attesting.specs.Files.{NewTrees, Putting, in_entries, old_entries, put_below, put_dir, put_file, put_last, tree_pair, with_tree}
@@ -44,7 +43,7 @@ module _ (trees : Trees) (blob path : List ℕ) (old : Option (List ℕ)) where
       ∙ ap (λ (o : Result (List TreeEntry) (List ℕ)). in_entries o (λ entries. put_last old path blob entries (entry_named path entries))) is ∙ last
 
   module _ (name rest : List ℕ) (whole : path ≡ name ++ 47 ∷ rest) (plain : has_byte 47 name ≡ false) (entries : List TreeEntry) (is : old_entries trees old ≡ Ok entries) where
-    split_put : put_file trees blob (components path) old ≡ put_dir old name entries (put_below (put_file trees blob (components rest)) (entry_named name entries))
+    pub split_put : put_file trees blob (components path) old ≡ put_dir old name entries (put_below (put_file trees blob (components rest)) (entry_named name entries))
     split_put =
         ap (λ (names : List (List ℕ)). put_file trees blob names old) (ap components whole ∙ cut_parts name rest plain)
         ∙ put_next trees blob name (components rest) old (some_parts rest)

@@ -1,6 +1,6 @@
 -- A repository that has the objects of a change beside the old ones finds the approval that was put.
-use Rattle.std.proofs.Common.{◌≡◌, ◌≢◌, ℕ, zero, suc, ◌≤◌, arith, get_or, Bool, true, false, cond, ◌&&◌, List, [], ◌∷◌, ◌++◌, length, Option, Some, None, refl, sym, ap, subst, ◌∙◌}
-use Rattle.std.specs.Prelude.{Result, Ok, Err, codes, nat_le, option_and_then}
+use Rattle.std.proofs.Common.{◌≡◌, ◌≢◌, ℕ, zero, suc, arith, get_or, Bool, true, false, cond, List, [], ◌∷◌, ◌++◌, length, Option, Some, None, refl, sym, ap, subst, ◌∙◌}
+use Rattle.std.specs.Prelude.{Ok, Err, option_and_then}
 use Rattle.std.specs.List.{AllByRecursion}
 use Rattle.std.specs.Result.{result_ok}
 use Rattle.std.specs.Str.{bytes_eq}
@@ -9,7 +9,7 @@ use Rattle.git_object.specs.Commits.{IsCommitText, commit_lines}
 use Rattle.git_object.specs.Ids.{IsId, zeros}
 use Rattle.git_object.specs.Names.{IsRefName, components}
 use Rattle.git_object.specs.Objects.{Pair, pair_id}
-use Rattle.git_object.specs.Repository.{HasObject, Repository, object_at}
+use Rattle.git_object.specs.Repository.{HasObject, Repository}
 use Rattle.git_object.specs.declared.commits.Commit.{Commit}
 use Rattle.git_object.specs.declared.kinds.Kind.{Kind}
 use Rattle.git_object.specs.declared.modes.Mode.TheVariants.{File}
@@ -17,7 +17,6 @@ use Rattle.dsse_envelope.specs.Envelopes.{reading}
 use Rattle.dsse_envelope.specs.Written.{text_of}
 use Rattle.dsse_envelope.specs.declared.envelope.Envelope.{Envelope}
 use Rattle.root_metadata.specs.Shapes.{only_if}
-use Rattle.root_metadata.specs.declared.keys.Key.{Key}
 use Rattle.tree_making.specs.Keeping.{Keeps}
 use Rattle.tree_making.proofs.Kept.{kept_all}
 use Rattle.tree_paths.specs.Lookups.{entry_at}
@@ -37,7 +36,7 @@ use Rattle.approval_lookup.specs.Lookups.{approval_at, entry_in, signers_of, tre
 use Rattle.approval_lookup.proofs.Finding.{blob_is, file_entry, file_there, this_envelope}
 use Rattle.approval_lookup.proofs.PathParts.{path_named}
 use Rattle.attesting.specs.Attesting.{IsAttestable, approval_pair, attested, attested_after, attested_with, change_of, commit_pair, commit_rest, parents_of}
-use Rattle.attesting.specs.Files.{NewTrees, Putting, put_file}
+use Rattle.attesting.specs.Files.{Putting, put_file}
 use Rattle.attesting.specs.Tied.{HasBoth, IsFoundAgain}
 use Rattle.attesting.specs.declared.attesting.Attested.{Attested}
 use Rattle.attesting.proofs.Found.{all_front, all_last, file_put, id_of_pair, root_is}

@@ -2,56 +2,33 @@
 
 ghost use Rattle.std.specs.Prelude.{◌≡◌, ◌≤◌, ◌++◌, ◌∷◌, [], ℕ, List, length, Ok, Err, IfOk, IfErr, IfNone, IfSome, OnOk, Option};
 ghost use Rattle.std.specs.List.{AllByRecursion};
-ghost use Rattle.octets.specs.Causes.{HasCause};
 ghost use Rattle.git_object.specs.EntryParts.{entry_of};
 ghost use Rattle.git_object.specs.Names.{components};
 ghost use Rattle.git_object.specs.Objects.{Pair, pair_id};
 ghost use Rattle.git_object.specs.Trees.{AreWellFormed, IsEntryName};
 ghost use Rattle.git_object.specs.declared.modes.Mode.TheVariants.{Dir, File};
-ghost use Rattle.keeper_api.specs.Faults.{keeper_failed};
-ghost use Rattle.keeper_api.specs.Undisturbed.{Undisturbed};
 ghost use Rattle.tree_paths.specs.Lookups.{entry_named};
-ghost use Rattle.tree_paths.specs.Readings.{Readings, Told};
 ghost use Rattle.tree_making.specs.Keeping.{Adds};
 ghost use Rattle.attesting.specs.Entries.{put_entry};
-ghost use Rattle.attesting.specs.Files.{Putting, old_entries, put_below, put_file, put_last, tree_pair, with_tree};
+ghost use Rattle.attesting.specs.Files.{Putting, put_below, put_last, tree_pair, with_tree};
+ghost use Rattle.attesting.specs.Levels.{AreLevels, put_levels};
 ghost use Rattle.attesting.specs.Named.{IsAlike};
 ghost use Rattle.attesting.specs.Placing.{IfMade, IsPlaced};
 
 use crate::entries::put_entry;
+use crate::surveys::Level;
 use git_object::{
     Kind, LARGEST_BODY, Mode, Object, ObjectId, Objects, Octets, Tree, TreeEntries, TreeEntry,
 };
-use keeper_api::{Keeper, KeeperFault};
 use octets::Memory;
 use std::alloc::Global;
-use tree_paths::{entry_named, is_dir, load_tree, split_at_slash};
+use tree_paths::{entry_named, is_dir, split_at_slash};
 
 /// What came of putting a file: the id of the root's new tree, or the object that is in the way.
 #[derive(Clone, Copy, Debug, PartialEq, Eq)]
 pub enum Placed {
     Made(ObjectId),
     InWay(ObjectId),
-}
-
-// The entries of an old tree, none where there is no tree yet; or the object that is no tree.
-fn load_old<R: Keeper>(
-    alloc: Global,
-    keeper: &mut R,
-    old: &Option<ObjectId>,
-) -> Result<Result<TreeEntries, ObjectId>, KeeperFault>
-    ensures found { IfOk result (λ found. (readings : Readings) → Told (R.content keeper.new) readings → found ≡ old_entries readings.trees old.now) }
-    ensures formed { IfOk result (λ found. IfOk found AreWellFormed) }
-    ensures same { Undisturbed R.Keeper keeper.old keeper.new }
-    ensures cause { HasCause keeper_failed (R.faults keeper.old) (R.faults keeper.new) result }
-{
-    let Some(id) = old else {
-        return Ok(Ok(TreeEntries::new(alloc)));
-    };
-    match load_tree(alloc, keeper, id)? {
-        Some(entries) => Ok(Ok(entries)),
-        None => Ok(Err(*id)),
-    }
 }
 
 // The old tree, where it is in the way of a body of more than 16 MiB.
@@ -111,8 +88,8 @@ fn put_tree(
     Ok(Placed::Made(root))
 }
 
-// The id under a name, where a directory stands there; None where nothing does; or the other thing that is in the way.
-fn dir_named(entries: &[TreeEntry], name: &[u8]) -> Result<Option<ObjectId>, ObjectId>
+/// The id under a name, where a directory stands there; None where nothing does; or the other thing that is in the way.
+pub fn dir_named(entries: &[TreeEntry], name: &[u8]) -> Result<Option<ObjectId>, ObjectId>
     ensures found { IfOk result (λ dir. (next : Option (List ℕ) → Putting) → put_below next (entry_named name.now entries.now) ≡ next dir) }
     ensures alike { OnOk result (IsAlike Dir (entry_named name.now entries.now)) }
     ensures other { IfErr result (λ id. (next : Option (List ℕ) → Putting) → put_below next (entry_named name.now entries.now) ≡ Err id) }
@@ -154,39 +131,35 @@ fn put_last(
     Ok(placed)
 }
 
-/// Puts a file at a path of an old tree: makes the new trees on the way, each the old one with one entry put in its
-/// place, adds them to the objects, those below first, and answers the id of the root's, or the first object on the way
-/// that is in the way. After that, or after a refusal, some of the trees may have been added. It is as many calls deep
-/// as the path has names.
-pub fn put_file<R: Keeper>(
+/// Puts a file at a path whose directories were read: makes the new trees on the way, each the old one with one entry put
+/// in its place, adds them to the objects, those below first, and answers the id of the root's, or the first object that is
+/// in the way. After that, or after a refusal, some of the trees may have been added. It is as many calls deep as the path
+/// has names.
+pub fn put_levels(
     alloc: Global,
-    keeper: &mut R,
-    blob: &ObjectId,
+    levels: &[Level],
     path: &[u8],
-    old: &Option<ObjectId>,
+    blob: &ObjectId,
     objects: &mut Objects,
-) -> Result<Placed, KeeperFault>
+) -> Result<Placed, Memory>
     requires named { AllByRecursion IsEntryName (components path.now) }
     requires few { length (components path.now) ≤ 18 }
-    ensures placed { IfOk result (λ placed. (readings : Readings) → Told (R.content keeper.new) readings
-        → IsPlaced placed (put_file readings.trees blob.now (components path.now) old.now) objects.old objects.new) }
+    requires levels { AreLevels (components path.now) levels.now }
+    ensures placed { IfOk result (λ placed. IsPlaced placed (put_levels blob.now (components path.now) levels.now) objects.old objects.new) }
     ensures added { IfOk result (λ placed. IfMade placed (Adds objects.old objects.new)) }
-    ensures same { Undisturbed R.Keeper keeper.old keeper.new }
-    ensures cause { HasCause keeper_failed (R.faults keeper.old) (R.faults keeper.new) result }
 {
-    let entries = match load_old(alloc, keeper, old)? {
-        Ok(entries) => entries,
-        Err(id) => return Ok(Placed::InWay(id)),
+    let Some((level, below)) = levels.split_first() else {
+        unreachable!();
     };
+    let entries = level.entries.as_slice();
     let Some((name, rest)) = split_at_slash(path) else {
-        let placed = put_last(alloc, old, entries.as_slice(), path, blob, objects)?;
+        let placed = put_last(alloc, &level.old, entries, path, blob, objects)?;
         return Ok(placed);
     };
-    let dir = match dir_named(entries.as_slice(), name) {
-        Ok(dir) => dir,
-        Err(id) => return Ok(Placed::InWay(id)),
-    };
-    let id = match put_file(alloc, keeper, blob, rest, &dir, objects)? {
+    if let Err(id) = dir_named(entries, name) {
+        return Ok(Placed::InWay(id));
+    }
+    let id = match put_levels(alloc, below, rest, blob, objects)? {
         Placed::Made(id) => id,
         Placed::InWay(id) => return Ok(Placed::InWay(id)),
     };
@@ -195,6 +168,6 @@ pub fn put_file<R: Keeper>(
         name: Octets::from_slice(alloc, name)?,
         id,
     };
-    let placed = put_tree(alloc, old, entries.as_slice(), entry, objects)?;
+    let placed = put_tree(alloc, &level.old, entries, entry, objects)?;
     Ok(placed)
 }

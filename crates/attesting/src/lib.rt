@@ -14,8 +14,11 @@ mod attesting;
 mod entries;
 mod files;
 pub mod laws;
+mod sites;
+mod surveys;
 #[cfg(test)]
 mod tests;
 
 pub use attest_faults::AttestFault;
-pub use attesting::{ATTESTATIONS_NAME, Attested, attest};
+pub use attesting::{ATTESTATIONS_NAME, Attested, attest, attest_at, attestations_ref};
+pub use sites::{Site, find_site};

@@ -3,15 +3,18 @@ use Rattle.std.proofs.Common.{◌≡◌, ◌<◌, ◌≤◌, ℕ, Bool, true, fa
 use Rattle.std.specs.Prelude.{◌≢◌, Option, Some, None, codes, if◌then◌else◌}
 use Rattle.std.specs.Option.{IsSomeAnd}
 use Rattle.std.specs.Str.{bytes_eq}
+use Rattle.text_reader.specs.Hexadecimal.{IsLowerHexadecimal}
+use Rattle.text_reader.proofs.Unique.{same_hexadecimal}
+use Rattle.git_object.proofs.IdLemmas.{id_is_lower}
 use Rattle.word_values.specs.Ids.{AreIds}
 use Rattle.word_values.specs.Spaced.{IsSpaced}
 use Rattle.word_values.proofs.OneValue.{same_ids, same_space, same_name as same_spaced_name}
-use Rattle.command_words.specs.Commands.{IsAsked, IsRoot, IsMessage, annotate_app, explain_app, height_text, kind_text, width_text}
+use Rattle.command_words.specs.Commands.{IsAsked, IsRoot, IsMessage, IsTarget, annotate_app, explain_app, height_text, kind_text, width_text}
 use Rattle.command_words.specs.FirstWords.{AsksFor, AsksForNone, IsCommand, IsNoCommand, IsWithinLimits, name_text}
 use Rattle.command_words.specs.Grammars.{value_of}
 use Rattle.command_words.specs.Laws.{OneCommand}
 use Rattle.command_words.specs.declared.commands.Command.{Command}
-use Rattle.command_words.specs.declared.commands.Command.TheVariants.{VerifyRef, KeyGen, Record, Seal, Snapshot, Explain, Annotate}
+use Rattle.command_words.specs.declared.commands.Command.TheVariants.{VerifyRef, KeyGen, Record, Seal, Snapshot, Explain, Annotate, Approve}
 use Rattle.command_words.specs.declared.commands.CommandName.{CommandName}
 use Rattle.command_words.specs.declared.commands.CommandName.TheVariants as name
 use Rattle.command_words.specs.declared.commands.Height.{Height}
@@ -30,7 +33,8 @@ named_by word = if bytes_eq word (name_text name.VerifyRef) then Some name.Verif
     else (if bytes_eq word (name_text name.Seal) then Some name.Seal
     else (if bytes_eq word (name_text name.Snapshot) then Some name.Snapshot
     else (if bytes_eq word (name_text name.PolicyApply) then Some name.PolicyApply
-    else (if bytes_eq word (name_text name.Explain) then Some name.Explain else Some name.Annotate)))))))))
+    else (if bytes_eq word (name_text name.Explain) then Some name.Explain
+    else (if bytes_eq word (name_text name.Annotate) then Some name.Annotate else Some name.Approve))))))))))
 
 named_by-text : (n : CommandName) → named_by (name_text n) ≡ Some n
 unfolding named_by
@@ -45,6 +49,7 @@ named_by-text name.Snapshot = refl
 named_by-text name.PolicyApply = refl
 named_by-text name.Explain = refl
 named_by-text name.Annotate = refl
+named_by-text name.Approve = refl
 
 same_some : {X : Type 0} (x y : X) → Some x ≡ Some y → x ≡ y
 same_some x y e = cc
@@ -130,6 +135,13 @@ same_kind a b e = sym (is_skip-text a) ∙ ap is_skip e ∙ is_skip-text b
 same_name_given : (given : Option (List ℕ)) (a b : List ℕ) → IsAsked given a → IsAsked given b → a ≡ b
 same_name_given given a b is other = same_some a b (sym is.is ∙ other.is)
 
+same_target : (given : Option (List ℕ)) (a b : List ℕ) → IsTarget given a → IsTarget given b → a ≡ b
+same_target given a b is other = same_hexadecimal a b is.is_id.bytes other.is_id.bytes (same_some _ _ (sym is.is ∙ other.is))
+
+-- a text that is no id is none's target
+pub no_target : (given : Option (List ℕ)) (text : List ℕ) → given ≡ Some text → (IsLowerHexadecimal 32 text → ⊥) → (id : List ℕ) → IsTarget given id → ⊥
+no_target given text e none id is = none (subst (IsLowerHexadecimal 32) (same_some _ _ (sym is.is ∙ e)) (id_is_lower id is.is_id))
+
 same_root : (given : Option (List ℕ)) (a b : Option (List (List ℕ))) → IsRoot given a → IsRoot given b → a ≡ b
 same_root None None None is other = refl
 same_root None None (Some b) is other = absurd other
@@ -183,6 +195,12 @@ one_after name.Annotate rest a b is other =
     let named : a ≡ Annotate is.0 is.1 is.2 = is.3 in
     let named_so : b ≡ Annotate other.0 other.1 other.2 = other.3 in
     cc
+one_after name.Approve rest a b is other =
+    let same : is.0 ≡ other.0 = same_name_given _ is.0 other.0 is.3.named other.3.named in
+    let at : is.1 ≡ other.1 = same_target _ is.1 other.1 is.3.at other.3.at in
+    let named : a ≡ Approve is.0 is.1 = is.2 in
+    let named_so : b ≡ Approve other.0 other.1 = other.2 in
+    cc
 
 pub one_command : OneCommand
 one_command words a b is other =
@@ -217,3 +235,4 @@ within_after name.Snapshot rest command asks = subst IsWithinLimits (sym asks.1)
 within_after name.PolicyApply rest command asks = subst IsWithinLimits (sym asks.0) tt
 within_after name.Explain rest command asks = subst IsWithinLimits (sym asks.2) tt
 within_after name.Annotate rest command asks = subst IsWithinLimits (sym asks.3) (listed _ asks.1 asks.4.lists, few_listed _ asks.1 asks.4.lists, short _ asks.2 asks.4.says)
+within_after name.Approve rest command asks = subst IsWithinLimits (sym asks.2) asks.3.named.not_log

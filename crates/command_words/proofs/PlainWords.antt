@@ -4,6 +4,7 @@ use Rattle.std.specs.Prelude.{Option, Some, None, codes}
 use Rattle.std.specs.Option.{IsSomeAnd}
 use Rattle.clap.specs.Faults.{defaults_fault, flags_fault, walk_fault}
 use Rattle.clap.specs.Walk.{walked}
+use Rattle.hex.specs.Hex.{encode_lower}
 use Rattle.git_object.specs.Names.{IsRefName, log_name}
 use Rattle.ref_patterns.specs.Patterns.{prefix}
 use Rattle.ref_patterns.specs.declared.space.Space.{Space}
@@ -14,7 +15,7 @@ use Rattle.command_words.specs.Grammars.{Takes, bare_app, is_given, value_of}
 use Rattle.command_words.specs.Laws.{PlainWords, flag_words}
 use Rattle.command_words.specs.declared.commands.CommandName.TheVariants as name
 use Rattle.command_words.proofs.LetterFirst.{letter_first}
-use Rattle.command_words.proofs.ValueWords.{annotate_asks}
+use Rattle.command_words.proofs.ValueWords.{annotate_asks, approve_asks}
 use Rattle.command_words.specs.declared.commands.Height.{Height}
 use Rattle.command_words.specs.declared.commands.Height.TheVariants.{H5, H10, H15}
 use Rattle.command_words.specs.declared.commands.Width.{Width}
@@ -187,4 +188,5 @@ plain_words = record {
   policy_apply = record { first = name.PolicyApply; rest = []; are = refl; asks = (refl, no_more (codes "policy-apply")) };
   explain = λ space text. record { first = name.Explain; rest = (prefix space ++ text) ∷ []; are = refl; asks = (space, text, refl, asks_reasons space text) };
   annotate = λ skip text ids are. record { first = name.Annotate; rest = kind_text skip ∷ text ∷ []; are = refl; asks = (skip, ids, [], refl, annotate_asks skip text ids are) };
+  approve = λ reference target is not_log is_id. record { first = name.Approve; rest = reference ∷ encode_lower target ∷ []; are = refl; asks = (reference, target, refl, approve_asks reference target is not_log is_id) };
 }

@@ -15,7 +15,7 @@ use Rattle.git_object.specs.Names.{IsRefName, log_name}
 use Rattle.git_object.proofs.IdLemmas.{id_is_lower}
 use Rattle.word_values.specs.Ids.{AreIds}
 use Rattle.word_values.specs.Numbers.{IsCount}
-use Rattle.command_words.specs.Commands.{AsksNote, IsAsked, IsMessage, annotate_app, kind_text}
+use Rattle.command_words.specs.Commands.{AsksApproval, AsksNote, IsAsked, IsMessage, annotate_app, approve_app, kind_text}
 use Rattle.command_words.specs.Grammars.{Takes, is_given, value_of}
 use Rattle.command_words.proofs.LetterFirst.{letter_first}
 
@@ -80,3 +80,32 @@ annotate_asks skip text ids are =
     let begins = of_ids 256 text ids are in
     subst (λ (t : List ℕ). AreIds 256 t ids → AsksNote skip ids [] (kind_text skip ∷ t ∷ [])) (sym begins.is)
     (annotate_begun skip begins.first begins.rest ids begins.no_dash) are
+
+-- ---- approve <ref> <target id>
+approve_taken : (name : List ℕ) (d : ℕ) (rest : List ℕ) → (d == 45) ≡ false → Takes approve_app ((114 ∷ name) ∷ (d ∷ rest) ∷ [])
+unfolding walk_fault walked flags_fault defaults_fault
+approve_taken name d rest other = simp other
+
+approve_named : (name : List ℕ) (d : ℕ) (rest : List ℕ) → (d == 45) ≡ false → value_of approve_app (codes "ref") ((114 ∷ name) ∷ (d ∷ rest) ∷ []) ≡ Some (114 ∷ name)
+unfolding walked
+approve_named name d rest other = simp other
+
+approve_given : (name : List ℕ) (d : ℕ) (rest : List ℕ) → (d == 45) ≡ false → value_of approve_app (codes "target") ((114 ∷ name) ∷ (d ∷ rest) ∷ []) ≡ Some (d ∷ rest)
+unfolding walked
+approve_given name d rest other = simp other
+
+approve_begun : (name target : List ℕ) (d : ℕ) (rest : List ℕ) → (d == 45) ≡ false → encode_lower target ≡ d ∷ rest → IsId target → IsRefName (114 ∷ name) → 114 ∷ name ≢ log_name
+    → AsksApproval (114 ∷ name) target ((114 ∷ name) ∷ (d ∷ rest) ∷ [])
+approve_begun name target d rest other text is_id is_name not_log = record {
+  takes = approve_taken name d rest other;
+  named = record { is = approve_named name d rest other; is_name = is_name; not_log = not_log };
+  at = record { is = approve_given name d rest other ∙ sym (ap (λ (t : List ℕ). Some t) text); is_id = is_id };
+}
+
+pub approve_asks : (name target : List ℕ) → IsRefName name → name ≢ log_name → IsId target → AsksApproval name target (name ∷ encode_lower target ∷ [])
+approve_asks name target is_name not_log is_id =
+    let named = letter_first name is_name in
+    let begins = of_id target is_id in
+    subst (λ (n : List ℕ). IsRefName n → n ≢ log_name → AsksApproval n target (n ∷ encode_lower target ∷ [])) (sym named.1)
+    (λ is other. subst (λ (text : List ℕ). AsksApproval (114 ∷ named.0) target ((114 ∷ named.0) ∷ text ∷ [])) (sym begins.is)
+    (approve_begun named.0 target begins.first begins.rest begins.no_dash begins.is is_id is other)) is_name not_log

@@ -72,6 +72,22 @@ pub record AsksNote (skip : Bool) (ids : List (List ℕ)) (message : List ℕ) (
   pub lists : IsSomeAnd (value_of annotate_app (codes "ids") words) (λ text. AreIds 256 text ids)
   pub says : IsMessage (value_of annotate_app (codes "message") words) message
 
+-- ---- approve <ref> <target id>
+
+abbrev pub approve_app : App
+approve_app = with_rule (reference_app (codes "approve")) (positional_rule (codes "target"))
+
+-- a value that is given is an id in lower-case hexadecimal
+pub record IsTarget (given : Option (List ℕ)) (id : List ℕ) : Type 0 where
+  pub is : given ≡ Some (encode_lower id)
+  pub is_id : IsId id
+
+-- a reference other than the log's own, and the id of an object
+pub record AsksApproval (name target : List ℕ) (words : List (List ℕ)) : Type 0 where
+  pub takes : Takes approve_app words
+  pub named : IsAsked (value_of approve_app (codes "ref") words) name
+  pub at : IsTarget (value_of approve_app (codes "target") words) target
+
 -- ---- explain <git:text or file:text>
 
 abbrev pub explain_app : App

@@ -2,10 +2,10 @@
 use Rattle.std.specs.Prelude.{◌≡◌, ◌≢◌, ◌<◌, ◌≤◌, ◌∷◌, ℕ, Bool, List, Option, codes, length}
 use Rattle.git_object.specs.Names.{log_name}
 use Rattle.ref_patterns.specs.declared.space.Space.{Space}
-use Rattle.command_words.specs.Commands.{AsksKey, AsksNote, AsksReasons, AsksReference, AsksSeal, AsksVerdict}
+use Rattle.command_words.specs.Commands.{AsksApproval, AsksKey, AsksNote, AsksReasons, AsksReference, AsksSeal, AsksVerdict}
 use Rattle.command_words.specs.Grammars.{Takes, bare_app}
 use Rattle.command_words.specs.declared.commands.Command.{Command}
-use Rattle.command_words.specs.declared.commands.Command.TheVariants.{VerifyRef, Export, Import, KeyGen, Log, Record, Seal, Snapshot, PolicyApply, Explain, Annotate}
+use Rattle.command_words.specs.declared.commands.Command.TheVariants.{VerifyRef, Export, Import, KeyGen, Log, Record, Seal, Snapshot, PolicyApply, Explain, Annotate, Approve}
 use Rattle.command_words.specs.declared.commands.CommandName.{CommandName}
 use Rattle.command_words.specs.declared.commands.CommandName.TheVariants as name
 use Rattle.command_words.specs.declared.commands.Height.{Height}
@@ -23,6 +23,7 @@ name_text name.Snapshot = codes "snapshot"
 name_text name.PolicyApply = codes "policy-apply"
 name_text name.Explain = codes "explain"
 name_text name.Annotate = codes "annotate"
+name_text name.Approve = codes "approve"
 
 -- the words behind this first one ask for the command
 abbrev pub AsksFor : CommandName → List (List ℕ) → Command → Type 0
@@ -37,6 +38,7 @@ AsksFor name.Snapshot rest command = (reference : List ℕ) × (command ≡ Snap
 AsksFor name.PolicyApply rest command = (command ≡ PolicyApply) × Takes (bare_app (codes "policy-apply")) rest
 AsksFor name.Explain rest command = (space : Space) × (text : List ℕ) × (command ≡ Explain space text) × AsksReasons space text rest
 AsksFor name.Annotate rest command = (skip : Bool) × (ids : List (List ℕ)) × (message : List ℕ) × (command ≡ Annotate skip ids message) × AsksNote skip ids message rest
+AsksFor name.Approve rest command = (reference : List ℕ) × (target : List ℕ) × (command ≡ Approve reference target) × AsksApproval reference target rest
 
 abbrev pub AsksForNone : CommandName → List (List ℕ) → Type 0
 AsksForNone first rest = (command : Command) → AsksFor first rest command → ⊥
@@ -71,3 +73,4 @@ IsWithinLimits (Snapshot name) = name ≢ log_name
 IsWithinLimits PolicyApply = Unit {0}
 IsWithinLimits (Explain space text) = Unit {0}
 IsWithinLimits (Annotate skip ids message) = (0 < length ids) × (length ids ≤ 256) × (length message ≤ 65536)
+IsWithinLimits (Approve name target) = name ≢ log_name

@@ -1,5 +1,7 @@
 -- What holds of the grammar.
 use Rattle.std.specs.Prelude.{◌≡◌, ◌≢◌, ◌++◌, ◌∷◌, [], ℕ, Bool, true, false, List, None, codes}
+use Rattle.hex.specs.Hex.{encode_lower}
+use Rattle.git_object.specs.Ids.{IsId}
 use Rattle.git_object.specs.Names.{IsRefName, log_name}
 use Rattle.ref_patterns.specs.Patterns.{prefix}
 use Rattle.ref_patterns.specs.declared.space.Space.{Space}
@@ -7,7 +9,7 @@ use Rattle.word_values.specs.Ids.{AreIds}
 use Rattle.command_words.specs.Commands.{height_text, kind_text, width_text}
 use Rattle.command_words.specs.FirstWords.{IsCommand}
 use Rattle.command_words.specs.declared.commands.Command.{Command}
-use Rattle.command_words.specs.declared.commands.Command.TheVariants.{VerifyRef, Export, Import, KeyGen, Log, Record, Seal, Snapshot, PolicyApply, Explain, Annotate}
+use Rattle.command_words.specs.declared.commands.Command.TheVariants.{VerifyRef, Export, Import, KeyGen, Log, Record, Seal, Snapshot, PolicyApply, Explain, Annotate, Approve}
 use Rattle.command_words.specs.declared.commands.Height.{Height}
 use Rattle.command_words.specs.declared.commands.Width.{Width}
 
@@ -36,3 +38,4 @@ pub record PlainWords : Type 0 where
   pub policy_apply : IsCommand (codes "policy-apply" ∷ []) PolicyApply
   pub explain : (space : Space) (text : List ℕ) → IsCommand (codes "explain" ∷ (prefix space ++ text) ∷ []) (Explain space text)
   pub annotate : (skip : Bool) (text : List ℕ) (ids : List (List ℕ)) → AreIds 256 text ids → IsCommand (codes "annotate" ∷ kind_text skip ∷ text ∷ []) (Annotate skip ids [])
+  pub approve : (name target : List ℕ) → IsRefName name → name ≢ log_name → IsId target → IsCommand (codes "approve" ∷ name ∷ encode_lower target ∷ []) (Approve name target)

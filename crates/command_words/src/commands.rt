@@ -1,6 +1,6 @@
 //! The commands.
 
-use git_object::{Ids, KeyId, RefName};
+use git_object::{Ids, KeyId, ObjectId, RefName};
 use octets::{Items, Octets};
 use ref_patterns::Space;
 
@@ -70,6 +70,11 @@ pub enum Command {
         ids: Ids,
         message: Octets,
     },
+    /// To sign that a reference may move from where the log has it to the tree of a target.
+    Approve {
+        name: RefName,
+        target: ObjectId,
+    },
 }
 
 /// The first word of a command.
@@ -86,4 +91,5 @@ pub enum CommandName {
     PolicyApply,
     Explain,
     Annotate,
+    Approve,
 }

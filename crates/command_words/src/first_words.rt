@@ -59,5 +59,8 @@ pub(crate) fn named(word: &str) -> Option<CommandName>
     if is_word(word, "annotate") {
         return Some(CommandName::Annotate);
     }
+    if is_word(word, "approve") {
+        return Some(CommandName::Approve);
+    }
     None
 }

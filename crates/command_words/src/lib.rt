@@ -10,6 +10,7 @@
 #![tactic(auto)]
 
 mod annotating;
+mod approving;
 mod arguments;
 mod bare_words;
 mod commands;

@@ -4,6 +4,7 @@ ghost use Rattle.std.specs.Prelude.{map, string_bytes, IfOk, IsErrOf};
 ghost use Rattle.command_words.specs.FirstWords.{AreNamed, AsksFor, AsksForNone, IsCommand, IsNoCommand, IsWithinLimits};
 
 use crate::annotating::read_annotate;
+use crate::approving::read_approve;
 use crate::bare_words::read_no_more;
 use crate::commands::{Command, CommandName};
 use crate::explaining::read_explain;
@@ -50,11 +51,13 @@ fn read_rest(alloc: Global, first: CommandName, words: &[String]) -> Result<Comm
         }
         CommandName::Explain => read_explain(alloc, words),
         CommandName::Annotate => read_annotate(alloc, words),
+        CommandName::Approve => read_approve(alloc, words),
     }
 }
 
-/// The command that words ask for, whose values are within their limits, and whose reference is not the log's own. `Outside` comes exactly where they ask for
-/// none, want of memory aside; want of memory comes only where the first word is the name of a command.
+/// The command that words ask for, whose values are within their limits, and whose reference is not the log's own.
+/// `Outside` comes exactly where they ask for none, want of memory aside; want of memory comes only where the first word
+/// is the name of a command.
 pub fn read_command(alloc: Global, words: &[String]) -> Result<Command, WordsFault>
     ensures found { IfOk result (IsCommand (map string_bytes words.now)) }
     ensures within { IfOk result IsWithinLimits }

@@ -62,6 +62,10 @@ fn told(command: &Command) -> Told {
         Command::Annotate { skip, ids, message } => {
             (CommandName::Annotate, ids.len(), message.len(), *skip)
         }
+        Command::Approve { name, target } => {
+            let last = usize::from(target.as_bytes()[31]);
+            (CommandName::Approve, name.text().len(), last, false)
+        }
     }
 }
 
@@ -176,6 +180,10 @@ fn values_are_read(rt: HostRuntime) -> Result<(), Fail> {
             &["annotate", "note", ID, "--message", "a b"],
             (CommandName::Annotate, 1, 3, false),
         ),
+        (
+            &["approve", MAIN, ID],
+            (CommandName::Approve, 15, 0xef, false),
+        ),
     ] {
         assert_eq!(rt; read(alloc, texts)?, Ok(told));
     }
@@ -225,6 +233,8 @@ fn other_values_are_outside(rt: HostRuntime) -> Result<(), Fail> {
         &["explain", ""],
         &["annotate", "skips", ID],
         &["annotate", "skip", ""],
+        &["approve", MAIN, "11"],
+        &["approve", LOG, ID],
     ] {
         assert_eq!(rt; read(alloc, texts)?, Err(WordsFault::Outside));
     }
@@ -239,6 +249,18 @@ fn notes_have_a_bound(rt: HostRuntime) -> Result<(), Fail> {
     let told = read(alloc, &["annotate", "note", most.as_str()])?;
     assert_eq!(rt; told, Ok((CommandName::Annotate, 256, 0, false)));
     let told = read(alloc, &["annotate", "note", more.as_str()])?;
+    assert_eq!(rt; told, Err(WordsFault::Outside));
+    Ok(())
+}
+
+#[test]
+fn roots_have_a_bound(rt: HostRuntime) -> Result<(), Fail> {
+    let alloc = rt.alloc();
+    let most = list_of(alloc, ID, 64)?;
+    let more = list_of(alloc, ID, 65)?;
+    let told = read(alloc, &["verify-ref", MAIN, "--root", most.as_str()])?;
+    assert_eq!(rt; told, Ok((CommandName::VerifyRef, 15, 64, false)));
+    let told = read(alloc, &["verify-ref", MAIN, "--root", more.as_str()])?;
     assert_eq!(rt; told, Err(WordsFault::Outside));
     Ok(())
 }

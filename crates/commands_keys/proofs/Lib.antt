@@ -1,6 +1,4 @@
 mod ToldOutcome
-mod Placed
-mod OneKeyFile
 mod OneSeal
 mod ToldSeal
 mod SealedFrom

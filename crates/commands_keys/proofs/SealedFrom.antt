@@ -1,7 +1,6 @@
 -- Opening a key file, and then signing an envelope with it.
 use Rattle.std.proofs.Common.{◌≡◌, ℕ, false, List, sym, subst}
-use Rattle.std.specs.Prelude.{IfOk, IsUtf8, Some, Result, Ok, Err}
-use Rattle.octets.specs.declared.memory.Memory.{Memory}
+use Rattle.std.specs.Prelude.{Some}
 use Rattle.edge_disk.specs.Disk.{IsKept}
 use Rattle.edge_disk.specs.declared.disks.Disk as disk
 use Rattle.lms_keys.specs.Secret.{Secret}
@@ -11,13 +10,10 @@ use Rattle.key_file.specs.Using.{FindsNone}
 use Rattle.dsse_envelope.specs.Sealing.{has_room}
 use Rattle.dsse_envelope.specs.declared.envelope.Envelope.{Envelope}
 use Rattle.dsse_envelope.specs.declared.envelope.Signature.{Signature}
-use Rattle.commands_keys.specs.EnvelopeSigning.{Holds, RefusesSigning, Seals, Signs, signed_text}
+use Rattle.key_seals.specs.Seals.{signed_text}
+use Rattle.commands_keys.specs.EnvelopeSigning.{Holds, RefusesSigning, Seals, Signs}
 use Rattle.commands_keys.specs.declared.envelope_signing.SigningFault.{SigningFault}
 use Rattle.commands_keys.specs.declared.envelope_signing.SigningFault.TheVariants.{Unopened, Full, Exhausted, DiskFailed, Memory as NoMemory, MemoryAfter}
-
-pub text_of_bytes : (made : Result (List ℕ) Memory) (bytes : List ℕ) → IfOk made (λ text. text ≡ bytes) → IsUtf8 bytes → IfOk made IsUtf8
-text_of_bytes (Ok text) bytes is utf8 = subst IsUtf8 (sym is) utf8
-text_of_bytes (Err none) bytes is utf8 = tt
 
 pub no_place : (text keyid : List ℕ) (among signatures : List Signature) → text ≡ keyid → among ≡ signatures → has_room text among ≡ false → has_room keyid signatures ≡ false
 no_place text keyid among signatures same these none = cc

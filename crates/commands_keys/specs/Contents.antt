@@ -7,7 +7,7 @@ use Rattle.key_file.specs.declared.open_keys.OpenFault.TheVariants as open_fault
 use Rattle.dsse_envelope.specs.Envelopes.{reading}
 use Rattle.dsse_envelope.specs.Sealing.{has_room}
 use Rattle.dsse_envelope.specs.declared.envelope.Envelope.{Envelope}
-use Rattle.commands_keys.specs.EnvelopeSigning.{id_text}
+use Rattle.key_seals.specs.Seals.{id_text}
 use Rattle.commands_keys.specs.Inputs.{IsGiven}
 use Rattle.commands_keys.specs.declared.envelope_signing.SigningFault.{SigningFault}
 use Rattle.commands_keys.specs.declared.envelope_signing.SigningFault.TheVariants as signing

@@ -2,33 +2,18 @@
 use Rattle.std.specs.Prelude.{◌≡◌, ◌++◌, ℕ, Bool, true, false, List, Some, Result, Ok, Err, codes}
 use Rattle.edge_disk.specs.Disk.{IsKept}
 use Rattle.edge_disk.specs.declared.disks.Disk as disk
-use Rattle.hex.specs.Hex.{encode_lower}
-use Rattle.sha2.specs.Sha256.{sha256}
-use Rattle.lms_keys.specs.PublicKey.{key_bytes}
-use Rattle.lms_keys.specs.Secret.{Secret, public_key_of}
+use Rattle.lms_keys.specs.Secret.{Secret}
 use Rattle.leaf_journal.specs.KeyFile.{IsKeyFile}
 use Rattle.key_file.specs.Files.{IsUsedUp}
 use Rattle.key_file.specs.Opening.{WhyUnopened, open_failed}
 use Rattle.key_file.specs.Using.{MayTear, SignsWith}
-use Rattle.dsse_envelope.specs.Authentication.{pae}
 use Rattle.dsse_envelope.specs.Envelopes.{reading}
 use Rattle.dsse_envelope.specs.Sealing.{has_room, sealed}
 use Rattle.dsse_envelope.specs.Written.{text_of}
 use Rattle.dsse_envelope.specs.declared.envelope.Envelope.{Envelope}
-use Rattle.dsse_envelope.specs.declared.envelope.Signature.{Signature}
+use Rattle.key_seals.specs.Seals.{id_text, signature_by, signed_text}
 use Rattle.commands_keys.specs.declared.envelope_signing.SigningFault.{SigningFault}
 use Rattle.commands_keys.specs.declared.envelope_signing.SigningFault.TheVariants.{Unopened, Full, Exhausted, DiskFailed, Memory, MemoryAfter}
-
--- the id of a key in lower-case hexadecimal
-abbrev pub id_text : Secret → List ℕ
-id_text secret = encode_lower (sha256 (key_bytes (public_key_of secret)))
-
-abbrev pub signature_by : Secret → List ℕ → Signature
-signature_by secret bytes = record { keyid = id_text secret; sig = bytes }
-
--- what is signed of an envelope
-abbrev pub signed_text : Envelope → List ℕ
-signed_text e = pae e.payload_type e.payload
 
 -- the text of an envelope and a line feed
 abbrev pub line_of : Envelope → List ℕ

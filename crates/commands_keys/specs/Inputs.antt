@@ -1,9 +1,8 @@
 -- What is sealed: what the source gives.
-use Rattle.std.specs.Prelude.{◌≡◌, ◌≤◌, ℕ, Bool, true, false, All, IsUtf8, List, [], length, Option, Result, Ok, Err, codes}
+use Rattle.std.specs.Prelude.{◌≡◌, ◌≤◌, ℕ, Bool, true, false, List, [], length, Option, Result, Ok, Err, codes}
 use Rattle.octets.specs.Content.{with_front}
 use Rattle.edge_io.specs.Read.{HasMore, HasRead, IsAtEnd}
 use Rattle.dsse_envelope.specs.Envelopes.{reading}
-use Rattle.dsse_envelope.specs.Written.{HasTextId}
 use Rattle.dsse_envelope.specs.declared.envelope.Envelope.{Envelope}
 use Rattle.commands_keys.specs.declared.inputs.InputFault.{InputFault}
 use Rattle.commands_keys.specs.declared.inputs.InputFault.TheVariants.{TooLong, NoEnvelope, SourceFailed, Memory}
@@ -16,12 +15,6 @@ unsigned payload = record { payload_type = codes "application/vnd.gittuf+json"; 
 abbrev pub IsGiven : Bool → List ℕ → Envelope → Type 0
 IsGiven false bytes e = e ≡ unsigned bytes
 IsGiven true bytes e = reading bytes ≡ Ok e
-
--- an envelope that can be written once it has a signature more
-pub record IsSealable (e : Envelope) : Type 0 where
-  pub few : length e.signatures ≤ 64
-  pub type_text : IsUtf8 e.payload_type
-  pub ids : All HasTextId e.signatures
 
 -- why the bytes give nothing to seal
 abbrev pub WhyNotGiven : Bool → List ℕ → InputFault → Type 0

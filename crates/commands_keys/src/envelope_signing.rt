@@ -6,19 +6,18 @@ ghost use Rattle.edge_disk.specs.Moments.{LeavesOnly};
 ghost use Rattle.leaf_journal.specs.KeyFile.{KeepsUsed};
 ghost use Rattle.leaf_journal.specs.Signing.{IsLoaded};
 ghost use Rattle.lms_keys.specs.LmsType.{signature_len};
-ghost use Rattle.lms_keys.specs.Secret.{public_key_of};
 ghost use Rattle.dsse_envelope.specs.Envelopes.{reading};
-ghost use Rattle.dsse_envelope.specs.Sealing.{has_room, place_of, sealed};
+ghost use Rattle.dsse_envelope.specs.Sealing.{has_room, sealed};
 ghost use Rattle.dsse_envelope.specs.Written.{HasTextId, text_of};
-ghost use Rattle.commands_keys.specs.EnvelopeSigning.{SigningEnds, disk_failed, id_text, line_of};
-ghost use Rattle.commands_keys.specs.Inputs.{IsSealable};
+ghost use Rattle.key_seals.specs.Seals.{IsSealable, id_text};
+ghost use Rattle.commands_keys.specs.EnvelopeSigning.{SigningEnds, disk_failed, line_of};
 
-use dsse_envelope::{Envelope, Signature, pae};
+use dsse_envelope::{Envelope, Signature};
 use edge_disk::Disk;
 use key_file::{OpenFault, OpenKey, open_key, use_leaf};
+use key_seals::{has_place, id_text, sealed, signed_text};
 use leaf_journal::SignFault;
 use octets::{Memory, Octets};
-use root_metadata::key_id;
 use std::alloc::Global;
 
 /// Why an envelope was not signed.
@@ -38,52 +37,15 @@ pub enum SigningFault {
     MemoryAfter,
 }
 
-// The id of an open key as text.
-fn id_text(alloc: Global, key: &OpenKey) -> Result<Octets, Memory>
-    ensures text { IfOk result (λ text. text ≡ id_text key.now.signer.secret) }
-    ensures utf8 { IfOk result IsUtf8 }
-{
-    let id = key_id(&key.public().write());
-    let text = hex::encode(alloc, id.0)?;
-    Octets::from_slice(alloc, text.as_bytes())
-}
-
-// The place of the first signature of this key.
-fn place_of(keyid: &[u8], signatures: &[Signature]) -> Option<usize>
-    ensures { result ≡ place_of keyid.now signatures.now }
-{
-    signatures
-        .iter()
-        .position(|signature| signature.keyid.as_slice() == keyid)
-}
-
-// Whether a signature of this key has a place among these.
-fn has_place(keyid: &[u8], signatures: &[Signature]) -> bool
-    ensures { result ≡ has_room keyid.now signatures.now }
-{
-    match place_of(keyid, signatures) {
-        Some(_) => true,
-        None => signatures.len() < 64,
-    }
-}
-
 // The line of an envelope with a signature in its place.
-fn sealed_line(
-    alloc: Global,
-    mut envelope: Envelope,
-    signature: Signature,
-) -> Result<Octets, Memory>
+fn sealed_line(alloc: Global, envelope: Envelope, signature: Signature) -> Result<Octets, Memory>
     requires sealable { IsSealable envelope }
     requires id { HasTextId signature }
     requires place { has_room signature.keyid envelope.signatures ≡ true }
     ensures line { IfOk result (λ line. line ≡ line_of (sealed signature envelope)) }
     ensures reads_back { IfOk result (λ line. reading (text_of (sealed signature envelope)) ≡ Ok (sealed signature envelope)) }
 {
-    match envelope.seal(alloc, signature) {
-        Ok(()) => {}
-        Err(dsse_envelope::SealFault::Full) => unreachable!(),
-        Err(dsse_envelope::SealFault::Memory) => return Err(Memory),
-    }
+    let envelope = sealed(alloc, envelope, signature)?;
     let mut line = envelope.write(alloc)?;
     line.append(b"\n")?;
     Ok(line)
@@ -107,11 +69,7 @@ fn sign_with<D: Disk>(
     ensures any_moment { LeavesOnly D.moment D.left_since disk.old disk.new (KeepsUsed (D.may_leave disk.old)) }
     ensures cause { HasCause disk_failed (D.faults disk.old) (D.faults disk.new) result }
 {
-    let Ok(text) = pae(
-        alloc,
-        envelope.payload_type.as_slice(),
-        envelope.payload.as_slice(),
-    ) else {
+    let Ok(text) = signed_text(alloc, &envelope) else {
         return Err(SigningFault::Memory);
     };
     let sig = match use_leaf(key, disk, text.as_slice()) {

@@ -2,7 +2,8 @@
 
 ghost use Rattle.std.specs.Prelude.{◌≡◌, IfOk, IfErr, true};
 ghost use Rattle.octets.specs.Causes.{HasCause};
-ghost use Rattle.commands_keys.specs.Inputs.{InputEnds, IsGiven, IsSealable, WhyNotGiven, source_failed, unsigned};
+ghost use Rattle.key_seals.specs.Seals.{IsSealable};
+ghost use Rattle.commands_keys.specs.Inputs.{InputEnds, IsGiven, WhyNotGiven, source_failed, unsigned};
 
 use dsse_envelope::{Envelope, EnvelopeFault, Signatures};
 use edge_io::{ReadFault, Source, read_all};

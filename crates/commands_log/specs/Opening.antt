@@ -42,6 +42,15 @@ unread_disk TooLarge = false
 unread_disk KeeperFailed = false
 unread_disk Memory = false
 
+-- a log is not refused for its length
+abbrev pub IsAnyLength : ReadingFault → Type 0
+IsAnyLength KeyFile = Unit {0}
+IsAnyLength DiskFailed = Unit {0}
+IsAnyLength (LogBroken id) = Unit {0}
+IsAnyLength TooLarge = ⊥
+IsAnyLength KeeperFailed = Unit {0}
+IsAnyLength Memory = Unit {0}
+
 module _ {R D : Type 0} (keeper_of : keeper.Ghosts R) (disk_of : disk.Ghosts D) (store : R) (file : D) where
   -- the disk holds a key file
   abbrev pub HoldsKey : Type 0

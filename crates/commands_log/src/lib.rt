@@ -24,7 +24,7 @@ mod values;
 
 pub use annotating::annotate;
 pub use appending::{AppendFault, Appended, append_entry};
-pub use lines::{LONGEST_LINE, write_entry_line};
-pub use opening::{OpenLog, ReadingFault, open_log, unread_log};
+pub use lines::{LONGEST_LINE, append, write_entry_line};
+pub use opening::{OpenLog, ReadingFault, open_log, open_whole_log, unread_log};
 pub use outcomes::record_ending;
 pub use recording::{RecordFault, record, tell_unread};

@@ -11,8 +11,8 @@ use itoa::Buffer;
 /// The most bytes of a line.
 pub const LONGEST_LINE: usize = 92;
 
-// Adds bytes, for which there is room.
-fn append(line: &mut Vec<u8>, bytes: &[u8])
+/// Adds bytes to a line that has room for them.
+pub fn append(line: &mut Vec<u8>, bytes: &[u8])
     requires { length line.old.items + length bytes.now ≤ vec_capacity line.old }
     ensures added { line.new.items ≡ line.old.items ++ bytes.now }
     ensures room { vec_capacity line.old ≤ vec_capacity line.new }

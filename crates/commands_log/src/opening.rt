@@ -9,7 +9,7 @@ ghost use Rattle.edge_disk.specs.Moments.{LeavesOnly};
 ghost use Rattle.lms_keys.specs.LmsType.{signature_len};
 ghost use Rattle.leaf_journal.specs.Signing.{IsLoaded};
 ghost use Rattle.rsl_chain.specs.Logs.{IsLogOf};
-ghost use Rattle.commands_log.specs.Opening.{WhyUnread, log_fault, opened_fault, unread_disk, unread_keeper};
+ghost use Rattle.commands_log.specs.Opening.{IsAnyLength, WhyUnread, log_fault, opened_fault, unread_disk, unread_keeper};
 
 use edge_disk::Disk;
 use git_object::ObjectId;
@@ -32,7 +32,7 @@ pub enum ReadingFault {
     Memory,
 }
 
-/// A key file that is open, and the log of a store, of fewer than 1,000,000 entries.
+/// A key file that is open, and the log of a store.
 #[derive(Drop)]
 pub struct OpenLog {
     pub key: OpenKey,
@@ -60,6 +60,38 @@ pub fn unread_log(fault: LogFault) -> ReadingFault
     }
 }
 
+/// Opens the key file that a disk holds, and then loads the log of a store, however many entries it has. `KeyFile` comes
+/// exactly where there is no key file, and `LogBroken` where there is one and the log breaks. It reads the commit of each
+/// entry once.
+pub fn open_whole_log<R: Keeper, D: Disk>(
+    alloc: Global,
+    keeper: &mut R,
+    disk: &mut D,
+) -> Result<OpenLog, ReadingFault>
+    ensures loaded { IfOk result (λ opened. (file : List ℕ) → D.seen disk.new ≡ Some file → IsLoaded file opened.key.signer) }
+    ensures room { IfOk result (λ opened. length opened.key.room.items ≡ signature_len opened.key.signer.secret.lms opened.key.signer.secret.ots) }
+    ensures log { IfOk result (λ opened. (r : Repository) → R.content keeper.new ≡ Some r → IsLogOf r opened.log.ids) }
+    ensures few { IfOk result (λ opened. length opened.log.ids ≤ 1000000) }
+    ensures why { IfErr result (WhyUnread R.Keeper D.Disk keeper.new disk.new) }
+    ensures any_length { IfErr result IsAnyLength }
+    ensures same { Undisturbed R.Keeper keeper.old keeper.new }
+    ensures kept { IsKept (D.seen disk.old) (D.seen disk.new) (D.may_leave disk.old) (D.may_leave disk.new) }
+    ensures any_moment { LeavesOnly D.moment D.left_since disk.old disk.new (D.may_leave disk.old) }
+    ensures keeper { HasCause unread_keeper (R.faults keeper.old) (R.faults keeper.new) result }
+    ensures disk { HasCause unread_disk (D.faults disk.old) (D.faults disk.new) result }
+    ensures reads { R.reads keeper.new ≤ R.reads keeper.old + 1000000 }
+{
+    let key = match open_key(alloc, disk) {
+        Ok(key) => key,
+        Err(fault) => return Err(of_key(fault)),
+    };
+    let log = match Log::load(alloc, keeper) {
+        Ok(log) => log,
+        Err(fault) => return Err(unread_log(fault)),
+    };
+    Ok(OpenLog { key, log })
+}
+
 /// Opens the key file that a disk holds, and then loads the log of a store. `KeyFile` comes exactly where there is no
 /// key file, `LogBroken` where there is one and the log breaks, and `TooLarge` where there is one and the log has
 /// 1,000,000 entries. It reads the commit of each entry once.
@@ -80,16 +112,12 @@ pub fn open_log<R: Keeper, D: Disk>(
     ensures disk { HasCause unread_disk (D.faults disk.old) (D.faults disk.new) result }
     ensures reads { R.reads keeper.new ≤ R.reads keeper.old + 1000000 }
 {
-    let key = match open_key(alloc, disk) {
-        Ok(key) => key,
-        Err(fault) => return Err(of_key(fault)),
+    let opened = match open_whole_log(alloc, keeper, disk) {
+        Ok(opened) => opened,
+        Err(fault) => return Err(fault),
     };
-    let log = match Log::load(alloc, keeper) {
-        Ok(log) => log,
-        Err(fault) => return Err(unread_log(fault)),
-    };
-    if log.ids.len() >= 1000000 {
+    if opened.log.ids.len() >= 1000000 {
         return Err(ReadingFault::TooLarge);
     }
-    Ok(OpenLog { key, log })
+    Ok(opened)
 }

@@ -1,8 +1,16 @@
+-- a stream that is taken into the store, or refused
 pub mod Taking
+-- the verdicts, and the ids of keys that are given
 pub mod Verdicts
+-- the verdict on a reference of the store that is open
 pub mod Judging
+-- what each outcome of `verify-ref` means
 pub mod Verifying
+-- what each outcome of `import` means
 pub mod Importing
+-- what each outcome of `export` means
 pub mod Exporting
+-- what each command comes to
 pub mod Contents
+-- the laws of these commands
 pub mod Laws

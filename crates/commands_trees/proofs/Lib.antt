@@ -1,5 +1,4 @@
 mod CommitAt
-mod Committed
 mod ListingMade
 mod Stored
 mod OneSnapshot

@@ -6,8 +6,9 @@ use Rattle.git_object.specs.Repository.{Repository}
 use Rattle.keeper_api.specs.Undisturbed.{Undisturbed}
 use Rattle.keeper_api.specs.declared.changes.Change.{Change}
 use Rattle.keeper_api.specs.declared.keepers.Keeper as keeper
+use Rattle.store_changes.proofs.Committed.{gains_from, may_gain_from}
 use Rattle.commands_trees.specs.Parents.{IsParent, WhyNoParent}
-use Rattle.commands_trees.specs.Stores.{Gains, MayGain}
+use Rattle.store_changes.specs.Stores.{Gains, MayGain}
 use Rattle.commands_trees.specs.Storing.{Asks, RefusesStoring, Stores, no_parent, snapshot_change, snapshot_commit}
 use Rattle.commands_trees.specs.declared.making.Made.{Made}
 use Rattle.commands_trees.specs.declared.parents.ParentFault.{ParentFault}
@@ -22,20 +23,6 @@ module _ {R : Type 0} (keeper_of : keeper.Ghosts R) (name : List ℕ) (made : Ma
   unstored old new same unasked Memory why = record { same = same; asked = inl unasked }
 
   module _ (old mid new : R) (first : Undisturbed keeper_of old mid) where
-    gains_from : (change : Change) → Gains keeper_of mid new change → Gains keeper_of old new change
-    gains_from change gains = record {
-      held = λ now held. (let was = gains.held now held in (was.0, first.content was.0 was.1, was.2));
-      tells = λ tells. first.tells (gains.tells tells);
-      stop = gains.stop;
-    }
-
-    may_gain_from : (change : Change) → MayGain keeper_of mid new change → MayGain keeper_of old new change
-    may_gain_from change gains = record {
-      held = λ now held. (let was = gains.held now held in (was.0, first.content was.0 was.1, was.2));
-      tells = λ tells. first.tells (gains.tells tells);
-      stop = λ tells r left. ⊎_elim (λ past. inl ((first.left (gains.tells tells) r).0 past)) (λ was. inr (was.0, first.content was.0 was.1, was.2)) (gains.stop tells r left);
-    }
-
     module _ (parent : Option (List ℕ)) (is : (r : Repository) → keeper_of.content mid ≡ Some r → IsParent r name parent) (seconds : ℕ) (asked : Asks time time_now seconds) where
       pub stored : (id : List ℕ) → id ≡ pair_id (snapshot_commit made parent seconds) → Gains keeper_of mid new (snapshot_change name made.objects (snapshot_commit made parent seconds))
           → Stores keeper_of name made time time_now old new (Gains keeper_of old new) id
@@ -45,7 +32,7 @@ module _ {R : Type 0} (keeper_of : keeper.Ghosts R) (name : List ℕ) (made : Ma
         seconds = seconds;
         asked = asked;
         id_is = id_is;
-        held = gains_from (snapshot_change name made.objects (snapshot_commit made parent seconds)) gains;
+        held = gains_from keeper_of old mid new first (snapshot_change name made.objects (snapshot_commit made parent seconds)) gains;
       }
 
       pub may_be_stored : MayGain keeper_of mid new (snapshot_change name made.objects (snapshot_commit made parent seconds))
@@ -58,6 +45,6 @@ module _ {R : Type 0} (keeper_of : keeper.Ghosts R) (name : List ℕ) (made : Ma
           seconds = seconds;
           asked = asked;
           id_is = refl;
-          held = may_gain_from (snapshot_change name made.objects (snapshot_commit made parent seconds)) gains;
+          held = may_gain_from keeper_of old mid new first (snapshot_change name made.objects (snapshot_commit made parent seconds)) gains;
         },
       )

@@ -2,8 +2,6 @@
 pub mod Making
 -- where a reference stands before a snapshot
 pub mod Parents
--- what a commit does to a store
-pub mod Stores
 -- what storing a snapshot does
 pub mod Storing
 -- what each outcome of `snapshot` means

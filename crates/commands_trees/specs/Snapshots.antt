@@ -8,7 +8,7 @@ use Rattle.endings.specs.declared.ending.Ending.TheVariants.{Done, Refused}
 use Rattle.endings.specs.declared.ending.Part.TheVariants as part
 use Rattle.endings.specs.declared.ending.Refusal.TheVariants as refusal
 use Rattle.commands_trees.specs.Making.{RefusesInput, Takes}
-use Rattle.commands_trees.specs.Stores.{Gains}
+use Rattle.store_changes.specs.Stores.{Gains}
 use Rattle.commands_trees.specs.Storing.{RefusesStoring, Stores}
 use Rattle.commands_trees.specs.declared.making.InputFault.{InputFault}
 use Rattle.commands_trees.specs.declared.making.InputFault.TheVariants as input

@@ -11,7 +11,7 @@ use Rattle.keeper_api.specs.declared.keeper_faults.KeeperFault.TheVariants as no
 use Rattle.keeper_api.specs.declared.keepers.Keeper as keeper
 use Rattle.commit_texts.specs.Texts.{commit_pair}
 use Rattle.commands_trees.specs.Parents.{HasNoCommit, IsParent}
-use Rattle.commands_trees.specs.Stores.{Gains, MayGain}
+use Rattle.store_changes.specs.Stores.{Gains, MayGain}
 use Rattle.commands_trees.specs.declared.making.Made.{Made}
 use Rattle.commands_trees.specs.declared.parents.ParentFault.{ParentFault}
 use Rattle.commands_trees.specs.declared.parents.ParentFault.TheVariants as parent

@@ -14,6 +14,7 @@ use git_object::{Memory, Object, ObjectId, Objects, RefName};
 use keeper_api::{Change, Keeper, KeeperFault, RefChange, RefChanges};
 use octets::Copied;
 use std::alloc::Global;
+use store_changes::commit_change;
 
 /// Why the objects of a listing were not stored.
 #[derive(Clone, Copy, Debug, PartialEq, Eq)]
@@ -69,7 +70,7 @@ fn commit_made<R: Keeper>(
     let Ok(change) = change_of(alloc, name, objects, commit) else {
         return Err(KeeperFault::Memory);
     };
-    match keeper.commit(alloc, &change) {
+    match commit_change(alloc, &change, keeper) {
         Ok(()) => Ok(id),
         Err(KeeperFault::Failed) => Err(KeeperFault::Failed),
         Err(KeeperFault::Memory) => Err(KeeperFault::Memory),

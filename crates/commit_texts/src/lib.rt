@@ -13,9 +13,9 @@ use itoa::Buffer;
 use octets::{Memory, Octets};
 use std::alloc::Global;
 
-// Who writes a commit, and when.
+/// Who writes a commit, and when: `gittuf <gittuf@localhost>`, so many seconds since the beginning of 1970 (UTC).
 #[tactic(auto, unfolding(crate::specs::Texts::author_of))]
-fn author_text(alloc: Global, seconds: u64) -> Result<Octets, Memory>
+pub fn author_text(alloc: Global, seconds: u64) -> Result<Octets, Memory>
     ensures { IfOk result (λ text. text ≡ author_of seconds) }
 {
     let mut digits = Buffer::new();

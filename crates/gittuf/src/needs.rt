@@ -40,6 +40,7 @@ pub(crate) fn needs_of(alloc: Global, command: &[String]) -> Result<Needs, Refus
                 message: _,
             },
         ) => (true, true, false),
+        Ok(Command::Approve { name: _, target: _ }) => (true, true, false),
         Ok(Command::KeyGen { height, width: _ }) => (false, true, height == Height::H15),
         Err(WordsFault::Outside) => return Err(Refusal::Words),
         Err(WordsFault::Memory) => return Err(Refusal::Memory),

@@ -5,6 +5,7 @@ use Rattle.command_words.specs.declared.commands.Command.{Command}
 use Rattle.command_words.specs.declared.commands.Command.TheVariants as command
 use Rattle.endings.proofs.Lifted.{one_ending}
 use Rattle.endings.specs.declared.ending.Ending.{Ending}
+use Rattle.commands_approvals.specs.Outcomes.{ApproveComes, OneOfApprovals, approve_ending}
 use Rattle.commands_history.specs.Laws.{LogComes, OneOfHistory}
 use Rattle.commands_history.specs.Logging.{log_ending}
 use Rattle.commands_keys.specs.Contents.{KeyGenComes, SealComes}
@@ -22,7 +23,7 @@ use Rattle.commands_store.specs.Verifying.{verify_ending}
 use Rattle.commands_trees.specs.OutcomeLaws.{OneOfTrees}
 use Rattle.gittuf_cli.specs.Contents.{Comes, Content, IsSettledFor, OneOutcome}
 
-module _ (store : OneOfStore) (keys : OneOfKeys) (history : OneOfHistory) (log : OneOfLog) (trees : OneOfTrees) (policy : OneOfPolicy) where
+module _ (store : OneOfStore) (keys : OneOfKeys) (history : OneOfHistory) (log : OneOfLog) (trees : OneOfTrees) (policy : OneOfPolicy) (approvals : OneOfApprovals) where
   one_comes : (c : Command) (content : Content) → IsSettledFor c content → (x y : Ending) → Comes c content x → Comes c content y → x ≡ y
   one_comes (command.VerifyRef name root stdin) content settled = one_ending verify_ending (VerifyComes name root stdin content.held content.bytes) (store.verify name root stdin content.held content.bytes)
   one_comes command.Export content settled = one_ending export_ending (ExportComes content.held) (store.export content.held)
@@ -36,6 +37,7 @@ module _ (store : OneOfStore) (keys : OneOfKeys) (history : OneOfHistory) (log :
   one_comes command.PolicyApply content settled = one_ending apply_ending (ApplyComes content.file content.held) (policy.applied content.file content.held)
   one_comes (command.Explain space text) content settled = one_ending explain_ending (ExplainComes content.held) (policy.explained content.held)
   one_comes (command.Annotate skip ids message) content settled = one_ending record_ending (RecordComes content.file content.held) (log.recorded content.file content.held)
+  one_comes (command.Approve name target) content settled = one_ending approve_ending (ApproveComes name target content.file content.held) (approvals.approved name target content.file content.held)
 
   pub same_outcome : OneCommand → OneOutcome
   same_outcome commands words content a b settled (inl none) (inl also) = none.0 ∙ sym also.0

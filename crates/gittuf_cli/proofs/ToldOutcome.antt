@@ -14,6 +14,9 @@ use Rattle.command_words.specs.declared.commands.Command.TheVariants as command
 use Rattle.endings.proofs.Lifted.{told_ending}
 use Rattle.endings.specs.Endings.{IsStopped}
 use Rattle.endings.specs.declared.ending.Ending.{Ending}
+use Rattle.commands_approvals.specs.Approving.{ApproveEnds}
+use Rattle.commands_approvals.specs.Outcomes.{ApproveComes, TellsOfApprovals, approve_ending}
+use Rattle.commands_approvals.specs.declared.approving.ApproveFault.{ApproveFault}
 use Rattle.commands_history.specs.Laws.{LogComes, TellsOfHistory}
 use Rattle.commands_history.specs.Logging.{LogEnds, log_ending}
 use Rattle.commands_history.specs.declared.faults.LogCommandFault.{LogCommandFault}
@@ -50,7 +53,7 @@ use Rattle.gittuf_cli.specs.Worlds.{World}
 same_some : {X : Type 0} (x y : X) (told : Option X) → told ≡ Some x → told ≡ Some y → x ≡ y
 same_some x y told e f = cc
 
-module _ {S K R D E C : Type 0} (source_of : source.Ghosts S) (sink_of : sink.Ghosts K) (keeper_of : keeper.Ghosts R) (disk_of : disk.Ghosts D) (entropy_of : entropy.Ghosts E) (clock_of : clock.Ghosts C) (store : TellsOfStore keeper_of) (keys : TellsOfKeys disk_of) (history : TellsOfHistory) (log : TellsOfLog keeper_of disk_of) (trees : TellsOfTrees keeper_of) (policy : TellsOfPolicy keeper_of disk_of) where
+module _ {S K R D E C : Type 0} (source_of : source.Ghosts S) (sink_of : sink.Ghosts K) (keeper_of : keeper.Ghosts R) (disk_of : disk.Ghosts D) (entropy_of : entropy.Ghosts E) (clock_of : clock.Ghosts C) (store : TellsOfStore keeper_of) (keys : TellsOfKeys disk_of) (history : TellsOfHistory) (log : TellsOfLog keeper_of disk_of) (trees : TellsOfTrees keeper_of) (policy : TellsOfPolicy keeper_of disk_of) (approvals : TellsOfApprovals keeper_of disk_of) where
   told_comes : (c : Command) (before after : World S K R D E C) (ending : Ending) (content : Content)
       → Tells source_of sink_of keeper_of disk_of entropy_of clock_of c before after content
       → EndsOf source_of sink_of keeper_of disk_of entropy_of clock_of c before after ending → Comes c content ending ⊎ IsStopped ending
@@ -145,6 +148,14 @@ module _ {S K R D E C : Type 0} (source_of : source.Ghosts S) (sink_of : sink.Gh
       (RecordComes content.file content.held)
       (λ (outcome : Result (Unit {0}) RecordFault) means.
       log.annotated ids skip message (clock_of.left before.clock) (clock_of.left after.clock) content.held tells.0.now content.file tells.1.now before.keeper after.keeper before.disk after.disk (sink_of.contents before.sink) (sink_of.contents after.sink) outcome
+      tells.0.held tells.0.holds tells.1.held tells.1.holds means)
+      ending ends.0
+  told_comes (command.Approve name target) before after ending content tells ends =
+      told_ending approve_ending
+      (ApproveEnds keeper_of disk_of name target (clock_of.left before.clock) (clock_of.left after.clock) before.keeper after.keeper before.disk after.disk (sink_of.contents before.sink) (sink_of.contents after.sink))
+      (ApproveComes name target content.file content.held)
+      (λ (outcome : Result (Unit {0}) ApproveFault) means.
+      approvals.approved name target (clock_of.left before.clock) (clock_of.left after.clock) content.held tells.0.now content.file tells.1.now before.keeper after.keeper before.disk after.disk (sink_of.contents before.sink) (sink_of.contents after.sink) outcome
       tells.0.held tells.0.holds tells.1.held tells.1.holds means)
       ending ends.0
 

@@ -15,6 +15,7 @@ use Rattle.endings.specs.Endings.{IsStopped}
 use Rattle.endings.specs.declared.ending.Ending.{Ending}
 use Rattle.endings.specs.declared.ending.Ending.TheVariants.{Refused}
 use Rattle.endings.specs.declared.ending.Refusal.TheVariants as refusal
+use Rattle.commands_approvals.specs.Outcomes.{ApproveComes, approve_ending}
 use Rattle.commands_history.specs.Laws.{LogComes}
 use Rattle.commands_history.specs.Logging.{log_ending}
 use Rattle.commands_keys.specs.Contents.{KeyGenComes, SealComes}
@@ -51,6 +52,7 @@ Comes (command.Snapshot name) content = Ended snapshot_ending (SnapshotComes nam
 Comes command.PolicyApply content = Ended apply_ending (ApplyComes content.file content.held)
 Comes (command.Explain space text) content = Ended explain_ending (ExplainComes content.held)
 Comes (command.Annotate skip ids message) content = Ended record_ending (RecordComes content.file content.held)
+Comes (command.Approve name target) content = Ended approve_ending (ApproveComes name target content.file content.held)
 
 -- what is settled of the content where a command has one ending: nothing, but for the trees of a listing
 abbrev pub IsSettledFor : Command → Content → Type 0
@@ -97,6 +99,7 @@ module _ {S K R D E C : Type 0} (source_of : source.Ghosts S) (sink_of : sink.Gh
   Tells command.PolicyApply before after content = TellsStore before after content × TellsDisk before after content
   Tells (command.Explain space text) before after content = TellsStore before after content
   Tells (command.Annotate skip ids message) before after content = TellsStore before after content × TellsDisk before after content
+  Tells (command.Approve name target) before after content = TellsStore before after content × TellsDisk before after content
 
   -- where the content is told, an ending is the one for it, or the run stopped
   abbrev pub TellsOutcome : Type 0

@@ -19,6 +19,8 @@ use Rattle.endings.specs.Endings.{refusal_line, status_of}
 use Rattle.endings.specs.declared.ending.Ending.{Ending}
 use Rattle.endings.specs.declared.ending.Ending.TheVariants.{Done, Differs, Broken, Refused}
 use Rattle.endings.specs.declared.ending.Refusal.TheVariants as refusal
+use Rattle.commands_approvals.specs.Approving.{ApproveEnds}
+use Rattle.commands_approvals.specs.Outcomes.{approve_ending}
 use Rattle.commands_history.specs.Logging.{LogEnds, log_ending}
 use Rattle.commands_keys.specs.MakingKeys.{KeyGenEnds, key_gen_ending}
 use Rattle.commands_keys.specs.Sealing.{SealEnds, seal_ending}
@@ -88,6 +90,10 @@ module _ {S K R D E C : Type 0} (source_of : source.Ghosts S) (sink_of : sink.Gh
       × (after ≡ record before { sink = after.sink; keeper = after.keeper })
   EndsOf (command.Annotate skip ids message) before after ending =
       Ended record_ending (AnnotateEnds keeper_of disk_of ids skip message (clock_of.left before.clock) (clock_of.left after.clock) before.keeper after.keeper before.disk after.disk (sink_of.contents before.sink) (sink_of.contents after.sink)) ending
+      × LeavesOnly disk_of.moment disk_of.left_since before.disk after.disk (KeepsUsed (disk_of.may_leave before.disk))
+      × (after ≡ record before { sink = after.sink; keeper = after.keeper; disk = after.disk; clock = after.clock })
+  EndsOf (command.Approve name target) before after ending =
+      Ended approve_ending (ApproveEnds keeper_of disk_of name target (clock_of.left before.clock) (clock_of.left after.clock) before.keeper after.keeper before.disk after.disk (sink_of.contents before.sink) (sink_of.contents after.sink)) ending
       × LeavesOnly disk_of.moment disk_of.left_since before.disk after.disk (KeepsUsed (disk_of.may_leave before.disk))
       × (after ≡ record before { sink = after.sink; keeper = after.keeper; disk = after.disk; clock = after.clock })
 

@@ -9,6 +9,7 @@ ghost use Rattle.gittuf_cli.specs.Worlds.{faults_of, world_of};
 use crate::Outside;
 use crate::key_types::{lms_of, ots_of};
 use command_words::{Command, WordsFault, read_command};
+use commands_approvals::{approve, approve_ending};
 use commands_history::{log, log_ending};
 use commands_keys::{key_gen, key_gen_ending, seal, seal_ending};
 use commands_log::{annotate, record, record_ending};
@@ -139,6 +140,18 @@ fn carry_out<S: Source, K: Sink, F: Sink, R: Keeper, D: Disk, E: Entropy, C: Clo
             );
             record_ending(&outcome)
         }
+        Command::Approve { name, target } => {
+            let outcome = approve(
+                alloc,
+                name,
+                target,
+                &mut outside.sink,
+                &mut outside.keeper,
+                &mut outside.disk,
+                &mut outside.clock,
+            );
+            approve_ending(&outcome)
+        }
     }
 }
 
@@ -185,9 +198,9 @@ fn say<F: Sink>(ending: &Ending, faults_out: &mut F)
 
 /// Runs the command of the words over the objects outside, and answers the status of the program.
 ///
-/// 0 where the answer was given; 1 where the verdict is `tip-differs`; 2 where the words are outside the grammar; 3 where
-/// the stream, the log, an object or the key file is refused, or there is no room where a store or a key file is to be
-/// made; 4 exactly where an object outside but `faults_out` counted a fault, and then one of them counted one and the
+/// 0 where the answer was given; 1 where the verdict is another than `accepted`; 2 where the words are outside the
+/// grammar; 3 where the input, the log, a policy, an object or the key file is refused, or there is no room where a store
+/// or a key file is to be made; 4 exactly where an object outside but `faults_out` counted a fault, and then one of them counted one and the
 /// others none; 5 for want of memory, and only where the first word is the name of a command; 6 where each leaf of the
 /// key file is used. At 0 and 1 the sink gains the whole answer, and at 3 for a log that is broken the line that says so;
 /// at the others `faults_out` gains the line of the refusal, or a front of it where it counted a fault, which changes

@@ -42,6 +42,13 @@ impl OpenKey {
     {
         self.signer.public()
     }
+
+    /// The number of bytes of a signature by this key.
+    pub fn signature_len(&self) -> usize
+        ensures { result ≡ signature_len self.now.signer.secret.lms self.now.signer.secret.ots }
+    {
+        self.signer.signature_len()
+    }
 }
 
 // What a refusal of the journal is here.
@@ -83,6 +90,7 @@ pub fn use_leaf<D: Disk>(key: OpenKey, disk: &mut D, message: &[u8]) -> Result<O
     requires loaded { (file : List ℕ) → D.seen disk.old ≡ Some file → IsLoaded file key.signer }
     requires room { length key.room.items ≡ signature_len key.signer.secret.lms key.signer.secret.ots }
     ensures ends { UseEnds D.Disk key.signer.secret message.now disk.old disk.new result }
+    ensures long { IfOk result (λ signature. length signature ≡ signature_len key.signer.secret.lms key.signer.secret.ots) }
     ensures any_moment { LeavesOnly D.moment D.left_since disk.old disk.new (KeepsUsed (D.may_leave disk.old)) }
     ensures cause { HasCause sign_failed (D.faults disk.old) (D.faults disk.new) result }
 {

@@ -1,11 +1,11 @@
 -- A repository has one verdict on a reference, or its log breaks, and never both.
-use Rattle.std.proofs.Common.{◌≡◌, ◌≢◌, ℕ, List, [], ◌∷◌, Option, Some, None, map, refl, ap, sym, ◌∙◌, subst}
+use Rattle.std.proofs.Common.{◌≡◌, ℕ, List, [], ◌∷◌, Option, Some, None, map, refl, ap, sym, ◌∙◌, subst}
 use Rattle.std.specs.FinMap.{get}
 use Rattle.git_object.specs.Names.{log_name}
 use Rattle.git_object.specs.Repository.{Repository, value_of}
 use Rattle.log_entries.specs.Entries.{Taken}
 use Rattle.recovery.specs.Lanes.{first_of}
-use Rattle.judging.specs.Logs.{fault_at, from, lane}
+use Rattle.judging.specs.Logs.{fault_at, lane}
 use Rattle.judging.specs.Rules.{Rules}
 use Rattle.judging.specs.Verdicts.{IsJudged}
 use Rattle.judging.specs.declared.verdicts.Verdict.{Verdict}
@@ -15,7 +15,7 @@ use Rattle.rsl_chain.specs.Logs.{IsBreakOf, heads_of}
 use Rattle.rsl_chain.proofs.Chains.{never_both, one_log}
 use Rattle.entry_rules.specs.declared.faults.Fault.{Fault}
 use Rattle.entry_rules.specs.RealRules.{real_rules}
-use Rattle.verify_ref.specs.Logs.{AreEntries, taken_at}
+use Rattle.verify_ref.specs.Logs.{AreEntries}
 use Rattle.verify_ref.specs.Verdicts.{IsVerdict}
 
 abbrev in_some : {X : Type 0} → X → Option X → X
@@ -37,7 +37,7 @@ tails [] = []
 tails (x ∷ xs) = xs
 
 -- a list is known by what `Some` makes of it
-same_entries : (xs ys : List Taken) → map (λ (t : Taken). Some t) xs ≡ map (λ (t : Taken). Some t) ys → xs ≡ ys
+pub same_entries : (xs ys : List Taken) → map (λ (t : Taken). Some t) xs ≡ map (λ (t : Taken). Some t) ys → xs ≡ ys
 same_entries [] [] e = refl
 same_entries [] (y ∷ ys) e = absurd (cc e)
 same_entries (x ∷ xs) [] e = absurd (cc e)

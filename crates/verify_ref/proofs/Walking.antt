@@ -1,9 +1,8 @@
 -- The entries of a log, taken one after the other: each is the next.
-use Rattle.std.proofs.Common.{◌≡◌, ◌<◌, ◌≤◌, ◌+◌, ◌-◌, ◌==◌, ◌&&◌, ◌++◌, ℕ, Bool, true, false, List, [], ◌∷◌, Result, Ok, Err, length, take, drop, get_or, map, Option, Some, None, refl, sym, ap, subst, ◌∙◌, append_assoc, take-append-drop, inl, inr, arith}
+use Rattle.std.proofs.Common.{◌≡◌, ◌<◌, ◌≤◌, ◌+◌, ◌-◌, ◌&&◌, ◌++◌, ℕ, true, false, List, [], ◌∷◌, Ok, Err, length, take, drop, get_or, map, Option, Some, None, refl, sym, ap, subst, ◌∙◌, append_assoc, take-append-drop, arith}
 use Rattle.std.specs.Prelude.{is_some, not, slice_get}
 use Rattle.std.specs.Option.{option_and_then, option_map}
 use Rattle.std.specs.Result.{result_ok}
-use Rattle.std.specs.Str.{bytes_eq}
 use Rattle.std.proofs.lemmas.Bool.{eq-eqb, false≢true, true≢false}
 use Rattle.std.proofs.lemmas.List.{length-map, length-take-le, map-append, take_more}
 use Rattle.std.proofs.lemmas.Option.{get_or_from_slice_get, slice_get-map, slice_get_within}
@@ -14,8 +13,8 @@ use Rattle.git_object.specs.declared.kinds.Kind.{Kind}
 use Rattle.git_object.specs.declared.kinds.Kind.TheVariants.{Blob, Commit, Tag, Tree}
 use Rattle.log_entries.specs.Entries.{Taken, target_of}
 use Rattle.log_entries.specs.declared.entries.Entry.{Entry}
-use Rattle.rsl_chain.specs.Chain.{AreLinked, head_after}
-use Rattle.rsl_chain.specs.Logs.{IsLogOf, IsUnbroken, entry_at, entry_of_pair, head_in, heads_of}
+use Rattle.rsl_chain.specs.Chain.{head_after}
+use Rattle.rsl_chain.specs.Logs.{IsLogOf, IsUnbroken, entry_at, entry_of_pair, head_in}
 use Rattle.rsl_chain.specs.Reading.{Reading, entry_as, reading}
 use Rattle.rsl_chain.specs.declared.heads.Head.{Head}
 use Rattle.rsl_chain.specs.declared.log_faults.LogFault.{LogFault}

@@ -1,5 +1,5 @@
 -- The verdict on a reference of a repository.
-use Rattle.std.specs.Prelude.{◌≡◌, ℕ, List, Option, Result, Ok, Err}
+use Rattle.std.specs.Prelude.{ℕ, List, Option, Result, Ok, Err}
 use Rattle.git_object.specs.Repository.{Repository, value_of}
 use Rattle.log_entries.specs.Entries.{Taken}
 use Rattle.judging.specs.Verdicts.{IsJudged}

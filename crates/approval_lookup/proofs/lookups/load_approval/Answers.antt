@@ -14,4 +14,4 @@ pub returns-clause-found : goal.returns-clause-found
 returns-clause-found g c = λ r told.
     file_there r c.args.attestations.now c.args.name.now c.args.from.now c.args.tree.now c.in-Some.object.body c.in_ok-found.found
     (ap (option_map (λ (pair : Pair). pair.body)) (sym c.in-Some.is) ∙ c.in_ok-object.ensures.found r told ∙ ap (file_in r c.args.attestations.now) (c.as_slice.ensures ∙ c.in_ok-path.ensures.path))
-    (c.in_ok-found.ensures ∙ ap (approval_of c.args.name.now c.args.from.now c.args.tree.now) c.body.ensures)
+    (c.in_ok-found.ensures.found ∙ ap (approval_of c.args.name.now c.args.from.now c.args.tree.now) c.body.ensures)

@@ -14,3 +14,6 @@ returns-in-Explain-clause-outside c = rw c.in-Explain.is c.read_explain.ensures.
 
 pub returns-in-Annotate-clause-outside : goal.returns-in-Annotate-clause-outside
 returns-in-Annotate-clause-outside c = rw c.in-Annotate.is c.read_annotate.ensures.outside
+
+pub returns-in-Approve-clause-outside : goal.returns-in-Approve-clause-outside
+returns-in-Approve-clause-outside c = rw c.in-Approve.is c.read_approve.ensures.outside

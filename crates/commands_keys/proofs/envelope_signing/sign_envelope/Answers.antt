@@ -1,7 +1,7 @@
 use Rattle.std.proofs.Common.{◌∙◌, sym}
 use Rattle.key_file.proofs.Steps.{moments}
 use Rattle.commands_keys.proofs.SealedFrom.{no_place, refused_since, sealed_since}
-use Rattle.commands_keys.specs.EnvelopeSigning.{id_text}
+use Rattle.key_seals.specs.Seals.{id_text}
 use Rattle.commands_keys.proofs.envelope_signing.sign_envelope.Goals as goal
 
 pub returns-then-not-has_place-clause-ends : goal.returns-then-not-has_place-clause-ends

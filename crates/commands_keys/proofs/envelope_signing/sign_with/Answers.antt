@@ -11,5 +11,5 @@ returns-in-Err-Exhausted-clause-ends g c = record {
   secret = c.args.key.signer.secret;
   place = subst (λ (k : List ℕ). has_room k c.args.envelope.signatures ≡ true) c.requires.id c.requires.place;
   file = spent g.D.Disk c.args.envelope c.args.disk.now c.use_leaf.new.disk c.args.key.signer.secret
-      (subst (λ (f : SignFault). UseEnds g.D.Disk c.args.key.signer.secret c.as_slice-3.result.now c.args.disk.now c.use_leaf.new.disk (Err f)) c.in-Err-Exhausted.field-0-is c.in-Err-Exhausted.ensures.ends);
+      (subst (λ (f : SignFault). UseEnds g.D.Disk c.args.key.signer.secret c.as_slice.result.now c.args.disk.now c.use_leaf.new.disk (Err f)) c.in-Err-Exhausted.field-0-is c.in-Err-Exhausted.ensures.ends);
 }

@@ -1,29 +1,9 @@
-use Rattle.std.proofs.Common.{◌≡◌, sym, subst, arith}
-use Rattle.std.specs.Prelude.{false}
-use Rattle.commands_log.proofs.Causes.{no_cause}
-use Rattle.commands_log.proofs.Unopened.{holds_key, log_disk, not_loaded, not_opened}
-use Rattle.commands_log.specs.Opening.{WhyUnread, unread_disk}
-use Rattle.commands_log.specs.declared.opening.ReadingFault.{ReadingFault}
+use Rattle.std.proofs.Common.{arith}
+use Rattle.commands_log.proofs.Unopened.{holds_key}
 use Rattle.commands_log.proofs.opening.open_log.Goals as goal
-
-pub returns-in-Err-clause-why : goal.returns-in-Err-clause-why
-returns-in-Err-clause-why g c =
-    subst (λ (f : ReadingFault). WhyUnread g.R.Keeper g.D.Disk c.args.keeper.now c.open_key.new.disk f) (sym c.of_key.ensures)
-    (not_opened g.R.Keeper g.D.Disk c.args.keeper.now c.open_key.new.disk c.in-Err.fault c.in-Err.ensures.why)
-
-pub returns-in-Err-load-clause-why : goal.returns-in-Err-load-clause-why
-returns-in-Err-load-clause-why g c =
-    subst (λ (f : ReadingFault). WhyUnread g.R.Keeper g.D.Disk c.load.new.keeper c.open_key.new.disk f) (sym c.unread_log.ensures)
-    (not_loaded g.R.Keeper g.D.Disk c.load.new.keeper c.open_key.new.disk c.in-Err-load.fault
-    (holds_key g.R.Keeper g.D.Disk c.load.new.keeper c.open_key.new.disk c.in-Ok.key.signer c.in-Ok.ensures.loaded) c.in-Err-load.ensures.broken)
-
-pub returns-in-Err-load-clause-disk : goal.returns-in-Err-load-clause-disk
-returns-in-Err-load-clause-disk g c =
-    no_cause unread_disk c.unread_log.result _ _ (subst (λ (f : ReadingFault). unread_disk f ≡ false) (sym c.unread_log.ensures) (log_disk c.in-Err-load.fault))
-    c.in-Ok.ensures.cause.later c.in-Ok.ensures.cause.is
 
 pub returns-then-len-ge1000000-clause-why : goal.returns-then-len-ge1000000-clause-why
 returns-then-len-ge1000000-clause-why g c = (
-  holds_key g.R.Keeper g.D.Disk c.load.new.keeper c.open_key.new.disk c.in-Ok.key.signer c.in-Ok.ensures.loaded,
-  λ r told. (c.in-Ok-load.log.ids, c.in-Ok-load.ensures.log r told, omega (arith, c.in-Ok-load.ensures.few, c.len.ensures)),
+  holds_key g.R.Keeper g.D.Disk c.open_whole_log.new.keeper c.open_whole_log.new.disk c.in-Ok.opened.key.signer c.in-Ok.ensures.loaded,
+  λ r told. (c.in-Ok.opened.log.ids, c.in-Ok.ensures.log r told, omega (arith, c.in-Ok.ensures.few, c.len.ensures)),
 )

@@ -1,4 +1,6 @@
 use Rattle.endings.proofs.Counting.{as_ended}
+use Rattle.commands_approvals.proofs.Counted as approvals
+use Rattle.commands_approvals.specs.Outcomes.{approve_ending}
 use Rattle.commands_history.specs.Logging.{log_ending}
 use Rattle.commands_keys.specs.MakingKeys.{key_gen_ending}
 use Rattle.commands_keys.specs.Sealing.{seal_ending}
@@ -71,3 +73,9 @@ pub returns-in-Explain-clause-counted : goal.returns-in-Explain-clause-counted
 returns-in-Explain-clause-counted g c =
     as_ended _ _ c.explain_ending.result (explain_ending c.explain-outcome.result) c.explain_ending.ensures
     (c.explain-outcome.ensures.counted (faults_of g.S.Source g.K.Sink g.R.Keeper g.D.Disk g.E.Entropy g.C.Clock (world_of c.args.outside.now)))
+
+pub returns-in-Approve-clause-counted : goal.returns-in-Approve-clause-counted
+returns-in-Approve-clause-counted g c =
+    as_ended _ _ c.approve_ending.result (approve_ending c.approve-outcome.result) c.approve_ending.ensures
+    (approvals.counted (faults_of g.S.Source g.K.Sink g.R.Keeper g.D.Disk g.E.Entropy g.C.Clock (world_of c.args.outside.now)) _ _ _ _ c.approve-outcome.result
+    c.approve-outcome.ensures.sink c.approve-outcome.ensures.keeper c.approve-outcome.ensures.disk c.approve-outcome.ensures.clock)

@@ -1,4 +1,4 @@
-use Rattle.std.proofs.Common.{refl, rules, List, [], subst}
+use Rattle.std.proofs.Common.{refl, rules, [], subst}
 use Rattle.std.proofs.lemmas.List.{take_all}
 use Rattle.entry_rules.specs.RealRules.{real_rules}
 use Rattle.verify_ref.specs.Logs.{AreEntries}

@@ -1,0 +1,40 @@
+use Rattle.std.proofs.Common.{refl}
+use Rattle.std.specs.Prelude.{Ok, Err}
+use Rattle.key_file.proofs.Steps.{moments}
+use Rattle.commands_log.proofs.Moved.{only_read}
+use Rattle.commands_approvals.proofs.Free.{free_at}
+use Rattle.commands_approvals.proofs.Refused.{declined, tried}
+use Rattle.commands_approvals.proofs.keeping.keep_approval.Goals as goal
+
+pub returns-in-Err-prepare-clause-ends : goal.returns-in-Err-prepare-clause-ends
+returns-in-Err-prepare-clause-ends g c =
+    declined g.R.Keeper g.D.Disk c.args.name.now c.args.target.now (g.C.Clock.left c.args.clock.now) c.args.keeper.now c.open_whole_log.new.keeper c.prepare.new.keeper c.args.disk.now c.open_whole_log.new.disk
+    c.in-Ok.ensures.same c.in-Err-prepare.ensures.same c.in-Ok.ensures.kept c.in-Ok.opened.key.signer c.in-Ok.ensures.loaded c.in-Ok.opened.log.ids c.in-Ok.ensures.log c.in-Err-prepare.why c.not_kept.result c.not_kept.ensures
+    c.in-Err-prepare.ensures.why
+
+pub returns-in-Err-prepare-clause-any_moment : goal.returns-in-Err-prepare-clause-any_moment
+returns-in-Err-prepare-clause-any_moment g c = only_read g.D.Disk c.args.disk.now c.open_whole_log.new.disk c.in-Ok.ensures.any_moment
+
+pub returns-in-Ok-store_approval-clause-ends : goal.returns-in-Ok-store_approval-clause-ends
+returns-in-Ok-store_approval-clause-ends g c =
+    tried g.R.Keeper g.D.Disk c.args.name.now c.args.target.now (g.C.Clock.left c.args.clock.now) c.args.keeper.now c.open_whole_log.new.keeper c.prepare.new.keeper c.args.disk.now c.open_whole_log.new.disk
+    c.in-Ok.ensures.same c.in-Ok-prepare.ensures.same c.in-Ok.ensures.kept c.in-Ok.opened.key.signer c.in-Ok.ensures.loaded c.in-Ok.opened.log.ids c.in-Ok.ensures.log (g.C.Clock.left c.store_approval.new.clock)
+    c.store_approval.new.keeper c.store_approval.new.disk c.in-Ok-prepare.prepared.ends c.in-Ok-prepare.prepared.envelope (Ok c.in-Ok-store_approval.ends) c.in-Ok-prepare.ensures.prepared.room c.in-Ok-prepare.ensures.wanted
+    (λ r told. free_at r c.args.name.now c.in-Ok-prepare.prepared.ends c.in-Ok-prepare.prepared.site c.in-Ok-prepare.ensures.prepared.fit (c.in-Ok-prepare.ensures.site r told))
+    c.in-Ok-store_approval.ensures.ends
+
+pub returns-in-Ok-store_approval-clause-any_moment : goal.returns-in-Ok-store_approval-clause-any_moment
+returns-in-Ok-store_approval-clause-any_moment g c =
+    moments g.D.Disk c.args.disk.now c.open_whole_log.new.disk c.store_approval.new.disk c.in-Ok.ensures.any_moment c.in-Ok.ensures.kept.no_more c.in-Ok-store_approval.ensures.any_moment
+
+pub returns-clause-ends : goal.returns-clause-ends
+returns-clause-ends g c =
+    tried g.R.Keeper g.D.Disk c.args.name.now c.args.target.now (g.C.Clock.left c.args.clock.now) c.args.keeper.now c.open_whole_log.new.keeper c.prepare.new.keeper c.args.disk.now c.open_whole_log.new.disk
+    c.in-Ok.ensures.same c.in-Ok-prepare.ensures.same c.in-Ok.ensures.kept c.in-Ok.opened.key.signer c.in-Ok.ensures.loaded c.in-Ok.opened.log.ids c.in-Ok.ensures.log (g.C.Clock.left c.store_approval.new.clock)
+    c.store_approval.new.keeper c.store_approval.new.disk c.in-Ok-prepare.prepared.ends c.in-Ok-prepare.prepared.envelope (Err c.in-Err-store_approval.fault) c.in-Ok-prepare.ensures.prepared.room c.in-Ok-prepare.ensures.wanted
+    (λ r told. free_at r c.args.name.now c.in-Ok-prepare.prepared.ends c.in-Ok-prepare.prepared.site c.in-Ok-prepare.ensures.prepared.fit (c.in-Ok-prepare.ensures.site r told))
+    c.in-Err-store_approval.ensures.ends
+
+pub returns-clause-any_moment : goal.returns-clause-any_moment
+returns-clause-any_moment g c =
+    moments g.D.Disk c.args.disk.now c.open_whole_log.new.disk c.store_approval.new.disk c.in-Ok.ensures.any_moment c.in-Ok.ensures.kept.no_more c.in-Err-store_approval.ensures.any_moment

@@ -1,0 +1,4 @@
+pub mod Placed
+pub mod Plain
+pub mod Lengths
+pub mod OneKeyFile

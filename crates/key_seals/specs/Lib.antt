@@ -1,0 +1,2 @@
+-- a key's signature in an envelope
+pub mod Seals

@@ -1,0 +1,2 @@
+-- what a commit does to a store
+pub mod Stores

@@ -1,0 +1,32 @@
+//! One change of a store, and what each answer of its commit means.
+//!
+//! This crate stands on `keeper_api`. A crate above may rely on `commit_change`: after Ok the store holds what it held with
+//! the change made, and a stop leaves nothing else; where the store failed it holds the old or the new; and want of memory
+//! changes nothing.
+
+#![tactic(auto)]
+
+ghost use Rattle.std.specs.Prelude.{◌≡◌};
+ghost use Rattle.octets.specs.Causes.{HasCause};
+ghost use Rattle.keeper_api.specs.Faults.{keeper_failed};
+ghost use Rattle.store_changes.specs.Stores.{ChangeEnds};
+
+use keeper_api::{Change, Keeper, KeeperFault};
+use std::alloc::Global;
+
+/// Commits a change once.
+pub fn commit_change<R: Keeper>(
+    alloc: Global,
+    change: &Change,
+    keeper: &mut R,
+) -> Result<(), KeeperFault>
+    ensures ends { ChangeEnds R.Keeper keeper.old keeper.new change.now result }
+    ensures cause { HasCause keeper_failed (R.faults keeper.old) (R.faults keeper.new) result }
+    ensures reads { R.reads keeper.new ≡ R.reads keeper.old }
+{
+    match keeper.commit(alloc, change) {
+        Ok(()) => Ok(()),
+        Err(KeeperFault::Failed) => Err(KeeperFault::Failed),
+        Err(KeeperFault::Memory) => Err(KeeperFault::Memory),
+    }
+}
