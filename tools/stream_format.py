@@ -65,16 +65,23 @@ def environment():
     """The environment for git, without what would lead it to another repository or to other objects."""
     kept = re.compile("(?!GIT_)|GIT_(EXEC_PATH|CONFIG|CEILING)")
     found = {name: value for name, value in os.environ.items() if kept.match(name)}
-    return {**found, "GIT_NO_REPLACE_OBJECTS": "1", "GIT_NO_LAZY_FETCH": "1", "LC_ALL": "C"}
+    # Neither a replacement nor a graft is what an object says.
+    true = {"GIT_NO_REPLACE_OBJECTS": "1", "GIT_GRAFT_FILE": os.devnull, "GIT_NO_LAZY_FETCH": "1"}
+    return {**found, **true, "LC_ALL": "C"}
 
 
 class Git:
     """A running git, of which nothing is left when the `with` block ends."""
 
+    # Files that each git has open too, as the lock of a call that is to last as long as what it started.
+    kept_open = ()
+
     def __init__(self, *words, input=subprocess.DEVNULL):
-        self.said = tempfile.TemporaryFile()
+        # What it said, a line each, is here once it has ended.
+        self.said, self.lines = tempfile.TemporaryFile(), []
         try:
             how = {"stdin": input, "stdout": subprocess.PIPE, "stderr": self.said, "env": environment()}
+            how["pass_fds"] = self.kept_open
             self.process = subprocess.Popen(["git", *words], bufsize=PIECE, **how)
         except FileNotFoundError:
             raise Refused("git is not installed, or not on the PATH") from None
@@ -95,6 +102,7 @@ class Git:
         self.said.seek(0)
         lines = self.said.read().decode(errors="replace").strip().splitlines()
         lines += [f"it ended with status {status}"] if status and not lines else []
+        self.lines = lines
         # Advice can follow the line that tells what is wrong.
         fatal = [it for it in lines if it.startswith("fatal: ")]
         said = (fatal or lines[-1:] or [""])[0]

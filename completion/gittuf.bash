@@ -1,0 +1,61 @@
+# Completion of bash for gittuf and git gittuf. It goes into bash-completion's folder under the names gittuf and
+# git-gittuf, where it and git's own completion find it, or is sourced.
+
+_gittuf_reply() { mapfile -t COMPREPLY < <(compgen "$@" -- "$cur"); }
+
+_gittuf_references() { git for-each-ref --format='%(refname)' refs/heads refs/tags 2> /dev/null; }
+
+_gittuf_branches() { git for-each-ref --format='%(refname:short)' refs/heads refs/tags 2> /dev/null; }
+
+# The program: a store, a key file, a command and its words.
+_gittuf() {
+    local cur=${COMP_WORDS[COMP_CWORD]}
+    case $COMP_CWORD in
+        1) _gittuf_reply -d -S / -W '- --help --version'; compopt -o nospace 2> /dev/null ;;
+        2) _gittuf_reply -f -W - ;;
+        3) _gittuf_reply -W 'key-gen seal snapshot record annotate approve policy-apply explain log import export demo verify-ref' ;;
+        *)
+            case ${COMP_WORDS[3]} in
+                key-gen) [ "$COMP_CWORD" -eq 4 ] && _gittuf_reply -W '5 10 15' || _gittuf_reply -W '1 2 4 8' ;;
+                seal) _gittuf_reply -W --add ;;
+                annotate) [ "$COMP_CWORD" -eq 4 ] && _gittuf_reply -W 'skip note' || _gittuf_reply -W --message ;;
+                verify-ref) _gittuf_reply -W "$(_gittuf_references) --root --stdin" ;;
+                record | snapshot | approve) _gittuf_reply -W "$(_gittuf_references)" ;;
+                explain) _gittuf_reply -W 'git: file:' ;;
+            esac
+            ;;
+    esac
+}
+
+# The words after git gittuf, or after git-gittuf.
+_git_gittuf() {
+    local cur=${COMP_WORDS[COMP_CWORD]} at=0
+    while [ "$at" -lt "$COMP_CWORD" ] && [[ ${COMP_WORDS[at]} != gittuf && ${COMP_WORDS[at]} != *git-gittuf ]]; do
+        at=$((at + 1))
+    done
+    if [ "$((COMP_CWORD - at))" -le 1 ]; then
+        _gittuf_reply -W 'setup key policy record approve verify skip note log explain export doctor'
+        return
+    fi
+    case ${COMP_WORDS[at + 1]} in
+        setup) _gittuf_reply -W "--anew $(git remote 2> /dev/null)" ;;
+        doctor) _gittuf_reply -W "--take $(git remote 2> /dev/null)" ;;
+        key) _gittuf_reply -f -W '--file --height --width --id --public' ;;
+        record | approve) _gittuf_reply -W "$(_gittuf_branches)" ;;
+        verify) _gittuf_reply -W "--root $(_gittuf_branches)" ;;
+        explain) _gittuf_reply -f -W "$(_gittuf_branches)" ;;
+        skip | note) _gittuf_reply -W -m ;;
+        policy)
+            if [ "$((COMP_CWORD - at))" -eq 2 ]; then
+                _gittuf_reply -W 'init person rule show sign apply'
+            elif [ "${COMP_WORDS[at + 2]}" = rule ]; then
+                _gittuf_reply -W "--persons --threshold --terminating --remove $(_gittuf_references)"
+            elif [ "${COMP_WORDS[at + 2]}" = person ]; then
+                _gittuf_reply -W --remove
+            fi
+            ;;
+    esac
+}
+
+complete -F _gittuf gittuf ./gittuf
+complete -F _git_gittuf git-gittuf

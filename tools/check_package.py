@@ -1,0 +1,141 @@
+"""The checks of tools/check on the package, the manual pages and the completion."""
+
+import os
+import re
+import shutil
+import subprocess
+import sys
+
+from checking import TOP, Failure, Skip, run, want
+from guarded_clones import MAIN, SMALL
+
+PACKAGE = os.path.join(TOP, "tools", "package")
+WORDS = ("setup", "key", "policy", "record", "approve", "verify", "skip", "note", "log", "explain", "export", "doctor")
+# What git gittuf and the launcher call, and no toolchain among it.
+NEEDED = ("sh", "cat", "env", "git", "readlink", "sync")
+PAGES = ("gittuf.1", "git-gittuf.1")
+
+
+def text_of(*path):
+    with open(os.path.join(TOP, *path), encoding="utf-8") as file:
+        return file.read()
+
+
+def installed(repositories):
+    """A root with nothing in it but the package, and what else there is of it."""
+    folder = repositories.path("packages")
+    os.mkdir(folder)
+    status, output, errors = run(PACKAGE, folder)
+    want((status, errors), (0, b""), "the status and errors of package")
+    deb, archive = output.decode().split()
+    root = os.path.join(folder, "root")
+    if shutil.which("dpkg-deb"):
+        want(run("dpkg-deb", "--extract", deb, root)[0], 0, "the status of dpkg-deb")
+        fields = run("dpkg-deb", "--field", deb, "Package", "Architecture")[1]
+        want(fields, b"Package: gittuf\nArchitecture: amd64\n", "what the package says of itself")
+    else:
+        os.mkdir(root)
+        want(run("ar", "x", deb, "data.tar.gz", folder=folder)[0], 0, "the status of ar")
+        want(run("tar", "-xzf", "data.tar.gz", "-C", root, folder=folder)[0], 0, "the status of tar")
+    unpacked = os.path.join(folder, "unpacked")
+    os.mkdir(unpacked)
+    want(run("tar", "-xzf", archive, "-C", unpacked)[0], 0, "the status of tar")
+    (top,) = os.listdir(unpacked)
+    return os.path.join(root, "usr"), os.path.join(unpacked, top)
+
+
+def bare_path(repositories):
+    """A folder with what the package wants of the system, and nothing else."""
+    folder = repositories.path("needed by the package")
+    os.mkdir(folder)
+    for it in NEEDED:
+        os.symlink(shutil.which(it), os.path.join(folder, it))
+    os.symlink(os.path.realpath(sys.executable), os.path.join(folder, "python3"))
+    return folder
+
+
+def runs_where_it_is_installed(repositories):
+    """the package and the archive run where nothing else of this is, without a toolchain, and tell commit and kit"""
+    repositories.needed()
+    places, needed = installed(repositories), bare_path(repositories)
+    want(*(files_below(it) for it in places), "the files of the archive beside those of the package")
+    commit = run("git", "-C", TOP, "rev-parse", "HEAD")[1].decode().strip()
+    for number, place in enumerate(places):
+        environment = {"PATH": f"{place}/bin:{needed}", "HOME": repositories.path(f"home {number}")}
+        for name in [it for it in os.environ if it.startswith("GIT_")]:
+            environment[name] = os.environ[name]
+        project = repositories.path(f"packaged {number}")
+        shutil.copytree(repositories.needed(), project, symlinks=True)
+
+        def answer(*words, status=0):
+            ran = subprocess.run(words, cwd=project, env=environment, capture_output=True, check=False)
+            want((ran.returncode, ran.stderr), (status, b""), f"the status and errors of {' '.join(words)}")
+            return ran.stdout.decode()
+
+        version = answer(f"{place}/bin/gittuf", "--version")
+        if commit not in version or not re.search(r"rattle-kit-\w+ logic [0-9a-f]+$", version):
+            raise Failure(f"--version says {version!r}")
+        answer("git", "gittuf", "setup")
+        answer("git", "gittuf", "key", *SMALL)
+        answer("git", "gittuf", "record", "main")
+        found = answer("git", "gittuf", "verify", "main", status=1)
+        want(found, f"violation {MAIN} 1 no-policy\n", "the verdict")
+        answer("git", "fsck", "--strict")
+    return f"{len(files_below(places[0]))} files"
+
+
+def files_below(place):
+    return sorted(os.path.relpath(os.path.join(at, it), place) for at, _, files in os.walk(place) for it in files)
+
+
+def has_pages(repositories):
+    """the manual pages are read without a warning, and name each word and command"""
+    for it in PAGES:
+        path = os.path.join(TOP, "man", it)
+        if shutil.which("mandoc"):
+            words = ("mandoc", "-T", "lint", "-W", "warning", path)
+        elif shutil.which("groff"):
+            words = ("groff", "-mdoc", "-ww", "-z", path)
+        else:
+            raise Skip("neither mandoc nor groff is here")
+        found = run(*words)
+        want(found, (0, b"", b""), f"what {words[0]} says of {it}")
+    page, use = text_of("man", "git-gittuf.1"), text_of("tools", "git_gittuf", "words.py")
+    for it in WORDS:
+        want(bool(re.search(rf"\.(It )?Cm .*\b{it}\b", page)), True, f"whether the page has the word {it}")
+        want(bool(re.search(rf"^  {it}\b", use, re.MULTILINE)), True, f"whether -h has the word {it}")
+    listed = text_of("gittuf").split("Commands:\n")[1].split("\n\n")[0]
+    commands = re.findall(r"^  ([a-z-]+) ", listed, re.MULTILINE)
+    want(len(set(commands)), 13, "how many commands --help lists")
+    for it in commands:
+        want(bool(re.search(rf"^\.It Cm {it}\b", text_of("man", "gittuf.1"), re.MULTILINE)), True, f"whether the page has {it}")
+    return "by mandoc" if shutil.which("mandoc") else "by groff"
+
+
+def completes(repositories):
+    """bash completes the words of git gittuf, its steps and the names of branches, and the commands of the program"""
+    repositories.needed()
+    file = os.path.join(TOP, "completion", "gittuf.bash")
+    rows = (
+        ("_git_gittuf", "git gittuf ", set(WORDS)),
+        ("_git_gittuf", "git gittuf ver", {"verify"}),
+        ("_git_gittuf", "git-gittuf policy s", {"show", "sign"}),
+        ("_git_gittuf", "git gittuf record ma", {"main"}),
+        ("_gittuf", "gittuf - - verify-ref --", {"--root", "--stdin"}),
+        ("_gittuf", "gittuf kept/ my.key key-gen ", {"5", "10", "15"}),
+    )
+    for function, line, wanted in rows:
+        words = line.split(" ")
+        script = 'source "$1"; f=$2; shift 2; COMP_WORDS=("$@"); COMP_CWORD=$(($# - 1)); "$f"; printf "%s\\n" "${COMPREPLY[@]}"'
+        status, output, errors = run("bash", "-c", script, "bash", file, function, *words, folder=repositories.path("project"))
+        want((set(output.decode().split()), errors), (wanted, b""), f"what follows {line!r}")
+    if shutil.which("zsh"):
+        for it in ("_gittuf", "_git-gittuf"):
+            want(run("zsh", "-n", os.path.join(TOP, "completion", it)), (0, b"", b""), f"what zsh says of {it}")
+
+
+CHECKS = (
+    runs_where_it_is_installed,
+    has_pages,
+    completes,
+)

@@ -1,0 +1,1 @@
+"""What git-gittuf is made of. Each module says what it is for; `work` puts them together."""

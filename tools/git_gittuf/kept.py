@@ -1,0 +1,147 @@
+"""The store beside the repository's own objects: a kept folder as docs/FORMATS.md has it.
+
+It belongs to git-gittuf, of which one run at a time works here, and to the program that such a run starts. What is put
+in is first written beside the folder and then renamed into it, so no file in it is ever half written by this.
+"""
+
+import contextlib
+import os
+import re
+import shutil
+import subprocess
+
+import stream_format
+from git_gittuf.repository import Stopped
+
+VALUE = re.compile(rb"[0-9a-f]{64}\n")
+# More new files than these are written out by one call for the whole file system, and not one by one.
+FEW = 64
+
+
+def write_out(path):
+    file = os.open(path, os.O_RDONLY)
+    try:
+        os.fsync(file)
+    finally:
+        os.close(file)
+
+
+class Kept:
+    def __init__(self, folder):
+        self.beside = folder
+        self.folder = os.path.join(folder, "kept")
+        self.objects = os.path.join(self.folder, "objects")
+        self.added = []
+
+    def make(self):
+        shutil.rmtree(os.path.join(self.beside, "removed"), ignore_errors=True)
+        for it in (self.objects, os.path.join(self.folder, "refs")):
+            os.makedirs(it, exist_ok=True)
+
+    def is_there(self):
+        return os.path.isdir(self.objects)
+
+    def marks(self):
+        return {it for it in ("open.lock", "commit.lock") if os.path.lexists(os.path.join(self.folder, it))}
+
+    def unmark(self):
+        for it in self.marks():
+            os.remove(os.path.join(self.folder, it))
+
+    def remove(self):
+        """Takes the whole store away, and at once, so that no half of one is found."""
+        aside = os.path.join(self.beside, "removed")
+        shutil.rmtree(aside, ignore_errors=True)
+        if os.path.lexists(self.folder):
+            os.rename(self.folder, aside)
+        shutil.rmtree(aside, ignore_errors=True)
+
+    def references(self):
+        """The names with their values, and None for a value that is none."""
+        top, found = os.path.join(self.folder, "refs"), {}
+        for at, _, files in os.walk(top):
+            for file in files:
+                path = os.path.join(at, file)
+                name = os.fsencode(os.path.relpath(path, self.folder))
+                if stream_format.is_reference_name(name):
+                    with open(path, "rb") as it:
+                        text = it.read(66)
+                    found[name] = text[:-1] if VALUE.fullmatch(text) else None
+        return found
+
+    def has(self, object_id):
+        return os.path.exists(os.path.join(self.objects, object_id.decode()))
+
+    def read(self, object_id):
+        """The kind and body of an object, which has this id."""
+        try:
+            with open(os.path.join(self.objects, object_id.decode()), "rb") as file:
+                head, _, body = file.read().partition(b"\0")
+        except FileNotFoundError:
+            raise Stopped(f"the store lacks the object {object_id.decode()}: git gittuf setup --anew makes it again") from None
+        kind = head.split(b" ")[0]
+        found = stream_format.hash_of(kind, len(body))
+        found.update(body)
+        if found.hexdigest().encode() != object_id:
+            raise Stopped(f"the store's object {object_id.decode()} is damaged: git gittuf setup --anew makes it again")
+        return kind, body
+
+    def write(self, path, text):
+        beside = os.path.join(self.beside, "new")
+        with open(beside, "wb") as file:
+            file.write(text)
+        os.rename(beside, path)
+        self.added.append(path)
+
+    def put(self, object_id, kind, body):
+        self.write(os.path.join(self.objects, object_id.decode()), b"%s %d\0%s" % (kind, len(body), body))
+
+    def write_out(self):
+        """Waits until what was put in stands on the disk, before a reference says that it is there."""
+        if len(self.added) <= FEW:
+            for it in self.added:
+                write_out(it)
+        elif subprocess.run(("sync", "-f", self.folder), capture_output=True).returncode:
+            os.sync()
+        self.added = []
+
+    def mark(self, name):
+        try:
+            os.close(os.open(os.path.join(self.folder, name), os.O_CREAT | os.O_EXCL | os.O_WRONLY, 0o644))
+        except FileExistsError:
+            raise Stopped(f"another gittuf works in {self.folder}: wait for it, or see git gittuf doctor") from None
+
+    @contextlib.contextmanager
+    def opened(self):
+        """Keeps others out while objects are put in, as each command does that may change the store."""
+        self.mark("open.lock")
+        try:
+            yield
+        finally:
+            if "commit.lock" not in self.marks():
+                self.unmark()
+
+    def set_references(self, held, wanted):
+        """Makes the references what is wanted. A stop in between leaves the mark of a change that is not whole."""
+        self.write_out()
+        self.mark("commit.lock")
+        for name in held.keys() - wanted.keys():
+            self.drop(os.path.join(self.folder, os.fsdecode(name)))
+        for name, value in wanted.items():
+            if held.get(name) != value:
+                path = os.path.join(self.folder, os.fsdecode(name))
+                os.makedirs(os.path.dirname(path), exist_ok=True)
+                if os.path.isdir(path):
+                    os.rmdir(path)
+                self.write(path, value + b"\n")
+        self.write_out()
+        os.remove(os.path.join(self.folder, "commit.lock"))
+
+    def drop(self, path):
+        """Removes a reference's file, and the folders above it that became empty."""
+        os.remove(path)
+        top = os.path.join(self.folder, "refs")
+        at = os.path.dirname(path)
+        while at != top and not os.listdir(at):
+            os.rmdir(at)
+            at = os.path.dirname(at)

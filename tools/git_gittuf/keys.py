@@ -1,0 +1,97 @@
+"""The key file of a person, and the line with its public part beside it."""
+
+import fcntl
+import os
+import re
+
+from git_gittuf import program
+from git_gittuf.repository import Stopped
+from git_gittuf.work import Ended
+
+LINE = re.compile(rb"key ([0-9a-f]{64}) ([0-9a-f]{112})\n")
+HEAD = 64
+
+
+def default_path():
+    folder = os.environ.get("XDG_DATA_HOME") or os.path.expanduser("~/.local/share")
+    return os.path.join(folder, "gittuf", "key")
+
+
+def path_of(repository):
+    """Where the key of this repository's user stands: gittuf.key, or else a place in the user's data folder."""
+    found = repository.config("gittuf.key", "--type=path")
+    if found and not os.path.isabs(found[-1]):
+        raise Stopped(f"gittuf.key is {found[-1]}, and is to be a whole path: git config gittuf.key ~/{found[-1]}")
+    return found[-1] if found else default_path()
+
+
+def is_inside(path, folder):
+    return folder is not None and os.path.commonpath([os.path.realpath(path), folder]) == folder
+
+
+def expect_outside(repository, path):
+    if any(is_inside(path, it) for it in (repository.top, repository.common)):
+        raise Stopped(f"{path} is inside the repository, where a key would be copied along: name another place", 3)
+
+
+def make(repository, path, height, width):
+    """Makes a key, first beside its place, so that its public part is known wherever it stands."""
+    expect_outside(repository, path)
+    beside = f"{path}.new"
+    os.makedirs(os.path.dirname(path), mode=0o700, exist_ok=True)
+    with open(f"{path}.lock", "wb") as lock:
+        try:
+            # Calls in two repositories may want one key.
+            fcntl.flock(lock, fcntl.LOCK_EX | fcntl.LOCK_NB)
+        except BlockingIOError:
+            raise Stopped(f"another git gittuf makes a key at {path}: wait for it") from None
+        if os.path.lexists(path):
+            raise Stopped(f"{path} is there already, and is no key: remove it, or name another place", 3)
+        # One that was left has no name that signs.
+        if os.path.lexists(beside):
+            os.remove(beside)
+        words = ("key-gen", height, width)
+        status, printed = program.run("-", beside, *words)
+        if status or not LINE.fullmatch(printed):
+            raise Ended(words, status or 4, printed)
+        with open(f"{path}.pub", "wb") as file:
+            file.write(printed)
+            os.fsync(file.fileno())
+        os.rename(beside, path)
+        os.remove(lock.name)
+
+
+def is_there(path):
+    return os.path.lexists(path) and os.path.getsize(path) > 0
+
+
+def needed(repository):
+    """The path of the key file, which is there."""
+    path = path_of(repository)
+    if not is_there(path):
+        raise Stopped(f"there is no key at {path}: git gittuf key makes one")
+    expect_outside(repository, path)
+    return path
+
+
+def public_line(path):
+    """The line `key <id> <public part>` of a key file."""
+    try:
+        with open(f"{path}.pub", "rb") as file:
+            line = file.read(1024)
+    except FileNotFoundError:
+        line = b""
+    if not LINE.fullmatch(line):
+        raise Stopped(f"{path}.pub does not hold the line that key-gen printed: put it there, key <id> <public part>")
+    return line
+
+
+def id_and_public(path):
+    return tuple(it.decode() for it in LINE.fullmatch(public_line(path)).groups())
+
+
+def signatures_left(path):
+    """How many signatures a key file still has, and how many it had."""
+    with open(path, "rb") as file:
+        leaves = file.read()[HEAD:]
+    return leaves.count(0), len(leaves)

@@ -1,0 +1,193 @@
+"""The Git repository that a call works in: where it is, its references, and which objects it has."""
+
+import os
+import re
+import subprocess
+import tempfile
+
+import stream_format
+from git_repositories import expect_no_part
+from stream_format import Git, Refused, git
+
+LOG = b"refs/gittuf/reference-state-log"
+POLICY = b"refs/gittuf/policy"
+ATTESTATIONS = b"refs/gittuf/attestations"
+# Where the files of a policy stand that is not in force yet.
+STAGED = b"refs/gittuf/policy-staging"
+# What entries recorded and no branch reaches any more is kept below this name, so that every clone can judge it.
+TARGETS = b"refs/gittuf/targets/"
+OWN = b"refs/gittuf/"
+ZEROS = b"0" * 64
+OLDEST_GIT = (2, 29)
+
+
+class Stopped(Refused):
+    """Why a call ended early, with its status: 2 for the words, 3 for what was asked for, 4 for what is outside."""
+
+    def __init__(self, said, status=4):
+        super().__init__(said)
+        self.status = status
+
+
+def plain(text):
+    """A text that may come from anybody, for a terminal: what is not printed as itself is escaped."""
+    return "".join(it if it.isprintable() else f"\\x{ord(it):02x}" for it in text)
+
+
+def asked_here(*words):
+    """What git answers in the folder of the call, for the repository that the caller's environment names."""
+    try:
+        ran = subprocess.run(("git", "rev-parse", *words), capture_output=True, env={**os.environ, "LC_ALL": "C"})
+    except FileNotFoundError:
+        raise Stopped("git is not installed, or not on the PATH") from None
+    said = ran.stderr.decode(errors="replace").strip().splitlines()
+    return ran.returncode, os.fsdecode(ran.stdout[:-1]), re.sub("^fatal: ", "", said[0]) if said else ""
+
+
+def version_of_git():
+    found = re.search(rb"(\d+)\.(\d+)", git("version")[1])
+    return (int(found[1]), int(found[2])) if found else (0, 0)
+
+
+class Repository:
+    """The repository of the call, which is in object format SHA-256 and has all its objects."""
+
+    def __init__(self):
+        status, self.git_dir, said = asked_here("--git-dir")
+        if status:
+            raise Stopped(f"here is no repository that git reads: {said}")
+        self.git_dir = os.path.realpath(self.git_dir)
+        self.common = os.path.realpath(asked_here("--git-common-dir")[1])
+        status, top, _ = asked_here("--show-toplevel")
+        self.top = None if status else os.path.realpath(top)
+        self.folder = os.path.join(self.common, "gittuf")
+        self.expect_format()
+        expect_no_part(self.top or self.git_dir, *self.where)
+
+    @property
+    def where(self):
+        """The words by which git finds this repository and no other."""
+        return (f"--git-dir={self.git_dir}",)
+
+    def expect_format(self):
+        found = asked_here("--show-object-format")[1]
+        if found not in ("sha1", "sha256") or version_of_git() < OLDEST_GIT:
+            have, want = (".".join(map(str, it)) for it in (version_of_git(), OLDEST_GIT))
+            raise Stopped(f"git is too old: this is {have}, and {want} or newer is wanted, which knows object ids of SHA-256")
+        if found == "sha1":
+            raise Stopped(
+                f"{self.top or self.git_dir} has object ids of SHA-1, which are not safe to sign. It becomes a repository"
+                " of SHA-256, with new ids, by: git init -b main --object-format=sha256 ../new &&"
+                " git fast-export --all --signed-tags=strip | git -C ../new fast-import"
+            )
+
+    def git(self, *words, input=b""):
+        return git(*self.where, *words, input=input)
+
+    def asked(self, what, *words, input=b""):
+        """What git prints, or the end of the call where it fails."""
+        status, output, said = self.git(*words, input=input)
+        if status:
+            raise Stopped(f"git does not {what}: {said}")
+        return output
+
+    def all_references(self):
+        """The names below refs/ with the ids at which they stand."""
+        with Git(*self.where, "for-each-ref", "--format=%(refname) %(objectname)") as ran:
+            lines = ran.output.read().splitlines()
+            status, said = ran.end()
+            # A warning is of a reference that git leaves out, and nothing is to be lost unseen. A symbolic one that
+            # leads nowhere is none.
+            lost = [it for it in ran.lines if not it.startswith("warning: ignoring dangling symref")]
+        if status or lost:
+            raise Stopped(f"git does not list the references: {said}")
+        return dict(line.split(b" ") for line in lines)
+
+    def lines(self, what, *words, input, tell=lambda count: None):
+        """The lines that git prints, with a call for each so far, or the end of the call where it fails."""
+        with tempfile.TemporaryFile() as given:
+            given.write(input)
+            given.seek(0)
+            with Git(*self.where, *words, input=given) as ran:
+                found = []
+                for line in ran.output:
+                    found.append(line[:-1])
+                    tell(len(found))
+                status, said = ran.end()
+        if status:
+            raise Stopped(f"git does not {what}: {said}")
+        return found
+
+    def references(self):
+        """Those of them whose names a store can hold."""
+        return {name: value for name, value in self.all_references().items() if stream_format.is_reference_name(name)}
+
+    def own_references(self):
+        return {name: value for name, value in self.references().items() if name.startswith(OWN)}
+
+    def remove_locks(self):
+        """Removes the locks that a killed git left below refs/gittuf/, where one call at a time moves references."""
+        for at, _, files in os.walk(os.path.join(self.common, "refs", "gittuf")):
+            for it in files:
+                if it.endswith(".lock"):
+                    os.remove(os.path.join(at, it))
+
+    def there(self, ids):
+        """Those of the ids whose objects are there."""
+        given = b"".join(b"%s\n" % it for it in ids)
+        lines = self.asked("look objects up", "cat-file", "--batch-check=%(objectname)", input=given).splitlines()
+        return {it for it in lines if not it.endswith(b" missing")}
+
+    def bodies(self, ids):
+        """Each object of these ids that is there, as id, kind and body; the body of one past the limit is none."""
+        with tempfile.TemporaryFile() as given:
+            given.write(b"".join(b"%s\n" % it for it in ids))
+            given.seek(0)
+            with Git(*self.where, "cat-file", "--batch", "--buffer", input=given) as ran:
+                for line in ran.output:
+                    if line.endswith(b" missing\n"):
+                        continue
+                    object_id, kind, size = line.split()
+                    yield object_id, kind, body_of(ran.output, object_id, kind, int(size))
+                status, said = ran.end()
+                if status:
+                    raise Stopped(f"git did not give all objects: {said}")
+
+    def config(self, name, *how):
+        """The values of a setting, none where it is not set."""
+        return [os.fsdecode(it) for it in self.git("config", *how, "--get-all", name)[1].splitlines()]
+
+    def full_name(self, word):
+        """The reference that a word names: a branch before a tag, or a whole name below refs/."""
+        if word.startswith("refs/"):
+            return os.fsencode(word)
+        there = self.references()
+        for front in (b"refs/heads/", b"refs/tags/"):
+            if front + os.fsencode(word) in there:
+                return front + os.fsencode(word)
+        return b"refs/heads/" + os.fsencode(word)
+
+    def commit_of(self, word):
+        """The id of the commit or tag that a word of Git's names."""
+        # Older versions of git know no sign that what follows is no option.
+        status, found, _ = (1, b"", "") if word.startswith("-") else self.git("rev-parse", "--verify", "--quiet", word)
+        if status:
+            raise Stopped(f"{word} names no commit here: git log shows which there are", 3)
+        return found.strip()
+
+
+def body_of(source, object_id, kind, size):
+    """Reads a body and the LF after it, and refuses one that is cut or has another id."""
+    found, pieces, left = stream_format.hash_of(kind, size), [], size
+    while left:
+        piece = source.read(min(left, stream_format.PIECE))
+        if not piece:
+            raise Stopped(f"git ended in the middle of the object {object_id.decode()}")
+        found.update(piece)
+        left -= len(piece)
+        if size <= stream_format.MAX_BODY:
+            pieces.append(piece)
+    source.read(1)
+    if found.hexdigest().encode() != object_id:
+        raise Stopped(f"the object {object_id.decode()} is damaged: git fsck says more")
+    return b"".join(pieces) if size <= stream_format.MAX_BODY else None

@@ -1,0 +1,135 @@
+"""One call at work: alone in the repository, with a store that is what Git is, and a change whole or not at all."""
+
+import errno
+import fcntl
+import os
+import sys
+import time
+
+from git_gittuf import copying, giving, program, remotes
+from git_gittuf.kept import Kept
+from git_gittuf.repository import OWN, Repository, Stopped, plain
+from stream_format import Git
+
+
+class Ended(Exception):
+    """The program ended with another status than 0, and has said why."""
+
+    def __init__(self, words, status, printed):
+        super().__init__(words[0])
+        self.words, self.status, self.printed = words, status, printed
+
+
+# How often the lock is tried, and how many seconds lie between: what a killed call started may need a moment to end.
+TRIES, PAUSE = 20, 0.05
+READ_ONLY = (errno.EACCES, errno.EPERM, errno.EROFS)
+
+
+def only_run(folder):
+    """Takes the lock that one call at a time has, and what it starts with it."""
+    file = os.open(os.path.join(folder, "lock"), os.O_RDWR | os.O_CREAT, 0o644)
+    for left in reversed(range(TRIES)):
+        try:
+            fcntl.flock(file, fcntl.LOCK_EX | fcntl.LOCK_NB)
+            break
+        except BlockingIOError:
+            if not left:
+                process = os.pread(file, 20, 0).decode().strip()
+                said = f"another git gittuf works in this repository, process {process} or what it started: wait for it"
+                raise Stopped(said) from None
+            time.sleep(PAUSE)
+    os.ftruncate(file, 0)
+    os.pwrite(file, b"%d\n" % os.getpid(), 0)
+    # It stays with the programs that are started, so that none goes on while the next call is at work.
+    Git.kept_open = (file,)
+
+
+class Work:
+    def __init__(self):
+        self.repository = Repository()
+        try:
+            os.makedirs(self.repository.folder, exist_ok=True)
+            only_run(self.repository.folder)
+        except OSError as error:
+            if error.errno not in READ_ONLY:
+                raise
+            raise Stopped(f"{error.filename} cannot be written: git clone it, and verify it there") from None
+        self.kept = Kept(self.repository.folder)
+        self.journal = giving.Journal(self.repository.folder)
+        self.mend()
+        self.follow()
+
+    def follow(self):
+        """Lets the log, the policy and the approvals go on to where a remote has them."""
+        moves, apart = remotes.to_follow(self.repository)
+        self.move(moves)
+        for remote, name, *_ in apart:
+            line = f"{plain(name.decode())} here and that of {plain(remote.decode())} went apart, and neither is taken back"
+            print(f"git-gittuf: {line}: git gittuf doctor says more", file=sys.stderr)
+
+    def move(self, moves):
+        """Moves own references, each from its value to the next."""
+        if moves:
+            self.journal.write(self.repository.own_references())
+            remotes.move(self.repository, moves)
+            self.journal.clear()
+
+    def mend(self):
+        """Finishes or takes back what a call that was stopped left."""
+        noted, marks = self.journal.read(), self.kept.marks()
+        if noted:
+            self.repository.remove_locks()
+        if "commit.lock" in marks and noted:
+            # The program was stopped in a change, and may have left files half written.
+            self.kept.remove()
+        self.kept.unmark()
+        self.kept.make()
+        if noted and noted[1] is not None and "commit.lock" not in marks:
+            try:
+                giving.give(self.repository, self.kept, *noted)
+            except Stopped:
+                # Git went on in between, and what it has counts.
+                pass
+        self.journal.clear()
+
+    def bring(self, extra=()):
+        progress = program.Progress()
+        try:
+            count, too_large = copying.bring(self.repository, self.kept, progress, extra)
+        finally:
+            progress.end()
+        for it in too_large:
+            print(f"git-gittuf: the object {it.decode()} has more than 16 MiB and is judged to be broken", file=sys.stderr)
+        return count
+
+    def run(self, *words, key="-", input=b"", **how):
+        return program.run(f"{self.kept.folder}/", key, *words, input=input, **how)
+
+    def asked(self, *words, key="-", input=b""):
+        """What the program prints, or the end of the call with the program's status."""
+        status, printed = self.run(*words, key=key, input=input)
+        if status:
+            raise Ended(words, status, printed)
+        return printed
+
+    def own_in_store(self):
+        return {name: value for name, value in self.kept.references().items() if name.startswith(OWN)}
+
+    def change(self, steps, also=None):
+        """Takes steps over the store and then puts into Git what they added, with further references, or nothing."""
+        # What the steps go on from is what the store has, whatever Git went on to meanwhile.
+        before = self.own_in_store()
+        self.journal.write(before)
+        try:
+            answer = steps()
+            after = {**self.own_in_store(), **(also or {})}
+            self.journal.write(before, after)
+            giving.give(self.repository, self.kept, before, after)
+        except (Ended, Stopped):
+            # In the store it may be done all the same, but Git decides.
+            self.journal.write(before)
+            self.mend()
+            raise
+        self.journal.clear()
+        self.bring()
+        return answer

@@ -1,0 +1,27 @@
+"""Which Git repositories git-to-stream and git-gittuf take: in object format SHA-256, and with all their objects.
+
+Each call takes how a message names the repository, and the words by which git finds it.
+"""
+
+from stream_format import Refused, git
+
+
+def expect_sha256(name, *where):
+    status, found, said = git(*where, "rev-parse", "--show-object-format")
+    if status:
+        raise Refused(f"{name} is not a repository that git reads: {said}")
+    if found != b"sha256\n":
+        form, way = found.decode().strip(), "git fast-export --all | git fast-import into a new one"
+        raise Refused(f"{name} has the object format {form}, and ids here are of sha256: {way}, as git-to-stream --help says")
+
+
+def expect_no_part(name, *where):
+    """Refuses a shallow and a partial clone."""
+    status, found, said = git(*where, "rev-parse", "--is-shallow-repository")
+    if status:
+        raise Refused(f"git does not say whether {name} is shallow: {said}")
+    if found == b"true\n":
+        raise Refused(f"{name} is a shallow clone: git fetch --unshallow makes it whole")
+    promises = r"^(extensions\.partialclone|remote\..*\.(promisor|partialclonefilter))$"
+    if git(*where, "config", "--get-regexp", promises)[1]:
+        raise Refused(f"{name} is a partial clone: clone it without --filter")

@@ -1,0 +1,132 @@
+"""Clones of one server that tools/check guards by git gittuf: two maintainers, and whoever else comes."""
+
+import os
+import shutil
+import sys
+
+from checking import GIT_TO_STREAM, LAUNCHER, TOP, Failure, run, want
+
+TOOL = os.path.join(TOP, "tools", "git-gittuf")
+MAIN = "refs/heads/main"
+# A key that is made at once, and signs more than all checks together want.
+SMALL = ("--height", "10", "--width", "1")
+
+
+class Clones:
+    """A bare repository as the server and clones of it, in a folder of their own."""
+
+    def __init__(self, repositories, name):
+        repositories.needed()
+        self.repositories, self.folder = repositories, repositories.path(name)
+        os.mkdir(self.folder)
+        os.environ["XDG_DATA_HOME"] = os.path.join(self.folder, "data")
+        # Git finds the tool by a link in a folder of PATH.
+        links = repositories.path("links")
+        if not os.path.isdir(links):
+            os.mkdir(links)
+            os.symlink(TOOL, os.path.join(links, "git-gittuf"))
+            # The Python that runs the checks, and no wrapper around it that costs more than it.
+            os.symlink(os.path.realpath(sys.executable), os.path.join(links, "python3"))
+            os.environ["PATH"] = f"{links}:{os.environ['PATH']}"
+        # No templates: many files that nothing here uses would be copied.
+        os.environ["GIT_TEMPLATE_DIR"] = ""
+        self.git("init", "--quiet", "--bare", "-b", "main", "--object-format=sha256", "server.git", who="")
+
+    def path(self, who):
+        return os.path.join(self.folder, who)
+
+    def git(self, *words, who, input=b""):
+        status, output, errors = run("git", "-C", self.path(who), *words, input=input)
+        if status:
+            raise Failure(f"git {' '.join(words)} of {who}: {errors.decode().strip()}")
+        return output
+
+    def gittuf(self, who, *words, status=0):
+        """What git gittuf prints for these words, which are to end with this status."""
+        found, output, errors = run("git", "-C", self.path(who), "gittuf", *words)
+        if found != status:
+            raise Failure(f"git gittuf {' '.join(words)} of {who} ended with {found}: {output.decode()}{errors.decode()}")
+        return output
+
+    def refused(self, who, *words, status, part, environment=None):
+        """Holds what git gittuf refuses to its status and a part of its one line."""
+        more = tuple(f"{name}={value}" for name, value in (environment or {}).items())
+        found, output, errors = run("env", *more, "git", "-C", self.path(who), "gittuf", *words)
+        lines = errors.decode().splitlines()
+        if (found, output, len(lines)) != (status, b"", 1) or part not in lines[0]:
+            raise Failure(f"git gittuf {' '.join(words)} ended with {found}, {output!r} and {errors!r}, and wanted is {part!r}")
+
+    def clone(self, who, key=True):
+        self.git("clone", "--quiet", "server.git", who, who="")
+        # Git writes a whole path, and all are copied together.
+        self.git("remote", "set-url", "origin", "../server.git", who=who)
+        self.gittuf(who, "setup")
+        self.git("fetch", "--quiet", who=who)
+        if key:
+            self.gittuf(who, "key", "--file", self.path(f"{who}.key"), *SMALL)
+
+    def public(self, who):
+        return self.gittuf(who, "key", "--public").decode().strip()
+
+    def write(self, who, name, text):
+        path = os.path.join(self.path(who), name)
+        os.makedirs(os.path.dirname(path), exist_ok=True)
+        with open(path, "w", encoding="utf-8") as file:
+            file.write(text)
+        self.git("add", "--all", who=who)
+
+    def commit(self, who, name="README", text=None):
+        """A commit that changes a file."""
+        self.repositories.seconds += 60
+        self.write(who, name, text or f"{self.repositories.seconds}\n")
+        self.git("commit", "--quiet", "--message", f"change {name}", who=who)
+        return self.tip(who)
+
+    def tip(self, who, name=MAIN):
+        return self.git("rev-parse", name, who=who).decode().strip()
+
+    def verdict(self, who, line, *words, name=MAIN):
+        """Holds the verdict of a clone to this line, and the program's on its whole stream to the same."""
+        status = 0 if line.startswith("accepted") else 1
+        want(self.gittuf(who, "verify", name, *words, status=status).decode(), f"{line}\n", f"the verdict of {who}")
+        stream = run(GIT_TO_STREAM, self.path(who))[1]
+        found = run(LAUNCHER, "-", "-", "verify-ref", name, *words, "--stdin", input=stream)
+        want(found[:2], (status, f"{line}\n".encode()), f"the verdict on the whole stream of {who}")
+
+    def sound(self, *clones):
+        """Holds Git's own check of these clones and of the server to nothing."""
+        for who in (*clones, "server.git"):
+            found = run("git", "-C", self.path(who), "fsck", "--strict", "--no-dangling")
+            want((found[0], found[1]), (0, b""), f"what git fsck says of {who}")
+
+
+def guarded(repositories, name):
+    """A server and the clones of alice and bob, of whom either may change main, with one recorded commit."""
+    clones = Clones(repositories, name)
+    clones.git("init", "--quiet", "-b", "main", "--object-format=sha256", "alice", who="")
+    clones.git("remote", "add", "origin", "../server.git", who="alice")
+    clones.gittuf("alice", "setup")
+    clones.gittuf("alice", "key", "--file", clones.path("alice.key"), *SMALL)
+    clones.commit("alice")
+    clones.git("push", "--quiet", "--set-upstream", "origin", "main", who="alice")
+    clones.clone("bob")
+    clones.gittuf("alice", "policy", "init", "alice")
+    clones.gittuf("alice", "policy", "person", "bob", clones.public("bob"))
+    clones.gittuf("alice", "policy", "rule", "main", MAIN, "--persons", "alice,bob")
+    clones.gittuf("alice", "policy", "sign")
+    clones.gittuf("alice", "policy", "apply")
+    clones.gittuf("alice", "record", "main")
+    clones.git("push", "--quiet", who="alice")
+    clones.git("pull", "--quiet", who="bob")
+    return clones
+
+
+def another(repositories, name):
+    """Such clones once more. They are made at the first call, and copied then; the keys stay where they were made."""
+    first = getattr(repositories, "first_guarded", None)
+    if first is None:
+        first = repositories.first_guarded = guarded(repositories, "guarded")
+    copy = Clones.__new__(Clones)
+    copy.repositories, copy.folder = repositories, repositories.path(name)
+    shutil.copytree(first.folder, copy.folder, symlinks=True)
+    return copy
