@@ -6,9 +6,9 @@ use Rattle.dsse_envelope.specs.Envelopes.{reading}
 use Rattle.dsse_envelope.specs.Sealing.{has_room}
 use Rattle.dsse_envelope.specs.declared.envelope.Envelope.{Envelope}
 use Rattle.dsse_envelope.specs.declared.envelope.EnvelopeFault.{EnvelopeFault}
-use Rattle.lms_keys.specs.Secret.{Secret}
+use Rattle.hss_keys.specs.Secret.{Secret}
 use Rattle.key_file.specs.declared.open_keys.OpenFault.TheVariants as open_fault
-use Rattle.key_seals.proofs.OneKeyFile.{not_both, not_spent, one_key}
+use Rattle.key_file.proofs.OneKeyFile.{not_both, not_spent, one_key}
 use Rattle.commands_keys.specs.Contents.{SealComes}
 use Rattle.key_seals.specs.Seals.{id_text}
 use Rattle.commands_keys.specs.Inputs.{IsGiven}

@@ -3,7 +3,7 @@ use Rattle.std.proofs.Common.{◌≡◌, ℕ, false, List, sym, subst}
 use Rattle.std.specs.Prelude.{Some}
 use Rattle.edge_disk.specs.Disk.{IsKept}
 use Rattle.edge_disk.specs.declared.disks.Disk as disk
-use Rattle.lms_keys.specs.Secret.{Secret}
+use Rattle.hss_keys.specs.Secret.{Secret}
 use Rattle.key_file.proofs.Steps.{signs_from, tears_from}
 use Rattle.key_file.specs.Files.{IsUsedUp}
 use Rattle.key_file.specs.Using.{FindsNone}

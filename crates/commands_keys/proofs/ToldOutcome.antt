@@ -17,18 +17,18 @@ same_some : {X : Type 0} (x y : X) (told : Option X) → told ≡ Some x → tol
 same_some x y told e f = cc
 
 module _ {D : Type 0} (disk_of : disk.Ghosts D) where
-  told : (lms : LmsType) (ots : OtsType) (left left_now : Option (List ℕ)) (file now : List ℕ) (old new : D) (printed printed_now : Option (List ℕ)) (outcome : Result (Unit {0}) KeyGenFault)
+  told : (lms : LmsType) (ots : OtsType) (bottom : Option LmsType) (left left_now : Option (List ℕ)) (file now : List ℕ) (old new : D) (printed printed_now : Option (List ℕ)) (outcome : Result (Unit {0}) KeyGenFault)
       → disk_of.seen old ≡ Some file → disk_of.seen new ≡ Some now
-      → KeyGenEnds disk_of lms ots left left_now old new printed printed_now outcome → KeyGenComes file outcome ⊎ IsStopped (key_gen_ending outcome)
-  told lms ots left left_now file now old new printed printed_now (Ok done) held holds means = inl (same_some file [] (disk_of.seen old) held (means.1.was now holds))
-  told lms ots left left_now file now old new printed printed_now (Err NotEmpty) held holds means =
+      → KeyGenEnds disk_of lms ots bottom left left_now old new printed printed_now outcome → KeyGenComes file outcome ⊎ IsStopped (key_gen_ending outcome)
+  told lms ots bottom left left_now file now old new printed printed_now (Ok done) held holds means = inl (same_some file [] (disk_of.seen old) held (means.1.filed.was now holds))
+  told lms ots bottom left left_now file now old new printed printed_now (Err NotEmpty) held holds means =
       let same : now ≡ file = same_some now file (disk_of.seen old) (means.0.same now holds) held in
       let long : 0 < length file = subst (λ (f : List ℕ). 0 < length f) same (means.2 now holds) in
       inl (λ empty. lt_irrefl _ (subst (λ (f : List ℕ). 0 < length f) empty long))
-  told lms ots left left_now file now old new printed printed_now (Err EntropyFailed) held holds means = inr tt
-  told lms ots left left_now file now old new printed printed_now (Err DiskFailed) held holds means = inr tt
-  told lms ots left left_now file now old new printed printed_now (Err SinkFailed) held holds means = inr tt
-  told lms ots left left_now file now old new printed printed_now (Err Memory) held holds means = inr tt
+  told lms ots bottom left left_now file now old new printed printed_now (Err EntropyFailed) held holds means = inr tt
+  told lms ots bottom left left_now file now old new printed printed_now (Err DiskFailed) held holds means = inr tt
+  told lms ots bottom left left_now file now old new printed printed_now (Err SinkFailed) held holds means = inr tt
+  told lms ots bottom left left_now file now old new printed printed_now (Err Memory) held holds means = inr tt
 
   pub tells_of_keys : TellsOfKeys disk_of
   tells_of_keys = record {

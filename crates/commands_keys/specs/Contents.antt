@@ -1,6 +1,6 @@
 -- What each command comes to where source and disk tell what they hold: one outcome, faults and memory aside.
 use Rattle.std.specs.Prelude.{◌≡◌, ◌≢◌, ◌<◌, ◌≤◌, ℕ, Bool, true, false, List, [], length, Result, Ok, Err}
-use Rattle.lms_keys.specs.Secret.{Secret}
+use Rattle.hss_keys.specs.Secret.{Secret}
 use Rattle.leaf_journal.specs.KeyFile.{IsKeyFile}
 use Rattle.key_file.specs.Files.{IsLeastUnused, IsNoKeyFile, IsUsedUp}
 use Rattle.key_file.specs.declared.open_keys.OpenFault.TheVariants as open_fault

@@ -2,7 +2,7 @@
 use Rattle.std.specs.Prelude.{◌≡◌, ◌++◌, ℕ, Bool, true, false, List, Some, Result, Ok, Err, codes}
 use Rattle.edge_disk.specs.Disk.{IsKept}
 use Rattle.edge_disk.specs.declared.disks.Disk as disk
-use Rattle.lms_keys.specs.Secret.{Secret}
+use Rattle.hss_keys.specs.Secret.{Secret}
 use Rattle.leaf_journal.specs.KeyFile.{IsKeyFile}
 use Rattle.key_file.specs.Files.{IsUsedUp}
 use Rattle.key_file.specs.Opening.{WhyUnopened, open_failed}

@@ -1,12 +1,15 @@
 -- What each outcome of `key-gen` means.
-use Rattle.std.specs.Prelude.{◌≡◌, ◌<◌, ℕ, List, [], length, Option, Some, Result, Ok, Err}
+use Rattle.std.specs.Prelude.{◌≡◌, ◌<◌, ◌≤◌, ◌+◌, ℕ, List, [], length, Option, None, Some, Result, Ok, Err, option_map}
 use Rattle.octets.specs.Content.{GainsPart, with_end, with_front}
 use Rattle.edge_disk.specs.Disk.{IsKept}
 use Rattle.edge_disk.specs.declared.disks.Disk as disk
 use Rattle.lmots.specs.declared.ots_type.OtsType.{OtsType}
-use Rattle.lms_keys.specs.Secret.{Secret, public_key_of}
+use Rattle.hss_keys.specs.Secret.{Secret, public_bytes}
+use Rattle.lms_keys.specs.LmsType.{height}
 use Rattle.lms_keys.specs.declared.lms_type.LmsType.{LmsType}
 use Rattle.leaf_journal.specs.KeyFile.{IsNewKeyFile}
+use Rattle.leaf_journal.specs.declared.faults.CreateFault.{CreateFault}
+use Rattle.leaf_journal.specs.declared.faults.CreateFault.TheVariants as create
 use Rattle.endings.specs.declared.ending.Ending.{Ending}
 use Rattle.endings.specs.declared.ending.Ending.TheVariants.{Done, Refused}
 use Rattle.endings.specs.declared.ending.Part.TheVariants as part
@@ -24,14 +27,21 @@ key_gen_ending (Err DiskFailed) = Refused (refusal.Fault part.Disk)
 key_gen_ending (Err SinkFailed) = Refused (refusal.Fault part.Sink)
 key_gen_ending (Err Memory) = Refused refusal.Memory
 
-module _ {D : Type 0} (disk_of : disk.Ghosts D) (lms : LmsType) (ots : OtsType) (left left_now : Option (List ℕ)) (old new : D) where
-  -- a key was made of what was drawn: the disk held nothing, and a crash leaves the new key file and nothing else
-  pub record IsMade (key : Secret) : Type 0 where
-    pub lms_is : key.lms ≡ lms
-    pub ots_is : key.ots ≡ ots
-    pub i : length key.i ≡ 16
-    pub seed : length key.seed ≡ 32
-    pub drawn : left ≡ with_front key.i (with_front key.seed left_now)
+-- the key of these types: with two levels where the type of the trees below is told
+abbrev pub secret_of : LmsType → OtsType → Option LmsType → List ℕ → List ℕ → Secret
+secret_of lms ots bottom i seed = record {
+  top = record { lms = lms; ots = ots; i = i; seed = seed };
+  below = option_map (λ height. record { lms = height; ots = ots }) bottom;
+}
+
+-- the heights add up to at most 15
+abbrev pub IsLow : LmsType → Option LmsType → Type 0
+IsLow lms None = height lms ≤ 15
+IsLow lms (Some bottom) = height lms + height bottom ≤ 15
+
+module _ {D : Type 0} (disk_of : disk.Ghosts D) (old new : D) where
+  -- the disk held nothing, and a crash leaves the new key file and nothing else
+  pub record IsFiled (key : Secret) : Type 0 where
     pub was : (file : List ℕ) → disk_of.seen new ≡ Some file → disk_of.seen old ≡ Some []
     pub file : (file : List ℕ) → disk_of.seen new ≡ Some file → IsNewKeyFile key file
     pub only : (c : List ℕ) → disk_of.may_leave new c → IsNewKeyFile key c
@@ -40,12 +50,30 @@ module _ {D : Type 0} (disk_of : disk.Ghosts D) (lms : LmsType) (ots : OtsType) 
   abbrev pub IsUnmade : Type 0
   IsUnmade = IsKept (disk_of.seen old) (disk_of.seen new) (disk_of.may_leave old) (disk_of.may_leave new)
 
+  -- why no key was made, and what is left of the disk
+  abbrev pub WhyUnmade : CreateFault → Type 0
+  WhyUnmade create.TooTall = ⊥
+  WhyUnmade (create.NotEmpty len) = IsUnmade × ((file : List ℕ) → disk_of.seen new ≡ Some file → 0 < length file)
+  WhyUnmade create.Disk = Unit {0}
+  WhyUnmade create.Memory = IsUnmade
+
+module _ {D : Type 0} (disk_of : disk.Ghosts D) (lms : LmsType) (ots : OtsType) (bottom : Option LmsType) (left left_now : Option (List ℕ)) (old new : D) where
+  -- the key of these types was made of what was drawn
+  pub record IsMade (key : Secret) : Type 0 where
+    pub i : List ℕ
+    pub seed : List ℕ
+    pub is : key ≡ secret_of lms ots bottom i seed
+    pub i_long : length i ≡ 16
+    pub seed_long : length seed ≡ 32
+    pub drawn : left ≡ with_front i (with_front seed left_now)
+    pub filed : IsFiled disk_of old new key
+
   -- a key was made and told; or why not, and what is left of it
   abbrev pub KeyGenEnds : Option (List ℕ) → Option (List ℕ) → Result (Unit {0}) KeyGenFault → Type 0
-  KeyGenEnds printed printed_now (Ok done) = (key : Secret) × IsMade key × (printed_now ≡ with_end printed (key_line (public_key_of key)))
+  KeyGenEnds printed printed_now (Ok done) = (key : Secret) × IsMade key × (printed_now ≡ with_end printed (key_line (public_bytes key)))
   KeyGenEnds printed printed_now (Err NotEmpty) =
-      IsUnmade × (printed_now ≡ printed) × ((file : List ℕ) → disk_of.seen new ≡ Some file → 0 < length file)
+      IsUnmade disk_of old new × (printed_now ≡ printed) × ((file : List ℕ) → disk_of.seen new ≡ Some file → 0 < length file)
   KeyGenEnds printed printed_now (Err EntropyFailed) = (new ≡ old) × (printed_now ≡ printed)
   KeyGenEnds printed printed_now (Err DiskFailed) = printed_now ≡ printed
-  KeyGenEnds printed printed_now (Err SinkFailed) = (key : Secret) × IsMade key × GainsPart printed printed_now (key_line (public_key_of key))
-  KeyGenEnds printed printed_now (Err Memory) = IsUnmade × (printed_now ≡ printed)
+  KeyGenEnds printed printed_now (Err SinkFailed) = (key : Secret) × IsMade key × GainsPart printed printed_now (key_line (public_bytes key))
+  KeyGenEnds printed printed_now (Err Memory) = IsUnmade disk_of old new × (printed_now ≡ printed)

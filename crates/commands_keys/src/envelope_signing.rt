@@ -5,7 +5,7 @@ ghost use Rattle.octets.specs.Causes.{HasCause};
 ghost use Rattle.edge_disk.specs.Moments.{LeavesOnly};
 ghost use Rattle.leaf_journal.specs.KeyFile.{KeepsUsed};
 ghost use Rattle.leaf_journal.specs.Signing.{IsLoaded};
-ghost use Rattle.lms_keys.specs.LmsType.{signature_len};
+ghost use Rattle.hss_keys.specs.Secret.{signature_len};
 ghost use Rattle.dsse_envelope.specs.Envelopes.{reading};
 ghost use Rattle.dsse_envelope.specs.Sealing.{has_room, sealed};
 ghost use Rattle.dsse_envelope.specs.Written.{HasTextId, text_of};
@@ -60,7 +60,7 @@ fn sign_with<D: Disk>(
     disk: &mut D,
 ) -> Result<Octets, SigningFault>
     requires loaded { (file : List ℕ) → D.seen disk.old ≡ Some file → IsLoaded file key.signer }
-    requires room { length key.room.items ≡ signature_len key.signer.secret.lms key.signer.secret.ots }
+    requires room { length key.room.items ≡ signature_len key.signer.secret }
     requires sealable { IsSealable envelope }
     requires id { keyid ≡ id_text key.signer.secret }
     requires utf8 { IsUtf8 keyid }

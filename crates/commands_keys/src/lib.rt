@@ -13,10 +13,6 @@ mod key_lines;
 pub mod laws;
 mod making_keys;
 mod sealing;
-#[cfg(test)]
-mod sealing_tests;
-#[cfg(test)]
-mod tests;
 
 pub use envelope_signing::SigningFault;
 pub use inputs::InputFault;

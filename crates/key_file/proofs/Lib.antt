@@ -1,2 +1,3 @@
+pub mod OneKeyFile
 pub mod Reading
 pub mod Steps

@@ -5,7 +5,7 @@ use Rattle.octets.specs.Content.{Stays}
 use Rattle.edge_disk.specs.Disk.{IsKept}
 use Rattle.edge_disk.specs.Moments.{LeavesOnly}
 use Rattle.edge_disk.specs.declared.disks.Disk as disk
-use Rattle.lms_keys.specs.Secret.{Secret}
+use Rattle.hss_keys.specs.Secret.{Secret}
 use Rattle.leaf_journal.proofs.Moving.{then, weaker}
 use Rattle.leaf_journal.specs.KeyFile.{KeepsUsed}
 use Rattle.key_file.specs.Files.{IsUsedUp}
@@ -13,12 +13,15 @@ use Rattle.key_file.specs.Signing.{Finds}
 use Rattle.key_file.specs.Using.{FindsNone, MayTear, SignsWith}
 
 module _ {D : Type 0} (disk_of : disk.Ghosts D) where
+  pub opened : (old mid : D) → LeavesOnly disk_of.moment disk_of.left_since old mid (disk_of.may_leave old) → LeavesOnly disk_of.moment disk_of.left_since old mid (KeepsUsed (disk_of.may_leave old))
+  opened old mid run = weaker disk_of.moment disk_of.left_since old mid (disk_of.may_leave old) (KeepsUsed (disk_of.may_leave old)) (λ c may start q used. used c may) run
+
   pub moments : (old mid new : D) → LeavesOnly disk_of.moment disk_of.left_since old mid (disk_of.may_leave old) → ((c : List ℕ) → disk_of.may_leave mid c → disk_of.may_leave old c)
       → LeavesOnly disk_of.moment disk_of.left_since mid new (KeepsUsed (disk_of.may_leave mid)) → LeavesOnly disk_of.moment disk_of.left_since old new (KeepsUsed (disk_of.may_leave old))
   moments old mid new first less next =
       then disk_of.moment disk_of.left_since old mid new (KeepsUsed (disk_of.may_leave old))
-      (weaker disk_of.moment disk_of.left_since old mid (disk_of.may_leave old) (KeepsUsed (disk_of.may_leave old)) (λ c may q used. used c may) first)
-      (weaker disk_of.moment disk_of.left_since mid new (KeepsUsed (disk_of.may_leave mid)) (KeepsUsed (disk_of.may_leave old)) (λ c keeps q used. keeps q (λ d may. used d (less d may))) next)
+      (opened old mid first)
+      (weaker disk_of.moment disk_of.left_since mid new (KeepsUsed (disk_of.may_leave mid)) (KeepsUsed (disk_of.may_leave old)) (λ c keeps start q used. keeps start q (λ d may. used d (less d may))) next)
 
   pub signs_from : (old mid new : D) (secret : Secret) (message signature : List ℕ) → Stays (disk_of.seen old) (disk_of.seen mid)
       → SignsWith disk_of secret message mid new signature → SignsWith disk_of secret message old new signature

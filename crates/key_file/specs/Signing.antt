@@ -2,7 +2,7 @@
 use Rattle.std.specs.Prelude.{◌≡◌, ℕ, Bool, List, Some, Result, Ok, Err}
 use Rattle.edge_disk.specs.Disk.{IsKept}
 use Rattle.edge_disk.specs.declared.disks.Disk as disk
-use Rattle.lms_keys.specs.Secret.{Secret, public_key_of}
+use Rattle.hss_keys.specs.Secret.{Secret, public_bytes}
 use Rattle.leaf_journal.specs.Faults.{sign_failed}
 use Rattle.leaf_journal.specs.declared.faults.SignFault.TheVariants as sign
 use Rattle.key_file.specs.Files.{IsUsedUp}
@@ -25,7 +25,7 @@ module _ {D : Type 0} (disk_of : disk.Ghosts D) (message : List ℕ) (old new : 
 
   -- a signature for the key of the file; or the file as it was, and why there is none; or its first unused leaf torn
   abbrev pub SignEnds : Result Signed KeyFault → Type 0
-  SignEnds (Ok signed) = (secret : Secret) × (signed.public ≡ public_key_of secret) × SignsWith disk_of secret message old new signed.signature
+  SignEnds (Ok signed) = (secret : Secret) × (signed.public ≡ public_bytes secret) × SignsWith disk_of secret message old new signed.signature
   SignEnds (Err (Unopened fault)) = Finds (WhyUnopened fault)
   SignEnds (Err (Unsigned sign.Exhausted)) = Finds (λ file. (secret : Secret) × IsUsedUp file secret)
   SignEnds (Err (Unsigned sign.Disk)) = (secret : Secret) × MayTear disk_of secret old new

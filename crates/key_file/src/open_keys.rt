@@ -7,14 +7,12 @@ ghost use Rattle.edge_disk.specs.Moments.{LeavesOnly};
 ghost use Rattle.leaf_journal.specs.Faults.{sign_failed};
 ghost use Rattle.leaf_journal.specs.KeyFile.{KeepsUsed};
 ghost use Rattle.leaf_journal.specs.Signing.{IsLoaded};
-ghost use Rattle.lms_keys.specs.LmsType.{signature_len};
-ghost use Rattle.lms_keys.specs.Secret.{public_key_of};
+ghost use Rattle.hss_keys.specs.Secret.{public_bytes, signature_len};
 ghost use Rattle.key_file.specs.Opening.{WhyUnopened, open_failed, opened_fault};
 ghost use Rattle.key_file.specs.Using.{UseEnds};
 
 use edge_disk::Disk;
 use leaf_journal::{LoadFault, SignFault, Signer};
-use lms_keys::PublicKey;
 use octets::Octets;
 use std::alloc::Global;
 
@@ -36,16 +34,16 @@ pub struct OpenKey {
 }
 
 impl OpenKey {
-    /// The key's public part.
-    pub fn public(&self) -> PublicKey
-        ensures { result ≡ public_key_of self.now.signer.secret }
+    /// The public key: 56 bytes of one level (RFC 8554, section 5.3), or 60 of two (section 6.1).
+    pub fn public_bytes(&self) -> &[u8]
+        ensures { result.now ≡ public_bytes self.now.signer.secret }
     {
-        self.signer.public()
+        self.signer.public_bytes()
     }
 
     /// The number of bytes of a signature by this key.
     pub fn signature_len(&self) -> usize
-        ensures { result ≡ signature_len self.now.signer.secret.lms self.now.signer.secret.ots }
+        ensures { result ≡ signature_len self.now.signer.secret }
     {
         self.signer.signature_len()
     }
@@ -66,7 +64,7 @@ fn open_fault(fault: LoadFault) -> OpenFault
 /// Opens the key file that a disk holds, and takes the memory for one signature. The disk is as it was.
 pub fn open_key<D: Disk>(alloc: Global, disk: &mut D) -> Result<OpenKey, OpenFault>
     ensures loaded { IfOk result (λ key. (file : List ℕ) → D.seen disk.new ≡ Some file → IsLoaded file key.signer) }
-    ensures room { IfOk result (λ key. length key.room.items ≡ signature_len key.signer.secret.lms key.signer.secret.ots) }
+    ensures room { IfOk result (λ key. length key.room.items ≡ signature_len key.signer.secret) }
     ensures why { IfErr result (λ fault. (file : List ℕ) → D.seen disk.new ≡ Some file → WhyUnopened fault file) }
     ensures kept { IsKept (D.seen disk.old) (D.seen disk.new) (D.may_leave disk.old) (D.may_leave disk.new) }
     ensures any_moment { LeavesOnly D.moment D.left_since disk.old disk.new (D.may_leave disk.old) }
@@ -88,9 +86,9 @@ pub fn open_key<D: Disk>(alloc: Global, disk: &mut D) -> Result<OpenKey, OpenFau
 /// first unused leaf may be any. It takes no memory.
 pub fn use_leaf<D: Disk>(key: OpenKey, disk: &mut D, message: &[u8]) -> Result<Octets, SignFault>
     requires loaded { (file : List ℕ) → D.seen disk.old ≡ Some file → IsLoaded file key.signer }
-    requires room { length key.room.items ≡ signature_len key.signer.secret.lms key.signer.secret.ots }
+    requires room { length key.room.items ≡ signature_len key.signer.secret }
     ensures ends { UseEnds D.Disk key.signer.secret message.now disk.old disk.new result }
-    ensures long { IfOk result (λ signature. length signature ≡ signature_len key.signer.secret.lms key.signer.secret.ots) }
+    ensures long { IfOk result (λ signature. length signature ≡ signature_len key.signer.secret) }
     ensures any_moment { LeavesOnly D.moment D.left_since disk.old disk.new (KeepsUsed (D.may_leave disk.old)) }
     ensures cause { HasCause sign_failed (D.faults disk.old) (D.faults disk.new) result }
 {

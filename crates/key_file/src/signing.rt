@@ -9,7 +9,6 @@ ghost use Rattle.key_file.specs.Signing.{SignEnds, key_failed};
 use crate::open_keys::{OpenFault, open_key, use_leaf};
 use edge_disk::Disk;
 use leaf_journal::SignFault;
-use lms_keys::PublicKey;
 use octets::Octets;
 use std::alloc::Global;
 
@@ -22,10 +21,10 @@ pub enum KeyFault {
     Unsigned { fault: SignFault },
 }
 
-/// A signature, and the public part of the key that made it.
+/// A signature, and the bytes of the public key of the key that made it.
 #[derive(Drop)]
 pub struct Signed {
-    pub public: PublicKey,
+    pub public: Octets,
     pub signature: Octets,
 }
 
@@ -44,7 +43,11 @@ pub fn sign_message<D: Disk>(
         Ok(key) => key,
         Err(fault) => return Err(KeyFault::Unopened { fault }),
     };
-    let public = key.public();
+    let Ok(public) = Octets::from_slice(alloc, key.public_bytes()) else {
+        return Err(KeyFault::Unopened {
+            fault: OpenFault::Memory,
+        });
+    };
     match use_leaf(key, disk, message) {
         Ok(signature) => Ok(Signed { public, signature }),
         Err(SignFault::Exhausted) => Err(KeyFault::Unsigned {

@@ -2,7 +2,7 @@ use crate::{KeyFault, OpenFault, open_key, sign_message};
 use edge_disk::MemDisk;
 use leaf_journal::{SignFault, create};
 use lmots::OtsType;
-use lms_keys::{LmsType, verify};
+use lms_keys::{LmsType, verify_any};
 use octets::Octets;
 use std::alloc::Global;
 use std::test::Fail;
@@ -21,7 +21,11 @@ fn sign(alloc: Global, disk: &mut MemDisk, message: &[u8]) -> Result<Option<u8>,
     let Ok(signed) = sign_message(alloc, disk, message) else {
         return Err("a signature".into());
     };
-    if !verify(&signed.public, message, signed.signature.as_slice()) {
+    if !verify_any(
+        signed.public.as_slice(),
+        message,
+        signed.signature.as_slice(),
+    ) {
         return Err("a good signature".into());
     }
     Ok(signed.signature.as_slice().get(3).copied())

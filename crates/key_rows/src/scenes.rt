@@ -2,7 +2,7 @@
 
 use edge_disk::MemDisk;
 use key_file::sign_message;
-use lms_keys::verify;
+use lms_keys::verify_any;
 use octets::Octets;
 use std::alloc::Global;
 use std::test::Fail;
@@ -33,7 +33,11 @@ pub(crate) fn next_leaf(alloc: Global, disk: &mut MemDisk) -> Result<Option<u8>,
     let Ok(signed) = sign_message(alloc, disk, MESSAGE) else {
         return Ok(None);
     };
-    if !verify(&signed.public, MESSAGE, signed.signature.as_slice()) {
+    if !verify_any(
+        signed.public.as_slice(),
+        MESSAGE,
+        signed.signature.as_slice(),
+    ) {
         return Err("a good signature".into());
     }
     Ok(signed.signature.as_slice().get(3).copied())

@@ -4,12 +4,12 @@
 use crate::scenes::{MESSAGE, disk_of};
 use edge_disk::MemDisk;
 use leaf_journal::Signer;
-use lms_keys::{PublicKey, verify};
+use lms_keys::verify_any;
 use std::alloc::Global;
 use std::test::Fail;
 
 // Opens a signer and signs once. The signature has to be good for this key.
-fn sign_for(alloc: Global, disk: &mut MemDisk, key: &PublicKey) -> Result<u32, Fail> {
+fn sign_for(alloc: Global, disk: &mut MemDisk, key: &[u8]) -> Result<u32, Fail> {
     let Ok(mut signer) = Signer::load(alloc, disk) else {
         return Err("a signer".into());
     };
@@ -17,7 +17,7 @@ fn sign_for(alloc: Global, disk: &mut MemDisk, key: &PublicKey) -> Result<u32, F
     let Ok(leaf) = signer.sign(disk, MESSAGE, out.as_mut_slice()) else {
         return Err("a signature".into());
     };
-    if !verify(key, MESSAGE, out.as_slice()) {
+    if !verify_any(key, MESSAGE, out.as_slice()) {
         return Err("a good signature".into());
     }
     Ok(leaf)
@@ -28,8 +28,8 @@ fn leaves_beside(alloc: Global, disk: &mut MemDisk) -> Result<(u32, u32), Fail> 
     let Ok(idle) = Signer::load(alloc, disk) else {
         return Err("an idle signer".into());
     };
-    let one = sign_for(alloc, disk, &idle.public())?;
-    let next = sign_for(alloc, disk, &idle.public())?;
+    let one = sign_for(alloc, disk, idle.public_bytes())?;
+    let next = sign_for(alloc, disk, idle.public_bytes())?;
     Ok((one, next))
 }
 

@@ -1,4 +1,3 @@
 pub mod Placed
 pub mod Plain
 pub mod Lengths
-pub mod OneKeyFile

@@ -2,8 +2,7 @@
 use Rattle.std.specs.Prelude.{◌≡◌, ◌≤◌, ◌<◌, ℕ, All, IsUtf8, List, length}
 use Rattle.hex.specs.Hex.{IsBytes, encode_lower}
 use Rattle.sha2.specs.Sha256.{sha256}
-use Rattle.lms_keys.specs.PublicKey.{key_bytes}
-use Rattle.lms_keys.specs.Secret.{Secret, public_key_of}
+use Rattle.hss_keys.specs.Secret.{Secret, public_bytes}
 use Rattle.dsse_envelope.specs.Authentication.{pae}
 use Rattle.dsse_envelope.specs.Sealing.{sealed}
 use Rattle.dsse_envelope.specs.Written.{HasTextId, text_of}
@@ -12,7 +11,7 @@ use Rattle.dsse_envelope.specs.declared.envelope.Signature.{Signature}
 
 -- the id of a key in lower-case hexadecimal
 abbrev pub id_text : Secret → List ℕ
-id_text secret = encode_lower (sha256 (key_bytes (public_key_of secret)))
+id_text secret = encode_lower (sha256 (public_bytes secret))
 
 abbrev pub signature_of : List ℕ → List ℕ → Signature
 signature_of keyid bytes = record { keyid = keyid; sig = bytes }

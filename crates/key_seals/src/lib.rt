@@ -26,7 +26,7 @@ pub fn id_text(alloc: Global, key: &OpenKey) -> Result<Octets, Memory>
     ensures text { IfOk result (λ text. text ≡ id_text key.now.signer.secret) }
     ensures utf8 { IfOk result IsUtf8 }
 {
-    let id = key_id(&key.public().write());
+    let id = key_id(key.public_bytes());
     let text = hex::encode(alloc, id.0)?;
     Octets::from_slice(alloc, text.as_bytes())
 }

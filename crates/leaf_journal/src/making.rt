@@ -1,39 +1,43 @@
 //! A new key file.
 
-ghost use Rattle.std.specs.Prelude.{◌≡◌, ◌<◌, ◌≤◌, ◌↔◌, [], ℕ, List, length, IfOk, OnOk, OnErr, IsErrOf, Some};
+ghost use Rattle.std.specs.Prelude.{◌≡◌, ◌+◌, ◌<◌, ◌≤◌, ◌↔◌, [], ℕ, List, length, IfOk, OnOk, OnErr, IsErrOf, Some, None};
 ghost use Rattle.octets.specs.Causes.{HasCause, each};
 ghost use Rattle.edge_disk.specs.Disk.{IsKept, Written};
 ghost use Rattle.lms_keys.specs.LmsType.{height};
 ghost use Rattle.lms_keys.specs.Secret.{public_key_of};
+ghost use Rattle.hss_keys.specs.Secret.{height_below, public_bytes};
+ghost use Rattle.hss_keys.specs.declared.below.Below.{Below};
 ghost use Rattle.leaf_journal.specs.Faults.{create_failed};
 ghost use Rattle.leaf_journal.specs.KeyFile.{IsNewKeyFile};
+ghost use Rattle.leaf_journal.specs.Loading.{secret_with};
 ghost use Rattle.leaf_journal.specs.declared.faults.CreateFault.TheVariants as fault;
 
 use crate::CreateFault;
-use crate::headers::write_header;
+use crate::headers::{Header, leaves_of, write_header};
 use edge_disk::Disk;
 use edge_io::Failed;
+use hss_keys::{Below, hss_public};
 use lmots::OtsType;
 use lms_keys::{LmsType, PublicKey, SecretKey};
+use octets::Octets;
 use std::alloc::{AllocError, Global};
 
 // The bytes of a new key file.
 fn new_file(
     alloc: Global,
-    lms: LmsType,
-    ots: OtsType,
+    header: &Header,
     i: &[u8; 16],
     seed: &[u8; 32],
 ) -> Result<Vec<u8>, AllocError>
-    requires { height lms ≤ 15 }
-    ensures { IfOk result (λ file. IsNewKeyFile (record { lms = lms; ots = ots; i = i.now; seed = seed.now }) file.items) }
+    requires { height header.now.lms + height_below header.now.below ≤ 15 }
+    ensures { IfOk result (λ file. IsNewKeyFile (secret_with header.now i.now seed.now) file.items) }
 {
-    let mut file = vec![in alloc; 0u8; 64 + lms.leaves() as usize]?;
-    let (head, _) = file.as_mut_slice().split_at_mut(64);
-    write_header(lms, ots, i, seed, head);
+    let start = header.start() as usize;
+    let mut file = vec![in alloc; 0u8; start + leaves_of(header.height()) as usize]?;
+    let (head, _) = file.as_mut_slice().split_at_mut(start);
+    write_header(header, i, seed, head);
     Ok(file)
 }
-
 // Writes what an empty disk is to hold, and makes it last.
 fn write_whole<D: Disk>(disk: &mut D, bytes: &[u8]) -> Result<(), Failed>
     requires { (file : List ℕ) → D.seen disk.old ≡ Some file → file ≡ [] }
@@ -62,8 +66,8 @@ fn expect_empty<D: Disk>(disk: &mut D) -> Result<(), CreateFault>
     Ok(())
 }
 
-/// Writes the key file of a new key, of which no leaf is used, to a disk that holds nothing, and answers the key's
-/// public part. The key is drawn from an identifier, which RFC 8554 calls I, and a seed.
+/// Writes the key file of a new key of one level, of which no leaf is used, to a disk that holds nothing, and answers the
+/// key's public part. The key is drawn from an identifier, which RFC 8554 calls I, and a seed.
 ///
 /// `TooTall` comes exactly for more than 15 levels, and `NotEmpty` exactly where the disk holds something; then, and
 /// at `Memory`, the disk is as it was. After `Disk` it may hold a part of the file. After Ok a crash leaves the file
@@ -77,8 +81,8 @@ pub fn create<D: Disk>(
     seed: [u8; 32],
 ) -> Result<PublicKey, CreateFault>
     ensures key { IfOk result (λ key. key ≡ public_key_of (record { lms = lms; ots = ots; i = i; seed = seed })) }
-    ensures only { OnOk result ((c : List ℕ) → D.may_leave disk.new c → IsNewKeyFile (record { lms = lms; ots = ots; i = i; seed = seed }) c) }
-    ensures file { OnOk result ((c : List ℕ) → D.seen disk.new ≡ Some c → IsNewKeyFile (record { lms = lms; ots = ots; i = i; seed = seed }) c) }
+    ensures only { OnOk result ((c : List ℕ) → D.may_leave disk.new c → IsNewKeyFile (record { top = record { lms = lms; ots = ots; i = i; seed = seed }; below = None }) c) }
+    ensures file { OnOk result ((c : List ℕ) → D.seen disk.new ≡ Some c → IsNewKeyFile (record { top = record { lms = lms; ots = ots; i = i; seed = seed }; below = None }) c) }
     ensures one { OnOk result ((a b : List ℕ) → D.may_leave disk.new a → D.may_leave disk.new b → a ≡ b) }
     ensures was { OnOk result ((c : List ℕ) → D.seen disk.new ≡ Some c → D.seen disk.old ≡ Some []) }
     ensures tall { IsErrOf result fault.TooTall ↔ (15 < height lms) }
@@ -93,10 +97,78 @@ pub fn create<D: Disk>(
         Ok(()) => {}
         Err(fault) => return Err(fault),
     }
-    let file = new_file(alloc, lms, ots, &i, &seed)?;
+    let header = Header {
+        lms,
+        ots,
+        below: None,
+    };
+    let file = new_file(alloc, &header, &i, &seed)?;
     let Ok(key) = SecretKey::of(alloc, lms, ots, i, seed) else {
         return Err(CreateFault::Memory);
     };
     write_whole(disk, file.as_slice())?;
     Ok(key.public())
+}
+
+// The 60 bytes of the public key of two levels with this top key.
+fn public_of_two(
+    alloc: Global,
+    lms: LmsType,
+    ots: OtsType,
+    i: [u8; 16],
+    seed: [u8; 32],
+) -> Result<Octets, AllocError>
+    requires { height lms ≤ 15 }
+    ensures long { IfOk result (λ bytes. length bytes ≡ 60) }
+    ensures key { IfOk result (λ bytes. (below : Below) → bytes ≡ public_bytes (record { top = record { lms = lms; ots = ots; i = i; seed = seed }; below = Some below })) }
+{
+    let Ok(key) = SecretKey::of(alloc, lms, ots, i, seed) else {
+        return Err(AllocError);
+    };
+    match Octets::from_slice(alloc, hss_public(&key.public()).as_slice()) {
+        Ok(bytes) => Ok(bytes),
+        Err(_) => Err(AllocError),
+    }
+}
+
+/// Writes the key file of a new key of two levels, as `create` does of one: the keys below have `bottom` for their tree,
+/// and all have one-time keys of one type. It answers the 60 bytes of the public key (RFC 8554, section 6.1).
+///
+/// `TooTall` comes exactly where the two heights add up to more than 15; the others come as from `create`.
+pub fn create_two<D: Disk>(
+    alloc: Global,
+    disk: &mut D,
+    top: LmsType,
+    bottom: LmsType,
+    ots: OtsType,
+    i: [u8; 16],
+    seed: [u8; 32],
+) -> Result<Octets, CreateFault>
+    ensures long { IfOk result (λ bytes. length bytes ≡ 60) }
+    ensures key { IfOk result (λ bytes. bytes ≡ public_bytes (record { top = record { lms = top; ots = ots; i = i; seed = seed }; below = Some (record { lms = bottom; ots = ots }) })) }
+    ensures only { OnOk result ((c : List ℕ) → D.may_leave disk.new c → IsNewKeyFile (record { top = record { lms = top; ots = ots; i = i; seed = seed }; below = Some (record { lms = bottom; ots = ots }) }) c) }
+    ensures file { OnOk result ((c : List ℕ) → D.seen disk.new ≡ Some c → IsNewKeyFile (record { top = record { lms = top; ots = ots; i = i; seed = seed }; below = Some (record { lms = bottom; ots = ots }) }) c) }
+    ensures one { OnOk result ((a b : List ℕ) → D.may_leave disk.new a → D.may_leave disk.new b → a ≡ b) }
+    ensures was { OnOk result ((c : List ℕ) → D.seen disk.new ≡ Some c → D.seen disk.old ≡ Some []) }
+    ensures tall { IsErrOf result fault.TooTall ↔ (15 < height top + height bottom) }
+    ensures not_empty { (len : ℕ) → IsErrOf result (fault.NotEmpty len) → (file : List ℕ) → D.seen disk.new ≡ Some file → (len ≡ length file) × (0 < len) }
+    ensures untouched { OnErr result ((IsErrOf result fault.Disk → ⊥) → IsKept (D.seen disk.old) (D.seen disk.new) (D.may_leave disk.old) (D.may_leave disk.new)) }
+    ensures cause { HasCause create_failed (D.faults disk.old) (D.faults disk.new) result }
+{
+    if top.height() + bottom.height() > 15 {
+        return Err(CreateFault::TooTall);
+    }
+    match expect_empty(disk) {
+        Ok(()) => {}
+        Err(fault) => return Err(fault),
+    }
+    let header = Header {
+        lms: top,
+        ots,
+        below: Some(Below { lms: bottom, ots }),
+    };
+    let file = new_file(alloc, &header, &i, &seed)?;
+    let public = public_of_two(alloc, top, ots, i, seed)?;
+    write_whole(disk, file.as_slice())?;
+    Ok(public)
 }

@@ -5,29 +5,31 @@ ghost use Rattle.octets.specs.Causes.{HasCause};
 ghost use Rattle.octets.specs.Content.{Told};
 ghost use Rattle.edge_disk.specs.Disk.{IsKept, Torn, Written};
 ghost use Rattle.edge_disk.specs.Moments.{LeavesOnly};
-ghost use Rattle.lms_keys.specs.LmsType.{height, signature_len};
-ghost use Rattle.lms_keys.specs.Secret.{public_key_of};
+ghost use Rattle.hss_keys.specs.Secret.{height_of, public_bytes, signature_len};
 ghost use Rattle.leaf_journal.specs.Faults.{load_failed, sign_failed};
-ghost use Rattle.leaf_journal.specs.KeyFile.{KeepsUsed, UsedInAll};
+ghost use Rattle.leaf_journal.specs.KeyFile.{KeepsUsed, UsedInAll, start_of};
 ghost use Rattle.leaf_journal.specs.Loading.{WhyNotLoaded};
 ghost use Rattle.leaf_journal.specs.Runs.{Marks, Opens, Releases, in_use};
 ghost use Rattle.leaf_journal.specs.declared.faults.SignFault.TheVariants as fault;
 
 use crate::first_free::first_free;
+use crate::headers::leaves_of;
 use crate::leaf_writes::write_leaf;
-use crate::loading::{read_head, read_marks};
+use crate::loading::{make_key, read_head, read_marks};
 use crate::{LoadFault, SignFault};
 use edge_disk::Disk;
 use edge_io::Failed;
-use lms_keys::{PublicKey, SecretKey};
+use hss_keys::SigningKey;
 use std::alloc::Global;
 use std::marker::Model;
 
 /// A key and a mark for each of its leaves. A leaf that is marked signs no more.
 #[derive(Drop)]
 pub struct Signer {
-    key: SecretKey,
+    key: SigningKey,
     marks: Vec<u8>,
+    // The place of the first leaf's byte in the file.
+    start: u64,
 }
 
 impl Model for Signer {
@@ -37,30 +39,31 @@ impl Model for Signer {
 
     ghost view = { λ s. record { secret = s.key; marks = s.marks.items } };
 
-    ghost invariant = { λ s. HasMarks s.key s.marks.items };
+    ghost invariant = { λ s. HasMarks s.key s.marks.items s.start };
 }
 
 impl Signer {
     ghost use Rattle.leaf_journal.specs.Signing.{AllMarked, Covers, IsLeast, IsLoaded, Signs, marking};
 
-    /// The key's public part.
-    pub fn public(&self) -> PublicKey
-        ensures { result ≡ public_key_of self.now.secret }
+    /// The public key: 56 bytes of one level (RFC 8554, section 5.3), or 60 of two (section 6.1).
+    pub fn public_bytes(&self) -> &[u8]
+        ensures { result.now ≡ public_bytes self.now.secret }
     {
-        self.key.public()
+        self.key.public_bytes()
     }
 
     /// The bytes of each of the key's signatures.
     pub fn signature_len(&self) -> usize
-        ensures { result ≡ signature_len self.now.secret.lms self.now.secret.ots }
+        ensures { result ≡ signature_len self.now.secret }
     {
         self.key.signature_len()
     }
 
     /// Reads the key file that a disk holds, and marks exactly the leaves that are used in it.
     ///
-    /// With fewer than 64 bytes `WrongLength` comes; else `BadHeader` where the first 64 bytes are no header, and then
-    /// `WrongLength` where the length is not 64 and one for each leaf. The disk is as it was.
+    /// With fewer than 64 bytes `WrongLength` comes; else `BadHeader` where the first bytes are the header of no key, 64
+    /// of one level and 72 of two, and then `WrongLength` where the length is not the header's and one for each leaf.
+    /// The disk is as it was. With two levels the tree of one key below is made, so that signing needs no memory.
     pub fn load<D: Disk>(alloc: Global, disk: &mut D) -> Result<Signer, LoadFault>
         ensures loaded { IfOk result (λ signer. (file : List ℕ) → D.seen disk.new ≡ Some file → IsLoaded file signer) }
         ensures covers { IfOk result (λ signer. (file : List ℕ) → D.seen disk.new ≡ Some file → Covers signer file) }
@@ -71,16 +74,17 @@ impl Signer {
         ensures cause { HasCause load_failed (D.faults disk.old) (D.faults disk.new) result }
     {
         let (mut i, mut seed) = ([0u8; 16], [0u8; 32]);
-        let (lms, ots) = match read_head(disk, &mut i, &mut seed) {
-            Ok(types) => types,
+        let header = match read_head(disk, &mut i, &mut seed) {
+            Ok(header) => header,
             Err(fault) => return Err(fault),
         };
-        let marks = match read_marks(alloc, disk, lms.leaves()) {
+        let start = header.start();
+        let marks = match read_marks(alloc, disk, start, leaves_of(header.height())) {
             Ok(marks) => marks,
             Err(fault) => return Err(fault),
         };
-        match SecretKey::of(alloc, lms, ots, i, seed) {
-            Ok(key) => Ok(Signer { key, marks }),
+        match make_key(alloc, &header, i, seed, marks.as_slice()) {
+            Ok(key) => Ok(Signer { key, marks, start }),
             Err(_) => Err(LoadFault::Memory),
         }
     }
@@ -98,15 +102,15 @@ impl Signer {
         message: &[u8],
         out: &mut [u8],
     ) -> Result<u32, SignFault>
-        requires room { length out.old ≡ signature_len self.old.secret.lms self.old.secret.ots }
+        requires room { length out.old ≡ signature_len self.old.secret }
         requires covers { (file : List ℕ) → D.seen disk.old ≡ Some file → Covers self.old file }
         ensures least { IfOk result (λ q. IsLeast self.old.marks q × (self.new ≡ marking self.old q)) }
         ensures used { IfOk result (UsedInAll (D.may_leave disk.new)) }
         ensures signed { IfOk result (λ q. Signs self.old.secret message.now q out.new) }
-        ensures written { IfOk result (λ q. Told (Written (64 + q) (1 ∷ [])) (D.seen disk.old) (D.seen disk.new)) }
+        ensures written { IfOk result (λ q. Told (Written (start_of self.old.secret.below + q) (1 ∷ [])) (D.seen disk.old) (D.seen disk.new)) }
         ensures exhausted { IsErrOf result fault.Exhausted ↔ AllMarked self.old.marks }
         ensures untouched { IsErrOf result fault.Exhausted → (self.new ≡ self.old) × (disk.new ≡ disk.old) }
-        ensures failed { IsErrOf result fault.Disk → (q : ℕ) × IsLeast self.old.marks q × (self.new ≡ marking self.old q) × Told (Torn (64 + q) 1) (D.seen disk.old) (D.seen disk.new) }
+        ensures failed { IsErrOf result fault.Disk → (q : ℕ) × IsLeast self.old.marks q × (self.new ≡ marking self.old q) × Told (Torn (start_of self.old.secret.below + q) 1) (D.seen disk.old) (D.seen disk.new) }
         ensures silent { OnErr result (out.new ≡ out.old) }
         ensures covers { (file : List ℕ) → D.seen disk.new ≡ Some file → Covers self.new file }
         ensures key { self.new.secret ≡ self.old.secret }
@@ -120,7 +124,7 @@ impl Signer {
         };
         self.marks[place] = 1;
         let leaf = place as u32;
-        match write_leaf(disk, leaf) {
+        match write_leaf(disk, self.start, leaf) {
             Ok(()) => {}
             Err(Failed) => return Err(SignFault::Disk),
         }

@@ -80,6 +80,18 @@ fn node_value(
 }
 
 // The values of all nodes.
+fn fill(lms: LmsType, ots: OtsType, i: &[u8; 16], seed: &[u8; 32], nodes: &mut [[u8; 32]])
+    requires { length nodes.old ≡ 2 * 2 ^ height lms }
+    ensures { AreNodesFrom lms ots i.now seed.now nodes.new 1 }
+{
+    grow_leaves(lms, ots, i, seed, nodes);
+    'nodes: for node in (1..lms.leaves()).rev() {
+        let value = node_value(lms, ots, i, seed, nodes, node);
+        nodes[node as usize] = value;
+    }
+}
+
+// The values of all nodes, in room of their own.
 fn grow(
     alloc: Global,
     lms: LmsType,
@@ -89,13 +101,8 @@ fn grow(
 ) -> Result<Vec<[u8; 32]>, AllocError>
     ensures { IfOk result (λ nodes. AreNodesFrom lms ots i.now seed.now nodes.items 1) }
 {
-    let leaves = lms.leaves();
-    let mut nodes = vec![in alloc; [0u8; 32]; 2 * leaves as usize]?;
-    grow_leaves(lms, ots, i, seed, nodes.as_mut_slice());
-    'nodes: for node in (1..leaves).rev() {
-        let value = node_value(lms, ots, i, seed, nodes.as_slice(), node);
-        nodes[node as usize] = value;
-    }
+    let mut nodes = vec![in alloc; [0u8; 32]; 2 * lms.leaves() as usize]?;
+    fill(lms, ots, i, seed, nodes.as_mut_slice());
     Ok(nodes)
 }
 
@@ -150,6 +157,16 @@ impl SecretKey {
             seed,
             nodes,
         })
+    }
+
+    /// Makes the key of the same types with another identifier and from another seed, in the room
+    /// of this one. It hashes the whole tree and takes no memory.
+    pub fn remake(&mut self, i: [u8; 16], seed: [u8; 32])
+        ensures { self.new ≡ record { lms = self.old.lms; ots = self.old.ots; i = i; seed = seed } }
+    {
+        fill(self.lms, self.ots, &i, &seed, self.nodes.as_mut_slice());
+        self.i = i;
+        self.seed = seed;
     }
 
     /// The key's public part.

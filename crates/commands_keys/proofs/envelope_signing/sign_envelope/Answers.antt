@@ -1,8 +1,14 @@
 use Rattle.std.proofs.Common.{◌∙◌, sym}
-use Rattle.key_file.proofs.Steps.{moments}
+use Rattle.key_file.proofs.Steps.{moments, opened}
 use Rattle.commands_keys.proofs.SealedFrom.{no_place, refused_since, sealed_since}
 use Rattle.key_seals.specs.Seals.{id_text}
 use Rattle.commands_keys.proofs.envelope_signing.sign_envelope.Goals as goal
+
+pub returns-in_default-clause-any_moment : goal.returns-in_default-clause-any_moment
+returns-in_default-clause-any_moment g c = opened g.D.Disk c.args.disk.now c.open_key.new.disk c.in-Ok.ensures.any_moment
+
+pub returns-then-not-has_place-clause-any_moment : goal.returns-then-not-has_place-clause-any_moment
+returns-then-not-has_place-clause-any_moment g c = opened g.D.Disk c.args.disk.now c.open_key.new.disk c.in-Ok.ensures.any_moment
 
 pub returns-then-not-has_place-clause-ends : goal.returns-then-not-has_place-clause-ends
 returns-then-not-has_place-clause-ends g c = record {

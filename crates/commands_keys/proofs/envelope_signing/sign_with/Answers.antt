@@ -13,3 +13,11 @@ returns-in-Err-Exhausted-clause-ends g c = record {
   file = spent g.D.Disk c.args.envelope c.args.disk.now c.use_leaf.new.disk c.args.key.signer.secret
       (subst (λ (f : SignFault). UseEnds g.D.Disk c.args.key.signer.secret c.as_slice.result.now c.args.disk.now c.use_leaf.new.disk (Err f)) c.in-Err-Exhausted.field-0-is c.in-Err-Exhausted.ensures.ends);
 }
+
+pub returns-in-Err-Disk-clause-ends : goal.returns-in-Err-Disk-clause-ends
+returns-in-Err-Disk-clause-ends g c = record {
+  secret = c.args.key.signer.secret;
+  place = subst (λ (k : List ℕ). has_room k c.args.envelope.signatures ≡ true) c.requires.id c.requires.place;
+  tears =
+      subst (λ (f : SignFault). UseEnds g.D.Disk c.args.key.signer.secret c.as_slice.result.now c.args.disk.now c.use_leaf.new.disk (Err f)) c.in-Err-Disk.field-0-is c.in-Err-Disk.ensures.ends;
+}

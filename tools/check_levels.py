@@ -1,0 +1,103 @@
+"""The checks of tools/check on keys of two levels, whose signatures are judged here by RFC 8554 alone."""
+
+import base64
+import json
+import re
+import struct
+
+from check_keys import bytes_of, line_of
+from checking import LAUNCHER
+from checking import run, want, want_run
+from made_keys import CHAINS, D_INNER, D_LEAF, D_MESSAGE, D_PUBLIC, LMS_TYPES, OTS_TYPES
+from made_keys import digest, digits_of, walk
+
+KEY_LINE = re.compile(rb"key ([0-9a-f]{64}) ([0-9a-f]{120})\n")
+HEIGHTS = {code: height for height, code in LMS_TYPES.items()}
+WIDTHS = {code: width for width, code in OTS_TYPES.items()}
+
+
+def length_of(public):
+    """The bytes of a signature by an LMS key."""
+    kind, ots = struct.unpack(">II", public[:8])
+    return 4 + 36 + 32 * CHAINS[WIDTHS[ots]] + 4 + 32 * HEIGHTS[kind]
+
+
+def root_of(public, message, signature):
+    """The leaf that a signature names, and the root that it leads to (RFC 8554, algorithm 6a)."""
+    kind, ots = struct.unpack(">II", public[:8])
+    identifier, height, width = public[8:24], HEIGHTS[kind], WIDTHS[ots]
+    leaf = int.from_bytes(signature[:4], "big")
+    digits = digits_of(digest(identifier, struct.pack(">IH", leaf, D_MESSAGE), signature[8:40], message), width)
+    ends = [
+        walk(identifier + struct.pack(">IH", leaf, it), signature[40 + 32 * it : 72 + 32 * it], digit, 2**width - 1)
+        for it, digit in enumerate(digits)
+    ]
+    node = 2**height + leaf
+    value = digest(identifier, struct.pack(">IH", leaf, D_PUBLIC), *ends)
+    value = digest(identifier, struct.pack(">IH", node, D_LEAF), value)
+    path = signature[44 + 32 * CHAINS[width] :]
+    for level in range(height):
+        beside = path[32 * level : 32 * level + 32]
+        pair = (beside, value) if node & 1 else (value, beside)
+        node >>= 1
+        value = digest(identifier, struct.pack(">IH", node, D_INNER), *pair)
+    return leaf, value
+
+
+def leaves_in(public, message, signature):
+    """The leaves of both levels in a signature that is good by a key of two levels, and its signed key."""
+    want((public[:4], signature[:4]), (struct.pack(">I", 2), struct.pack(">I", 1)), "the numbers of levels")
+    top, rest = public[4:], signature[4:]
+    link, below, last = rest[: length_of(top)], rest[length_of(top) :][:56], rest[length_of(top) + 56 :]
+    want(len(last), length_of(below), "the bytes of the last signature")
+    above, root = root_of(top, below, link)
+    want(root, top[24:], "the root that the first signature leads to")
+    leaf, root = root_of(below, message, last)
+    want(root, below[24:], "the root that the last signature leads to")
+    return above, leaf, signature[: len(signature) - len(last)]
+
+
+def sealed(key, public, payload):
+    """Seals a payload, and returns the leaves of the signature and its signed key."""
+    status, output, errors = run(LAUNCHER, "-", key, "seal", input=payload)
+    want((status, errors), (0, b""), "the status and errors of seal")
+    envelope = json.loads(output)
+    kind, signature = envelope["payloadType"].encode(), envelope["signatures"][0]
+    want(signature["keyid"], digest(public).hex(), "the id of the key")
+    text = b"DSSEv1 %d %s %d %s" % (len(kind), kind, len(payload), payload)
+    return leaves_in(public, text, base64.b64decode(signature["sig"]))
+
+
+def signs_over_a_change_of_the_key_below(repositories):
+    """signatures 31 and 32 of a key of two levels are good by RFC 8554, and carry different keys below"""
+    key = repositories.path("levels.key")
+    found = line_of(KEY_LINE, (LAUNCHER, "-", key, "key-gen", "5", "4", "--bottom", "5"))
+    public = bytes.fromhex(found[2].decode())
+    want(digest(public).hex(), found[1].decode(), "the id of the key")
+    made = bytes_of(key)
+    want((len(made), made[:8]), (1096, b"LMSKEY02"), "the bytes and the magic of the key file")
+    with open(key, "r+b") as file:
+        file.seek(72)
+        file.write(b"\1" * 31)
+    first, second, third = (sealed(key, public, payload) for payload in (b"31", b"32", b"33"))
+    want((first[:2], second[:2], third[:2]), ((0, 31), (1, 0), (1, 1)), "the leaves that signed")
+    want((first[2] == second[2], second[2] == third[2]), (False, True), "which signed keys are one")
+    want(bytes_of(key)[72:107], b"\1" * 34 + b"\0", "the leaves that are used")
+
+
+def takes_no_taller_levels(repositories):
+    """two heights of 10 are outside the grammar, and a header that has them is none"""
+    key = repositories.path("taller.key")
+    want_run((LAUNCHER, "-", key, "key-gen", "10", "4", "--bottom", "10"), 2, errors=b"words refused\n")
+    line_of(KEY_LINE, (LAUNCHER, "-", key, "key-gen", "10", "4", "--bottom", "5"))
+    want(len(bytes_of(key)), 72 + 2**15, "the bytes of the key file")
+    with open(key, "r+b") as file:
+        file.seek(67)
+        file.write(b"\6")
+    want_run((LAUNCHER, "-", key, "seal"), 3, errors=b"key file\n", input=b"{}")
+
+
+CHECKS = (
+    signs_over_a_change_of_the_key_below,
+    takes_no_taller_levels,
+)
