@@ -9,6 +9,7 @@ ghost use Rattle.keeper_api.specs.Undisturbed.{Undisturbed};
 ghost use Rattle.log_entries.specs.Entries.{target_of};
 ghost use Rattle.log_entries.specs.declared.entries.EntryBody.TheVariants.{Reference};
 ghost use Rattle.tree_paths.specs.Changes.{IsComparison};
+ghost use Rattle.tree_paths.specs.Known.{AreKnownIn};
 ghost use Rattle.tree_paths.specs.Repositories.{readings_of};
 ghost use Rattle.tree_paths.specs.States.{walk_of};
 ghost use Rattle.tree_paths.specs.declared.states.Comparison.TheVariants as comparison;
@@ -26,21 +27,23 @@ use log_entries::{Entry, EntryBody};
 use policy_epochs::Policy;
 use policy_files::own_state;
 use std::alloc::Global;
-use tree_paths::{Comparison, State, compare};
+use tree_paths::{Comparison, KnownTrees, State, compare_known};
 
-/// What changed between two targets.
+/// What changed between two targets, where something is known of the trees.
 pub fn compared<R: Keeper>(
     alloc: Global,
     keeper: &mut R,
+    known: &KnownTrees,
     from: &ObjectId,
     to: &ObjectId,
 ) -> Result<Comparison, KeeperFault>
+    requires known { (r : Repository) → R.content keeper.old ≡ Some r → AreKnownIn r known.now }
     ensures compared { IfOk result (λ c. (r : Repository) → R.content keeper.new ≡ Some r → IsComparison (walk_of (readings_of r) from.now) (walk_of (readings_of r) to.now) c) }
     ensures same { Undisturbed R.Keeper keeper.old keeper.new }
     ensures cause { HasCause keeper_failed (R.faults keeper.old) (R.faults keeper.new) result }
     ensures reads { OnOk result ((r : Repository) → R.content keeper.new ≡ Some r → both_sound (readings_of r) from.now to.now ≡ true → R.reads keeper.new ≤ R.reads keeper.old + comparison_reads (readings_of r) from.now to.now) }
 {
-    compare(alloc, keeper, from, to)
+    compare_known(alloc, keeper, known, from, to)
 }
 
 // The tree of a target: zeros where there is nothing, and None where it is broken.
@@ -116,6 +119,7 @@ fn find_broken<R: Keeper>(
 fn find_change<R: Keeper>(
     alloc: Global,
     keeper: &mut R,
+    known: &KnownTrees,
     policy: &Policy,
     entry: &Entry,
     name: &RefName,
@@ -123,13 +127,14 @@ fn find_change<R: Keeper>(
     from: &ObjectId,
     attested: Option<&ObjectId>,
 ) -> Result<Finding<Fault>, KeeperFault>
+    requires known { (r : Repository) → R.content keeper.old ≡ Some r → AreKnownIn r known.now }
     ensures fault { IfOk result (λ found. (r : Repository) → R.content keeper.new ≡ Some r → found.fault ≡ body_fault r policy.now entry.now from.now (option_copied attested.entry) (Reference name.now target.now)) }
     ensures signers { IfOk result (λ found. (r : Repository) → R.content keeper.new ≡ Some r → found.signers ≡ body_signers r policy.now entry.now from.now (option_copied attested.entry) (Reference name.now target.now)) }
     ensures same { Undisturbed R.Keeper keeper.old keeper.new }
     ensures cause { HasCause keeper_failed (R.faults keeper.old) (R.faults keeper.new) result }
     ensures reads { OnOk result ((r : Repository) → R.content keeper.new ≡ Some r → both_sound (readings_of r) from.now target.now ≡ true → R.reads keeper.new ≤ R.reads keeper.old + comparison_reads (readings_of r) from.now target.now + 28) }
 {
-    match compared(alloc, keeper, from, target)? {
+    match compared(alloc, keeper, known, from, target)? {
         Comparison::Broken { id } => {
             find_broken(
                 alloc, keeper, policy, entry, name, target, from, attested, id,
@@ -158,11 +163,13 @@ fn find_change<R: Keeper>(
 pub fn find<R: Keeper>(
     alloc: Global,
     keeper: &mut R,
+    known: &KnownTrees,
     policy: &Policy,
     entry: &Entry,
     from: &ObjectId,
     attested: Option<&ObjectId>,
 ) -> Result<Finding<Fault>, KeeperFault>
+    requires known { (r : Repository) → R.content keeper.old ≡ Some r → AreKnownIn r known.now }
     ensures fault { IfOk result (λ found. (r : Repository) → R.content keeper.new ≡ Some r → found.fault ≡ entry_fault r policy.now entry.now from.now (option_copied attested.entry)) }
     ensures signers { IfOk result (λ found. (r : Repository) → R.content keeper.new ≡ Some r → found.signers ≡ entry_signers r policy.now entry.now from.now (option_copied attested.entry)) }
     ensures same { Undisturbed R.Keeper keeper.old keeper.new }
@@ -172,7 +179,9 @@ pub fn find<R: Keeper>(
 {
     match &entry.body {
         EntryBody::Reference { name, target } => {
-            find_change(alloc, keeper, policy, entry, name, target, from, attested)
+            find_change(
+                alloc, keeper, known, policy, entry, name, target, from, attested,
+            )
         }
         EntryBody::Annotation {
             ids: _,

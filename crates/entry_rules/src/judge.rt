@@ -7,6 +7,7 @@ ghost use Rattle.git_object.specs.Repository.{Repository};
 ghost use Rattle.keeper_api.specs.Faults.{keeper_failed};
 ghost use Rattle.keeper_api.specs.Undisturbed.{Undisturbed};
 ghost use Rattle.log_entries.specs.Entries.{target_of};
+ghost use Rattle.tree_paths.specs.Known.{AreKnownIn};
 ghost use Rattle.tree_paths.specs.Repositories.{readings_of};
 ghost use Rattle.tree_paths.specs.States.{walk_of};
 ghost use Rattle.policy_epochs.specs.Succession.{succession};
@@ -29,9 +30,9 @@ use policy_epochs::{Policy, PolicyFault, succession_fault};
 use policy_reading::check_policy;
 use root_metadata::KeyIds;
 use std::alloc::Global;
-use tree_paths::Comparison;
+use tree_paths::{Comparison, KnownTrees};
 
-/// The rules by which the entries of a log are judged.
+/// The rules by which the entries of a log are judged, each with what is known then, as `KnowingRules`.
 #[derive(Drop)]
 pub struct EntryRules {
     anchor: Option<KeyIds>,
@@ -130,20 +131,31 @@ fn has_one_tree(comparison: &Comparison) -> bool
 fn has_same_tree<R: Keeper>(
     alloc: Global,
     keeper: &mut R,
+    known: &KnownTrees,
     from: &ObjectId,
     to: &ObjectId,
 ) -> Result<bool, KeeperFault>
+    requires known { (r : Repository) → R.content keeper.old ≡ Some r → AreKnownIn r known.now }
     ensures answer { IfOk result (λ same. (r : Repository) → R.content keeper.new ≡ Some r → same ≡ is_same_tree (tree_in (walk_of (readings_of r) from.now)) (tree_in (walk_of (readings_of r) to.now))) }
     ensures same { Undisturbed R.Keeper keeper.old keeper.new }
     ensures cause { HasCause keeper_failed (R.faults keeper.old) (R.faults keeper.new) result }
     ensures reads { OnOk result ((r : Repository) → R.content keeper.new ≡ Some r → both_sound (readings_of r) from.now to.now ≡ true → R.reads keeper.new ≤ R.reads keeper.old + comparison_reads (readings_of r) from.now to.now) }
 {
-    let comparison = compared(alloc, keeper, from, to)?;
+    let comparison = compared(alloc, keeper, known, from, to)?;
     Ok(has_one_tree(&comparison))
 }
 
-impl<R: Keeper> Judge<Policy, Fault, R> for EntryRules {
-    ghost rules = { λ j. real_rules j.anchor };
+/// The rules with what is known of the trees of the repository that is judged.
+#[derive(Clone, Copy)]
+pub struct KnowingRules<'a> {
+    pub rules: &'a EntryRules,
+    pub known: &'a KnownTrees,
+}
+
+impl<'a, R: Keeper> Judge<Policy, Fault, R> for KnowingRules<'a> {
+    ghost rules = { λ j. real_rules j.rules.now.anchor };
+
+    ghost trusts = { λ j r. AreKnownIn r j.known.now };
 
     ghost content = { λ k. R.content k };
 
@@ -162,7 +174,7 @@ impl<R: Keeper> Judge<Policy, Fault, R> for EntryRules {
         policy: Option<&Policy>,
         entry: &Entry,
     ) -> Result<Result<Policy, Fault>, JudgeFault> {
-        judged(epoch(alloc, store, &self.anchor, policy, entry))
+        judged(epoch(alloc, store, &self.rules.anchor, policy, entry))
     }
 
     fn find(
@@ -174,7 +186,7 @@ impl<R: Keeper> Judge<Policy, Fault, R> for EntryRules {
         from: &ObjectId,
         attested: Option<&ObjectId>,
     ) -> Result<Finding<Fault>, JudgeFault> {
-        judged(find(alloc, store, policy, entry, from, attested))
+        judged(find(alloc, store, self.known, policy, entry, from, attested))
     }
 
     fn has_same_tree(
@@ -184,7 +196,7 @@ impl<R: Keeper> Judge<Policy, Fault, R> for EntryRules {
         from: &ObjectId,
         to: &ObjectId,
     ) -> Result<bool, JudgeFault> {
-        judged(has_same_tree(alloc, store, from, to))
+        judged(has_same_tree(alloc, store, self.known, from, to))
     }
 
     fn no_policy(&self) -> Fault {

@@ -2,7 +2,7 @@
 //!
 //! This crate stands on `policy_reading` for the policy that an entry opens, on `tree_paths` for what changed, on
 //! `rule_delegations` for who must sign, on `approval_lookup` and `lms_keys` for who did, and on `judging` for the place
-//! that these rules take. A crate above may rely on `EntryRules` answering, over any store, the functions of
+//! that these rules take. A crate above may rely on `KnowingRules` answering, over any store, the functions of
 //! `specs/RealRules.antt`: of a repository, a policy, an entry, where its reference stood and the attestations then.
 
 #![tactic(auto)]
@@ -16,5 +16,5 @@ mod meeting;
 mod signing;
 
 pub use faults::Fault;
-pub use judge::EntryRules;
+pub use judge::{EntryRules, KnowingRules};
 pub use signing::signer_among;

@@ -66,6 +66,7 @@ fn decide_ordinary<P, F, S, J: Judge<P, F, S>>(
     from: &ObjectId,
     attested: Option<&ObjectId>,
 ) -> Result<Decision<P, F>, JudgeFault>
+    requires trusts { (r : Repository) → J.content store.old ≡ Some r → J.trusts judge.now r }
     ensures answer { IfOk result (λ found. (r : Repository) → J.content store.new ≡ Some r → found ≡ ordinary_decision (J.rules judge.now) r (option_copied policy.entry) entry.now from.now (option_copied attested.entry)) }
     ensures same { KeepsStore J.content J.tells_left J.left store.old store.new }
     ensures cause { HasCause judge_failed (J.faults store.old) (J.faults store.new) result }
@@ -99,6 +100,7 @@ pub fn decide<P, F, S, J: Judge<P, F, S>>(
     from: &ObjectId,
     attested: Option<&ObjectId>,
 ) -> Result<Decision<P, F>, JudgeFault>
+    requires trusts { (r : Repository) → J.content store.old ≡ Some r → J.trusts judge.now r }
     ensures answer { IfOk result (λ found. (r : Repository) → J.content store.new ≡ Some r
         → found ≡ decision (J.rules judge.now) r (option_copied policy.entry) entry.now name.now from.now (option_copied attested.entry)) }
     ensures same { KeepsStore J.content J.tells_left J.left store.old store.new }

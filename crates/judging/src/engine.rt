@@ -109,6 +109,7 @@ impl<P: Drop, F: Copied> Engine<P, F> {
     ) -> Result<EntryVerdict<F>, JudgeFault>
         requires next { entry.now.number ≡ taken self.old + 1 }
         requires fresh { has_taken self.old entry.now.id ≡ false }
+        requires trusts { (r : Repository) → J.content store.old ≡ Some r → J.trusts judge.now r }
         ensures taken { IfOk result (λ verdict. (r : Repository) (log : List Taken) → J.content store.new ≡ Some r → Stands (J.rules judge.now) log self.old
             → IsTaken (J.rules judge.now) log (record { entry = entry.now; repository = r }) self.new verdict) }
         ensures count { OnOk result (taken self.new ≡ entry.now.number) }
@@ -143,6 +144,7 @@ impl<P: Drop, F: Copied> Engine<P, F> {
     ) -> Result<EntryVerdict<F>, JudgeFault>
         requires next { entry.now.number ≡ taken self.now + 1 }
         requires fresh { has_taken self.now entry.now.id ≡ false }
+        requires trusts { (r : Repository) → J.content store.old ≡ Some r → J.trusts judge.now r }
         ensures answer { IfOk result (λ verdict. (r : Repository) (log : List Taken) → J.content store.new ≡ Some r → Stands (J.rules judge.now) log self.now
             → verdict ≡ verdict_of (J.rules judge.now) log (record { entry = entry.now; repository = r })) }
         ensures same { KeepsStore J.content J.tells_left J.left store.old store.new }

@@ -48,6 +48,9 @@ pub trait Judge<P, F, S> {
     /// The rules by which it answers.
     ghost rules: { Self → Rules P F };
 
+    /// What the judge takes for granted of a repository.
+    ghost trusts: { Self → Repository → Type 0 };
+
     /// The repository that a store holds, where it tells it. Telling may end, and never begins.
     ghost content: { S → Option Repository };
 
@@ -87,6 +90,7 @@ pub trait Judge<P, F, S> {
         from: &ObjectId,
         attested: Option<&ObjectId>,
     ) -> Result<Finding<F>, JudgeFault>
+        requires trusts { (r : Repository) → content store.old ≡ Some r → trusts self.now r }
         ensures fault { IfOk result (λ found. (r : Repository) → content store.new ≡ Some r → found.fault ≡ (rules self.now).fault r policy.now entry.now from.now (option_copied attested.entry)) }
         ensures signers { IfOk result (λ found. (r : Repository) → content store.new ≡ Some r → found.signers ≡ (rules self.now).signers r policy.now entry.now from.now (option_copied attested.entry)) }
         ensures same { KeepsStore content tells_left left store.old store.new }
@@ -102,6 +106,7 @@ pub trait Judge<P, F, S> {
         from: &ObjectId,
         to: &ObjectId,
     ) -> Result<bool, JudgeFault>
+        requires trusts { (r : Repository) → content store.old ≡ Some r → trusts self.now r }
         ensures answer { IfOk result (λ same. (r : Repository) → content store.new ≡ Some r → same ≡ same_tree (rules self.now) r from.now to.now) }
         ensures same { KeepsStore content tells_left left store.old store.new }
         ensures cause { HasCause judge_failed (faults store.old) (faults store.new) result }

@@ -49,6 +49,7 @@ pub fn finishes<P, F, S, J: Judge<P, F, S>>(
     stands: &Standing,
     target: &ObjectId,
 ) -> Result<bool, JudgeFault>
+    requires trusts { (r : Repository) → J.content store.old ≡ Some r → J.trusts judge.now r }
     ensures answer { IfOk result (λ finishes. (r : Repository) → J.content store.new ≡ Some r → IsFinish (J.rules judge.now) r book.now found.now name.now stands.now target.now finishes) }
     ensures same { KeepsStore J.content J.tells_left J.left store.old store.new }
     ensures cause { HasCause judge_failed (J.faults store.old) (J.faults store.new) result }

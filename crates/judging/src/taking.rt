@@ -43,7 +43,8 @@ pub fn take_reference<P: Drop, F: Copied, S, J: Judge<P, F, S>>(
     name: &RefName,
     target: &ObjectId,
 ) -> Result<EntryVerdict<F>, JudgeFault>
-    requires { place_of engine.old.book entry.now.id ≡ None }
+    requires fresh { place_of engine.old.book entry.now.id ≡ None }
+    requires trusts { (r : Repository) → J.content store.old ≡ Some r → J.trusts judge.now r }
     ensures taken { IfOk result (λ verdict. (r : Repository) (log : List Taken) → J.content store.new ≡ Some r → Stands (J.rules judge.now) log engine.old
         → entry.now.body ≡ Reference name.now target.now → IsTaken (J.rules judge.now) log (record { entry = entry.now; repository = r }) engine.new verdict) }
     ensures count { OnOk result (taken engine.new ≡ taken engine.old + 1) }
@@ -98,6 +99,7 @@ pub fn look_reference<P: Drop, F: Copied, S, J: Judge<P, F, S>>(
     entry: &Entry,
     name: &RefName,
 ) -> Result<EntryVerdict<F>, JudgeFault>
+    requires trusts { (r : Repository) → J.content store.old ≡ Some r → J.trusts judge.now r }
     ensures answer { IfOk result (λ verdict. (r : Repository) (log : List Taken) (target : List ℕ) → J.content store.new ≡ Some r → Stands (J.rules judge.now) log engine.now
         → entry.now.body ≡ Reference name.now target → verdict ≡ verdict_of (J.rules judge.now) log (record { entry = entry.now; repository = r })) }
     ensures same { KeepsStore J.content J.tells_left J.left store.old store.new }

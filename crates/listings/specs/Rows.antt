@@ -3,6 +3,7 @@ use Rattle.std.specs.Prelude.{◌≡◌, ◌≤◌, ◌+◌, ◌++◌, ◌∷◌
 use Rattle.std.specs.List.{AllByRecursion}
 use Rattle.text_reader.specs.Line.{has_byte}
 use Rattle.git_object.specs.Modes.{mode_text}
+use Rattle.git_object.specs.Repository.{largest_body}
 use Rattle.git_object.specs.declared.modes.Mode.{Mode}
 use Rattle.git_object.specs.declared.modes.Mode.TheVariants.{Dir, File, Exec, Link, Module}
 
@@ -25,7 +26,7 @@ pub record IsRow (row : Row) : Type 0 where
   pub mode : IsFileMode row.mode
   pub line : has_byte 10 row.path ≡ false
   pub short : length row.path ≤ 4096
-  pub small : length row.body ≤ 16777216
+  pub small : length row.body ≤ largest_body
 
 -- a row, and then this: the octal digits of its mode, a space, how many bytes it has in decimal, a space, its path, a
 -- line feed, its bytes, a line feed

@@ -9,7 +9,5 @@
 
 mod reading;
 mod rows;
-#[cfg(test)]
-mod tests;
 
 pub use reading::{Listing, ListingFault, read_listing};

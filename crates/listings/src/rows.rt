@@ -3,6 +3,7 @@
 ghost use Rattle.std.specs.Prelude.{◌≡◌, ◌≢◌, ◌≤◌, ◌++◌, ◌∷◌, ℕ, List, length, false, decimal, IfSome, IfNone};
 ghost use Rattle.text_reader.specs.Line.{has_byte};
 ghost use Rattle.git_object.specs.Modes.{mode_text};
+ghost use Rattle.git_object.specs.Repository.{largest_body};
 ghost use Rattle.git_object.specs.declared.modes.Mode.{Mode};
 ghost use Rattle.listings.specs.Rows.{IsFileMode, IsRow, Row, row_then};
 ghost use Rattle.listings.specs.Reading.{row_of};
@@ -42,8 +43,8 @@ fn split_mode(text: &[u8]) -> Option<(Mode, &[u8])>
 // A size of at most 16 MiB, and a space.
 fn split_size(text: &[u8]) -> Option<(u64, &[u8])>
     ensures found { IfSome result (λ parts. text.now ≡ decimal parts.0 ++ 32 ∷ parts.1.now) }
-    ensures small { IfSome result (λ parts. parts.0 ≤ 16777216) }
-    ensures none { IfNone result ((size : ℕ) (more : List ℕ) → size ≤ 16777216 → text.now ≢ decimal size ++ 32 ∷ more) }
+    ensures small { IfSome result (λ parts. parts.0 ≤ largest_body) }
+    ensures none { IfNone result ((size : ℕ) (more : List ℕ) → size ≤ largest_body → text.now ≢ decimal size ++ 32 ∷ more) }
 {
     let Some((word, rest)) = split_word(text) else {
         return None;

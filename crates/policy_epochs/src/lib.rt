@@ -15,8 +15,6 @@ pub mod laws;
 mod policies;
 mod succession;
 mod telling;
-#[cfg(test)]
-mod tests;
 
 pub use epochs::Epochs;
 pub use faults::{EpochVerdict, PolicyFault};

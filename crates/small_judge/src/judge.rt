@@ -1,6 +1,6 @@
 //! The judge.
 
-ghost use Rattle.std.specs.Prelude.{◌≡◌, ◌↔◌, ◌+◌, ◌≤◌, Some, false, IfOk, IsErrOf, IsTrue};
+ghost use Rattle.std.specs.Prelude.{◌≡◌, ◌↔◌, ◌+◌, ◌≤◌, Some, false, ⊤, IfOk, IsErrOf, IsTrue};
 ghost use Rattle.std.specs.Option.{option_copied};
 ghost use Rattle.octets.specs.Calls.{after_call, fails_next};
 ghost use Rattle.octets.specs.Causes.{HasCause};
@@ -133,6 +133,8 @@ fn tree(target: &ObjectId) -> &[u8]
 
 impl Judge<Holder, SmallFault, SmallStore> for SmallJudge {
     ghost rules = { λ j. small_rules };
+
+    ghost trusts = { λ j r. ⊤ };
 
     ghost content = { λ s. Some empty_repository };
 

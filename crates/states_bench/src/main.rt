@@ -1,24 +1,31 @@
 //! Walks the tree of a commit, or compares two commits, a number of times, for `tools/bench-states` to time.
 //!
 //! The words are a store, a number of times and the id of a commit, and where the commit is to be compared with an
-//! earlier one, the id of that. A store `-` is the stream on standard input, taken into memory, and any other a kept
-//! folder. It prints what the last time found: how many paths and trees the commit has, or how many paths changed.
+//! earlier one, the id of that. With the word `known` behind them, the trees of the earlier one are learned before each
+//! comparison, so that all but the first find them known. A store `-` is the stream on standard input, taken into memory,
+//! and any other a kept folder. It prints what the last time found: how many paths and trees the commit has, or how many
+//! paths changed.
 #![tactic(auto)]
+
+ghost use Rattle.std.specs.Prelude.{◌≡◌, Some};
+ghost use Rattle.git_object.specs.Repository.{Repository};
+ghost use Rattle.tree_paths.specs.Known.{AreKnownIn};
 
 use clone_stream::read_stream;
 use edge_io::StdSource;
 use git_object::ObjectId;
-use keeper_api::{Keeper, MemKeeper};
+use keeper_api::{Keeper, KeeperFault, MemKeeper};
 use keeper_directory::DirKeeper;
 use std::alloc::Global;
 use std::{env, io};
-use tree_paths::{Comparison, State, compare, state_of};
+use tree_paths::{Comparison, KnownTrees, State, compare, compare_known, learn, state_of};
 
 #[derive(Clone, Copy)]
 struct Case {
     times: u32,
     to: ObjectId,
     from: Option<ObjectId>,
+    known: bool,
 }
 
 #[derive(Clone, Copy)]
@@ -32,7 +39,7 @@ enum Said {
 }
 
 fn case_of(words: &[String]) -> Option<Case> {
-    if words.len() < 4 || words.len() > 5 {
+    if words.len() < 4 || words.len() > 6 {
         return None;
     }
     let times = words[2].as_str().parse::<u32>().ok()?;
@@ -42,6 +49,7 @@ fn case_of(words: &[String]) -> Option<Case> {
             times,
             to,
             from: None,
+            known: false,
         });
     }
     let from = ObjectId::from_hex(words[4].as_str().as_bytes())?;
@@ -49,6 +57,7 @@ fn case_of(words: &[String]) -> Option<Case> {
         times,
         to,
         from: Some(from),
+        known: words.len() == 6,
     })
 }
 
@@ -67,8 +76,8 @@ fn walk<R: Keeper>(alloc: Global, keeper: &mut R, to: &ObjectId) -> Said {
     }
 }
 
-fn change<R: Keeper>(alloc: Global, keeper: &mut R, from: &ObjectId, to: &ObjectId) -> Said {
-    match compare(alloc, keeper, from, to) {
+fn told(compared: Result<Comparison, KeeperFault>) -> Said {
+    match compared {
         Ok(
             Comparison::Changed {
                 from: _,
@@ -81,7 +90,47 @@ fn change<R: Keeper>(alloc: Global, keeper: &mut R, from: &ObjectId, to: &Object
     }
 }
 
+fn change<R: Keeper>(alloc: Global, keeper: &mut R, from: &ObjectId, to: &ObjectId) -> Said {
+    told(compare(alloc, keeper, from, to))
+}
+
+fn change_known<R: Keeper>(
+    alloc: Global,
+    keeper: &mut R,
+    known: &mut KnownTrees,
+    from: &ObjectId,
+    to: &ObjectId,
+) -> Said
+    requires { (r : Repository) → R.content keeper.old ≡ Some r → AreKnownIn r known.old }
+    ensures { (r : Repository) → R.content keeper.new ≡ Some r → AreKnownIn r known.new }
+{
+    match learn(alloc, keeper, known, from) {
+        Ok(()) => told(compare_known(alloc, keeper, known, from, to)),
+        Err(_) => Said::Refused,
+    }
+}
+
+fn repeat_known<R: Keeper>(
+    alloc: Global,
+    keeper: &mut R,
+    times: u32,
+    from: &ObjectId,
+    to: &ObjectId,
+) -> Said {
+    let mut known = KnownTrees::new(alloc);
+    let mut said = Said::Nothing;
+    'times: for _ in 0..times {
+        said = change_known(alloc, keeper, &mut known, from, to);
+    }
+    said
+}
+
 fn repeat<R: Keeper>(alloc: Global, keeper: &mut R, case: Case) -> Said {
+    if let Some(from) = case.from {
+        if case.known {
+            return repeat_known(alloc, keeper, case.times, &from, &case.to);
+        }
+    }
     let mut said = Said::Nothing;
     for _ in 0..case.times {
         said = match case.from {
@@ -111,7 +160,7 @@ fn run_in_folder(rt: &HostRuntime, folder: &str, case: Case) -> Said {
 fn main(rt: HostRuntime) -> io::Result<()> {
     let words: Vec<String> = env::args(&rt)?.collect(rt.alloc())?;
     let Some(case) = case_of(words.as_slice()) else {
-        return println!(rt; "states_bench STORE TIMES TO [FROM]");
+        return println!(rt; "states_bench STORE TIMES TO [FROM [known]]");
     };
     let said = match words.as_slice().get(1) {
         None => Said::NoStore,

@@ -12,8 +12,6 @@ mod entries;
 pub mod laws;
 mod listed;
 mod making;
-#[cfg(test)]
-mod tests;
 
 pub use listed::Listed;
 pub use making::make_trees;

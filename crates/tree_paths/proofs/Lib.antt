@@ -13,3 +13,5 @@ pub mod Existence
 pub mod Led
 pub mod PathNames
 pub mod Visits
+pub mod Sums
+pub mod Rows

@@ -19,3 +19,6 @@ pub mod Leading
 -- what stands at a path of a tree, and the readings of a repository
 pub mod Lookups
 pub mod Repositories
+-- What steps add to counts, and what is known of trees.
+pub mod Adding
+pub mod Known

@@ -1,9 +1,11 @@
 //! The comparison of two targets.
 
-ghost use Rattle.std.specs.Prelude.{◌≡◌, ◌≤◌, ◌+◌, IfOk};
+ghost use Rattle.std.specs.Prelude.{◌≡◌, ◌≤◌, ◌+◌, Some, IfOk};
 ghost use Rattle.octets.specs.Causes.{HasCause};
+ghost use Rattle.git_object.specs.Repository.{Repository};
 ghost use Rattle.keeper_api.specs.Faults.{keeper_failed};
 ghost use Rattle.keeper_api.specs.Undisturbed.{Undisturbed};
+ghost use Rattle.tree_paths.specs.Known.{AreKnownIn};
 ghost use Rattle.tree_paths.specs.Readings.{Readings, Told};
 ghost use Rattle.tree_paths.specs.States.{Ended, Faulty, walk_of};
 ghost use Rattle.tree_paths.specs.Changes.{IfChanged, IsComparison, shared_reads};
@@ -11,6 +13,7 @@ ghost use Rattle.tree_paths.specs.Roots.{root_ended, root_id};
 
 use crate::counts::{MOST_LEVELS, Walked, no_counts};
 use crate::heads::Peeled;
+use crate::known_trees::KnownTrees;
 use crate::pairs::Paired;
 use crate::peeling::root_of;
 use crate::roots::pair_roots;
@@ -55,9 +58,11 @@ fn first_or<R: Keeper>(
 fn compare_roots<R: Keeper>(
     alloc: Global,
     keeper: &mut R,
+    known: &KnownTrees,
     from: &Option<ObjectId>,
     to: &Option<ObjectId>,
 ) -> Result<Comparison, KeeperFault>
+    requires known { (r : Repository) → R.content keeper.old ≡ Some r → AreKnownIn r known.now }
     ensures compared { IfOk result (λ c. (readings : Readings) → Told (R.content keeper.new) readings → IsComparison (root_ended readings.trees from.now) (root_ended readings.trees to.now) c) }
     ensures reads { IfOk result (λ c. (readings : Readings) → Told (R.content keeper.new) readings
         → IfChanged c (R.reads keeper.new ≤ R.reads keeper.old + shared_reads (root_ended readings.trees from.now) (root_ended readings.trees to.now))) }
@@ -65,7 +70,7 @@ fn compare_roots<R: Keeper>(
     ensures cause { HasCause keeper_failed (R.faults keeper.old) (R.faults keeper.new) result }
 {
     let mut paths = Paths::new(alloc);
-    let paired = pair_roots(alloc, keeper, from, to, &mut paths)?;
+    let paired = pair_roots(alloc, keeper, known, from, to, &mut paths)?;
     match paired {
         Paired::FromBroken(id) => Ok(Comparison::Broken { id }),
         Paired::ToBroken(id) => {
@@ -84,9 +89,11 @@ fn compare_roots<R: Keeper>(
 fn compare_with<R: Keeper>(
     alloc: Global,
     keeper: &mut R,
+    known: &KnownTrees,
     from: &Option<ObjectId>,
     to: &ObjectId,
 ) -> Result<Comparison, KeeperFault>
+    requires known { (r : Repository) → R.content keeper.old ≡ Some r → AreKnownIn r known.now }
     ensures compared { IfOk result (λ c. (readings : Readings) → Told (R.content keeper.new) readings → IsComparison (root_ended readings.trees from.now) (walk_of readings to.now) c) }
     ensures reads { IfOk result (λ c. (readings : Readings) → Told (R.content keeper.new) readings
         → IfChanged c (R.reads keeper.new ≤ R.reads keeper.old + 9 + shared_reads (root_ended readings.trees from.now) (walk_of readings to.now))) }
@@ -99,11 +106,40 @@ fn compare_with<R: Keeper>(
             Ok(comparison)
         }
         Peeled::Nothing => {
-            let comparison = compare_roots(alloc, keeper, from, &None)?;
+            let comparison = compare_roots(alloc, keeper, known, from, &None)?;
             Ok(comparison)
         }
         Peeled::At { commit: _, tree } => {
-            let comparison = compare_roots(alloc, keeper, from, &Some(tree))?;
+            let comparison = compare_roots(alloc, keeper, known, from, &Some(tree))?;
+            Ok(comparison)
+        }
+    }
+}
+
+/// What changed from one target to another, as `compare` says it, where something is known of the trees of the repository:
+/// a known tree that stands at the same place in both is not read.
+pub fn compare_known<R: Keeper>(
+    alloc: Global,
+    keeper: &mut R,
+    known: &KnownTrees,
+    from: &ObjectId,
+    to: &ObjectId,
+) -> Result<Comparison, KeeperFault>
+    requires known { (r : Repository) → R.content keeper.old ≡ Some r → AreKnownIn r known.now }
+    ensures compared { IfOk result (λ c. (readings : Readings) → Told (R.content keeper.new) readings → IsComparison (walk_of readings from.now) (walk_of readings to.now) c) }
+    ensures reads { IfOk result (λ c. (readings : Readings) → Told (R.content keeper.new) readings
+        → IfChanged c (R.reads keeper.new ≤ R.reads keeper.old + 18 + shared_reads (walk_of readings from.now) (walk_of readings to.now))) }
+    ensures same { Undisturbed R.Keeper keeper.old keeper.new }
+    ensures cause { HasCause keeper_failed (R.faults keeper.old) (R.faults keeper.new) result }
+{
+    match root_of(alloc, keeper, from)? {
+        Peeled::Bad(id) => Ok(Comparison::Broken { id }),
+        Peeled::Nothing => {
+            let comparison = compare_with(alloc, keeper, known, &None, to)?;
+            Ok(comparison)
+        }
+        Peeled::At { commit: _, tree } => {
+            let comparison = compare_with(alloc, keeper, known, &Some(tree), to)?;
             Ok(comparison)
         }
     }
@@ -126,15 +162,6 @@ pub fn compare<R: Keeper>(
     ensures same { Undisturbed R.Keeper keeper.old keeper.new }
     ensures cause { HasCause keeper_failed (R.faults keeper.old) (R.faults keeper.new) result }
 {
-    match root_of(alloc, keeper, from)? {
-        Peeled::Bad(id) => Ok(Comparison::Broken { id }),
-        Peeled::Nothing => {
-            let comparison = compare_with(alloc, keeper, &None, to)?;
-            Ok(comparison)
-        }
-        Peeled::At { commit: _, tree } => {
-            let comparison = compare_with(alloc, keeper, &Some(tree), to)?;
-            Ok(comparison)
-        }
-    }
+    let known = KnownTrees::new(alloc);
+    compare_known(alloc, keeper, &known, from, to)
 }

@@ -1,7 +1,8 @@
 //! What a walk counts, its limits, and how it ends.
 
-ghost use Rattle.std.specs.Prelude.{◌≡◌, ◌≤◌, ◌<◌, ◌+◌, length, min};
+ghost use Rattle.std.specs.Prelude.{◌≡◌, ◌≤◌, ◌<◌, ◌+◌, length, min, IfSome};
 ghost use Rattle.git_object.specs.Trees.{sort_key};
+ghost use Rattle.tree_paths.specs.Adding.{IsSum};
 ghost use Rattle.tree_paths.specs.Walks.{is_dir, leaf, no_counts, one_dir};
 
 use git_object::{Mode, ObjectId, TreeEntry};
@@ -17,6 +18,9 @@ const LONGEST_PATH: usize = 4096;
 
 /// The most bytes of all paths of a state together: 64 MiB.
 const MOST_BYTES: usize = 67_108_864;
+
+/// The most trees that a walk visits: each but the root holds a path, at most 32 levels below it.
+const MOST_DIRS: u32 = 8_388_609;
 
 // At which length a place is no longer counted on: no path is as long.
 const LONG: usize = 8192;
@@ -88,6 +92,40 @@ pub fn count_path(holder: &ObjectId, counts: Counts, len: usize) -> Walked
         paths: counts.paths + 1,
         dirs: counts.dirs,
         bytes: counts.bytes + len,
+    })
+}
+
+/// Both counts together, if the limits have room for them.
+pub fn add_counts(counts: Counts, more: Counts) -> Option<Counts>
+    ensures { IfSome result (λ sum. IsSum counts more sum) }
+{
+    if counts.paths > MOST_PATHS || more.paths > MOST_PATHS - counts.paths {
+        return None;
+    }
+    if counts.dirs > MOST_DIRS || more.dirs > MOST_DIRS - counts.dirs {
+        return None;
+    }
+    if counts.bytes > MOST_BYTES || more.bytes > MOST_BYTES - counts.bytes {
+        return None;
+    }
+    Some(Counts {
+        paths: counts.paths + more.paths,
+        dirs: counts.dirs + more.dirs,
+        bytes: counts.bytes + more.bytes,
+    })
+}
+
+/// What one path of so many bytes adds, if it is not too long.
+pub fn one_path(len: usize) -> Option<Counts>
+    ensures { IfSome result (λ adds. (adds.paths ≡ 1) × (adds.dirs ≡ 0) × (adds.bytes ≡ len) × (len ≤ 4096)) }
+{
+    if len > LONGEST_PATH {
+        return None;
+    }
+    Some(Counts {
+        paths: 1,
+        dirs: 0,
+        bytes: len,
     })
 }
 

@@ -12,12 +12,15 @@
 mod comparing;
 mod counts;
 mod heads;
+mod known_trees;
 pub mod laws;
+mod learning;
 mod listing;
 mod loading;
 mod lookups;
 mod pairing;
 mod pairs;
+mod passing;
 mod peeling;
 mod places;
 mod roots;
@@ -26,9 +29,11 @@ mod states;
 mod twice;
 mod walking;
 
-pub use comparing::compare;
+pub use comparing::{compare, compare_known};
 pub use counts::is_dir;
 pub use heads::Peeled;
+pub use known_trees::KnownTrees;
+pub use learning::learn;
 pub use loading::load_tree;
 pub use lookups::{entry_named, load_at, load_entry, split_at_slash};
 pub use peeling::root_of;

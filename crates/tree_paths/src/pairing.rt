@@ -1,24 +1,27 @@
 //! Two trees walked side by side.
 
-ghost use Rattle.std.specs.Prelude.{◌≡◌, ◌≤◌, ◌+◌, ◌-◌, ◌*◌, length, false, IfOk};
+ghost use Rattle.std.specs.Prelude.{◌≡◌, ◌≤◌, ◌+◌, ◌-◌, ◌*◌, Some, length, false, IfOk};
 ghost use Rattle.std.specs.Option.{option_copied};
 ghost use Rattle.std.specs.Str.{bytes_eq};
 ghost use Rattle.octets.specs.Causes.{HasCause};
+ghost use Rattle.git_object.specs.Repository.{Repository};
 ghost use Rattle.keeper_api.specs.Faults.{keeper_failed};
 ghost use Rattle.keeper_api.specs.Undisturbed.{Undisturbed};
+ghost use Rattle.tree_paths.specs.Known.{AreKnownIn};
 ghost use Rattle.tree_paths.specs.Readings.{Readings, Told};
 ghost use Rattle.tree_paths.specs.Walks.{entry_steps, is_dir, steps};
 ghost use Rattle.tree_paths.specs.Pairings.{AreFew, IfBoth, IsPaired, Sides};
 ghost use Rattle.tree_paths.specs.Places.{AreAtOne, AreTogether, Takes, piece};
 
 use crate::counts::{count_dir, cut, is_dir, longer};
+use crate::known_trees::KnownTrees;
 use crate::listing::place_at;
 use crate::loading::open_tree;
 use crate::pairs::{PairCounts, Paired};
+use crate::passing::pass_tree;
 use crate::places::next_place;
 use crate::sides::{pair_leaves, same_id, take_from, take_to};
 use crate::states::Paths;
-use crate::twice::twice_tree;
 use git_object::{ObjectId, TreeEntry};
 use keeper_api::{Keeper, KeeperFault};
 use std::alloc::Global;
@@ -28,6 +31,7 @@ use std::alloc::Global;
 fn pair_entries<R: Keeper>(
     alloc: Global,
     keeper: &mut R,
+    known: &KnownTrees,
     from: &ObjectId,
     to: &ObjectId,
     first: &TreeEntry,
@@ -37,6 +41,7 @@ fn pair_entries<R: Keeper>(
     counts: PairCounts,
     paths: &mut Paths,
 ) -> Result<Paired, KeeperFault>
+    requires known { (r : Repository) → R.content keeper.old ≡ Some r → AreKnownIn r known.now }
     requires one { AreAtOne first.now second.now }
     requires levels { left ≤ 32 }
     requires level { 1 ≤ left }
@@ -60,13 +65,14 @@ fn pair_entries<R: Keeper>(
     }
     if same_id(&first.id, &second.id) {
         let long = longer(cut(front.len()), first);
-        let paired = twice_tree(alloc, keeper, &first.id, left - 1, long, counts)?;
+        let paired = pass_tree(alloc, keeper, known, &first.id, left - 1, long, counts)?;
         return Ok(paired);
     }
     let place = place_at(alloc, front, first)?;
     let paired = pair_trees(
         alloc,
         keeper,
+        known,
         &first.id,
         &second.id,
         left - 1,
@@ -82,6 +88,7 @@ fn pair_entries<R: Keeper>(
 fn pair_place<R: Keeper>(
     alloc: Global,
     keeper: &mut R,
+    known: &KnownTrees,
     from: &ObjectId,
     to: &ObjectId,
     first: Option<&TreeEntry>,
@@ -91,6 +98,7 @@ fn pair_place<R: Keeper>(
     counts: PairCounts,
     paths: &mut Paths,
 ) -> Result<Paired, KeeperFault>
+    requires known { (r : Repository) → R.content keeper.old ≡ Some r → AreKnownIn r known.now }
     requires together { AreTogether (option_copied first) (option_copied second) }
     requires levels { left ≤ 32 }
     requires level { 1 ≤ left }
@@ -112,7 +120,7 @@ fn pair_place<R: Keeper>(
         Some(first) => match second {
             Some(second) => {
                 let paired = pair_entries(
-                    alloc, keeper, from, to, first, second, left, front, counts, paths,
+                    alloc, keeper, known, from, to, first, second, left, front, counts, paths,
                 )?;
                 Ok(paired)
             }
@@ -138,6 +146,7 @@ fn pair_place<R: Keeper>(
 pub fn pair_trees<R: Keeper>(
     alloc: Global,
     keeper: &mut R,
+    known: &KnownTrees,
     from: &ObjectId,
     to: &ObjectId,
     left: u32,
@@ -145,6 +154,7 @@ pub fn pair_trees<R: Keeper>(
     start: PairCounts,
     paths: &mut Paths,
 ) -> Result<Paired, KeeperFault>
+    requires known { (r : Repository) → R.content keeper.old ≡ Some r → AreKnownIn r known.now }
     requires other { bytes_eq from.now to.now ≡ false }
     requires levels { left ≤ 32 }
     requires few_from { start.from.paths ≤ 262144 }
@@ -174,7 +184,7 @@ pub fn pair_trees<R: Keeper>(
     let mut rest_to = second.as_slice();
     'places: while let Some(next) = next_place(rest_from, rest_to) {
         match pair_place(
-            alloc, keeper, from, to, next.from, next.to, left, front, counts, paths,
+            alloc, keeper, known, from, to, next.from, next.to, left, front, counts, paths,
         )? {
             Paired::FromBroken(bad) => return Ok(Paired::FromBroken(bad)),
             Paired::ToBroken(bad) => return Ok(Paired::ToBroken(bad)),

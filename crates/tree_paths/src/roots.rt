@@ -1,21 +1,24 @@
 //! The trees of two targets.
 
-ghost use Rattle.std.specs.Prelude.{◌≡◌, ◌≤◌, ◌+◌, [], IfOk};
+ghost use Rattle.std.specs.Prelude.{◌≡◌, ◌≤◌, ◌+◌, [], Some, IfOk};
 ghost use Rattle.octets.specs.Causes.{HasCause};
+ghost use Rattle.git_object.specs.Repository.{Repository};
 ghost use Rattle.keeper_api.specs.Faults.{keeper_failed};
 ghost use Rattle.keeper_api.specs.Undisturbed.{Undisturbed};
+ghost use Rattle.tree_paths.specs.Known.{AreKnownIn};
 ghost use Rattle.tree_paths.specs.Readings.{Readings, Told};
 ghost use Rattle.tree_paths.specs.Pairings.{IfBoth, IsPaired, Sides};
 ghost use Rattle.tree_paths.specs.Walks.{steps};
 ghost use Rattle.tree_paths.specs.Roots.{no_pair_counts, root_steps};
 
 use crate::counts::{MOST_LEVELS, Walked, no_counts};
+use crate::known_trees::KnownTrees;
 use crate::listing::list_tree;
 use crate::pairing::pair_trees;
 use crate::pairs::{PairCounts, Paired};
+use crate::passing::pass_tree;
 use crate::sides::same_id;
 use crate::states::Paths;
-use crate::twice::twice_tree;
 use git_object::ObjectId;
 use keeper_api::{Keeper, KeeperFault};
 use std::alloc::Global;
@@ -78,10 +81,12 @@ fn list_to<R: Keeper>(
 fn pair_both<R: Keeper>(
     alloc: Global,
     keeper: &mut R,
+    known: &KnownTrees,
     from: &ObjectId,
     to: &ObjectId,
     paths: &mut Paths,
 ) -> Result<Paired, KeeperFault>
+    requires known { (r : Repository) → R.content keeper.old ≡ Some r → AreKnownIn r known.now }
     ensures steps { IfOk result (λ w. (readings : Readings) → Told (R.content keeper.new) readings
         → IsPaired readings.trees (steps readings.trees 32 [] from.now) (steps readings.trees 32 [] to.now) no_pair_counts w) }
     ensures sides { IfOk result (λ w. IfBoth w (λ c. (readings : Readings) → Told (R.content keeper.new) readings
@@ -90,12 +95,13 @@ fn pair_both<R: Keeper>(
     ensures cause { HasCause keeper_failed (R.faults keeper.old) (R.faults keeper.new) result }
 {
     if same_id(from, to) {
-        let paired = twice_tree(alloc, keeper, from, MOST_LEVELS, 0, no_pair_counts())?;
+        let paired = pass_tree(alloc, keeper, known, from, MOST_LEVELS, 0, no_pair_counts())?;
         return Ok(paired);
     }
     let paired = pair_trees(
         alloc,
         keeper,
+        known,
         from,
         to,
         MOST_LEVELS,
@@ -111,10 +117,12 @@ fn pair_both<R: Keeper>(
 pub fn pair_roots<R: Keeper>(
     alloc: Global,
     keeper: &mut R,
+    known: &KnownTrees,
     from: &Option<ObjectId>,
     to: &Option<ObjectId>,
     paths: &mut Paths,
 ) -> Result<Paired, KeeperFault>
+    requires known { (r : Repository) → R.content keeper.old ≡ Some r → AreKnownIn r known.now }
     ensures steps { IfOk result (λ w. (readings : Readings) → Told (R.content keeper.new) readings
         → IsPaired readings.trees (root_steps readings.trees from.now) (root_steps readings.trees to.now) no_pair_counts w) }
     ensures sides { IfOk result (λ w. IfBoth w (λ c. (readings : Readings) → Told (R.content keeper.new) readings
@@ -125,7 +133,7 @@ pub fn pair_roots<R: Keeper>(
     match from {
         Some(first) => match to {
             Some(second) => {
-                let paired = pair_both(alloc, keeper, first, second, paths)?;
+                let paired = pair_both(alloc, keeper, known, first, second, paths)?;
                 Ok(paired)
             }
             None => {

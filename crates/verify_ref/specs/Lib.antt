@@ -4,3 +4,5 @@ pub mod Logs
 pub mod Verdicts
 -- the line of a verdict
 pub mod Lines
+-- what an engine followed that takes entries as they come
+pub mod Following

@@ -1,33 +1,97 @@
 //! The engine over the entries of a log in a store.
 
-ghost use Rattle.std.specs.Prelude.{◌≡◌, ◌+◌, ◌++◌, ◌∷◌, ◌==◌, ◌&&◌, [], List, Some, not, IfErr, IfOk, OnOk};
+ghost use Rattle.std.specs.Prelude.{◌≡◌, ◌+◌, ◌++◌, ◌∷◌, ◌==◌, ◌&&◌, [], List, Some, false, not, IfErr, IfOk, OnErr, OnOk};
 ghost use Rattle.octets.specs.Causes.{HasCause};
 ghost use Rattle.git_object.specs.Repository.{Repository};
+ghost use Rattle.keeper_api.specs.Faults.{keeper_failed};
 ghost use Rattle.keeper_api.specs.Undisturbed.{Undisturbed};
 ghost use Rattle.log_entries.specs.Entries.{Taken};
+ghost use Rattle.tree_paths.specs.Known.{AreKnownIn};
 ghost use Rattle.rsl_chain.specs.Logs.{IsLogOf, IsUnbroken, log_failed};
-ghost use Rattle.judging.specs.Engines.{Stands, has_taken, taken};
+ghost use Rattle.judging.specs.Engines.{IsTaken, Stands, has_taken, taken};
+ghost use Rattle.judging.specs.Rules.{Rules};
+ghost use Rattle.policy_epochs.specs.declared.policies.Policy.{Policy};
+ghost use Rattle.entry_rules.specs.declared.faults.Fault.{Fault};
 ghost use Rattle.entry_rules.specs.RealRules.{real_rules};
 ghost use Rattle.verify_ref.specs.Logs.{AreEntries, IsAstray, TakesNext, comes_next};
 
-use entry_rules::{EntryRules, Fault};
+use entry_rules::{EntryRules, Fault, KnowingRules};
 use git_object::ObjectId;
-use judging::{Engine, JudgeFault};
-use keeper_api::Keeper;
-use log_entries::Entry;
+use judging::{Engine, EntryVerdict, JudgeFault};
+use keeper_api::{Keeper, KeeperFault};
+use log_entries::{Entry, EntryBody};
 use policy_epochs::Policy;
 use rsl_chain::{LogFault, read_entry};
 use std::alloc::Global;
+use tree_paths::{KnownTrees, learn};
 
 /// The engine of judging over policies.
 pub type LogEngine = Engine<Policy, Fault>;
 
-// Whether an entry is the next that an engine may take.
-fn comes_next(engine: &LogEngine, entry: &Entry) -> bool
+/// Whether an entry is the next that an engine may take.
+pub(crate) fn comes_next(engine: &LogEngine, entry: &Entry) -> bool
     ensures { result ≡ comes_next engine.now entry.now }
 {
     let len = engine.len();
     entry.number > len && entry.number - len == 1 && !engine.has(&entry.id)
+}
+
+// Learns the trees of where the reference of an entry stands, with which the entry's are compared then.
+fn learn_before<R: Keeper>(
+    alloc: Global,
+    keeper: &mut R,
+    known: &mut KnownTrees,
+    engine: &LogEngine,
+    entry: &Entry,
+) -> Result<(), KeeperFault>
+    requires known { (r : Repository) → R.content keeper.old ≡ Some r → AreKnownIn r known.old }
+    ensures known { (r : Repository) → R.content keeper.new ≡ Some r → AreKnownIn r known.new }
+    ensures same { Undisturbed R.Keeper keeper.old keeper.new }
+    ensures cause { HasCause keeper_failed (R.faults keeper.old) (R.faults keeper.new) result }
+{
+    match &entry.body {
+        EntryBody::Reference { name, target: _ } => match engine.prior_target(name) {
+            Some(from) => learn(alloc, keeper, known, &from),
+            None => Ok(()),
+        },
+        EntryBody::Annotation {
+            ids: _,
+            skip: _,
+            message: _,
+        } => Ok(()),
+    }
+}
+
+/// Takes the next entry by the rules, with what is known of the trees then. After a refusal the engine stands for the list
+/// that it stood for.
+pub(crate) fn extend_by<R: Keeper>(
+    alloc: Global,
+    keeper: &mut R,
+    rules: &EntryRules,
+    known: &mut KnownTrees,
+    engine: &mut LogEngine,
+    entry: &Entry,
+) -> Result<EntryVerdict<Fault>, KeeperFault>
+    requires next { entry.now.number ≡ taken engine.old + 1 }
+    requires fresh { has_taken engine.old entry.now.id ≡ false }
+    requires known { (r : Repository) → R.content keeper.old ≡ Some r → AreKnownIn r known.old }
+    ensures taken { IfOk result (λ verdict. (r : Repository) (log : List Taken) → R.content keeper.new ≡ Some r → Stands (real_rules rules.now.anchor) log engine.old
+        → IsTaken (real_rules rules.now.anchor) log (record { entry = entry.now; repository = r }) engine.new verdict) }
+    ensures refused { OnErr result ((rules : Rules Policy Fault) (log : List Taken) → Stands rules log engine.old → Stands rules log engine.new) }
+    ensures known { (r : Repository) → R.content keeper.new ≡ Some r → AreKnownIn r known.new }
+    ensures same { Undisturbed R.Keeper keeper.old keeper.new }
+    ensures cause { HasCause keeper_failed (R.faults keeper.old) (R.faults keeper.new) result }
+{
+    match learn_before(alloc, keeper, known, engine, entry) {
+        Ok(()) => {}
+        Err(fault) => return Err(fault),
+    }
+    let judge = KnowingRules { rules, known };
+    match engine.extend(alloc, &judge, keeper, entry) {
+        Ok(verdict) => Ok(verdict),
+        Err(JudgeFault::Failed) => Err(KeeperFault::Failed),
+        Err(JudgeFault::Memory) => Err(KeeperFault::Memory),
+    }
 }
 
 // Takes the entry at an id, where it is the next.
@@ -35,11 +99,14 @@ fn take<R: Keeper>(
     alloc: Global,
     keeper: &mut R,
     rules: &EntryRules,
+    known: &mut KnownTrees,
     engine: &mut LogEngine,
     id: &ObjectId,
 ) -> Result<(), LogFault>
+    requires known { (r : Repository) → R.content keeper.old ≡ Some r → AreKnownIn r known.old }
     ensures taken { OnOk result ((r : Repository) → R.content keeper.new ≡ Some r → TakesNext (real_rules rules.now.anchor) r id.now engine.old engine.new) }
     ensures broken { IfErr result (λ fault. (r : Repository) → R.content keeper.new ≡ Some r → IsAstray r engine.old id.now fault) }
+    ensures known { (r : Repository) → R.content keeper.new ≡ Some r → AreKnownIn r known.new }
     ensures same { Undisturbed R.Keeper keeper.old keeper.new }
     ensures cause { HasCause log_failed (R.faults keeper.old) (R.faults keeper.new) result }
 {
@@ -47,10 +114,10 @@ fn take<R: Keeper>(
     if !comes_next(engine, &entry) {
         return Err(LogFault::Broken { id: *id });
     }
-    match engine.extend(alloc, rules, keeper, &entry) {
+    match extend_by(alloc, keeper, rules, known, engine, &entry) {
         Ok(_) => Ok(()),
-        Err(JudgeFault::Failed) => Err(LogFault::Failed),
-        Err(JudgeFault::Memory) => Err(LogFault::Memory),
+        Err(KeeperFault::Failed) => Err(LogFault::Failed),
+        Err(KeeperFault::Memory) => Err(LogFault::Memory),
     }
 }
 
@@ -68,8 +135,9 @@ fn take_all<R: Keeper>(
     ensures same { Undisturbed R.Keeper keeper.old keeper.new }
     ensures cause { HasCause log_failed (R.faults keeper.old) (R.faults keeper.new) result }
 {
+    let mut known = KnownTrees::new(alloc);
     'ids: for id in ids {
-        match take(alloc, keeper, rules, engine, id) {
+        match take(alloc, keeper, rules, &mut known, engine, id) {
             Ok(()) => {}
             Err(fault) => return Err(fault),
         }

@@ -7,14 +7,16 @@
 
 #![tactic(auto)]
 
+mod engine;
 mod judged_log;
 pub mod laws;
 mod texts;
 mod verifying;
 
+pub use engine::Engine;
 pub use entry_rules::{EntryRules, Fault};
 pub use judged_log::{LogEngine, judge_entries};
-pub use judging::Verdict;
+pub use judging::{EntryVerdict, Verdict};
 pub use rsl_chain::LogFault;
 pub use texts::text;
 pub use verifying::{RefVerdict, verify};

@@ -38,8 +38,8 @@ fn value<R: Keeper>(alloc: Global, keeper: &mut R, name: &RefName) -> Result<Obj
     }
 }
 
-// The verdict on a reference by the entries that an engine took.
-fn conclude<R: Keeper>(
+/// The verdict on a reference by the entries that an engine took.
+pub(crate) fn conclude<R: Keeper>(
     alloc: Global,
     keeper: &mut R,
     engine: &LogEngine,

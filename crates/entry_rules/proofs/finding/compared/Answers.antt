@@ -13,10 +13,10 @@ by_both P Q S (Ok x) p q f = f x p q
 by_both P Q S (Err e) p q f = tt
 
 pub returns-clause-compared : goal.returns-clause-compared
-returns-clause-compared g c = IfOk-weaker c.compare.result _ _ (λ c is r told. is (readings_of r) (told_readings r _ told)) c.compare.ensures.compared
+returns-clause-compared g c = IfOk-weaker c.compare_known.result _ _ (λ c is r told. is (readings_of r) (told_readings r _ told)) c.compare_known.ensures.compared
 
 pub returns-clause-reads : goal.returns-clause-reads
-returns-clause-reads g c = by_both _ _ _ c.compare.result c.compare.ensures.compared c.compare.ensures.reads (λ found is reads r told sound.
+returns-clause-reads g c = by_both _ _ _ c.compare_known.result c.compare_known.ensures.compared c.compare_known.ensures.reads (λ found is reads r told sound.
     let readings = readings_of r in
     let tells = told_readings r _ told in
     omega (arith, sound_changed (walk_of readings c.args.from.now) (walk_of readings c.args.to.now) found _ (is readings tells) sound (reads readings tells)))

@@ -24,4 +24,4 @@ returns-clause-taken g c = λ r log told stands body.
     ∙ ap (λ p. decision rules r p c.args.entry.now c.args.name.now s.from (option_copied c.as_ref-2.result)) c.as_ref.ensures.value
     ∙ ap (decision rules r e.policy c.args.entry.now c.args.name.now s.from) c.as_ref-2.ensures.value in
     let finish = c.in_ok-finishes.ensures.answer r told in
-    taken_reference rules log t c.args.name.now c.args.target.now body e c.keep_reference.new.engine c.in_ok-finishes.finishes d s c.in_ok-verdict.verdict stands c.requires c.place_before-stands.ensures decided finish c.in_ok-keep_reference.ensures.kept c.in_ok-verdict.ensures
+    taken_reference rules log t c.args.name.now c.args.target.now body e c.keep_reference.new.engine c.in_ok-finishes.finishes d s c.in_ok-verdict.verdict stands c.requires.fresh c.place_before-stands.ensures decided finish c.in_ok-keep_reference.ensures.kept c.in_ok-verdict.ensures

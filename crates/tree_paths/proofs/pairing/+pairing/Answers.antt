@@ -37,12 +37,12 @@ pair_entries-returns-then-same_id-clause-sides g t c =
     let f = c.args.second.now in
     let dir : is_dir e.mode ≡ true = sym c.if-not-is_dir.ensures in
     let here = into (place_of c.args.front.now e) e.id in
-    let spent : g.R.Keeper.reads c.twice_tree.new.keeper + c.args.counts.from.dirs ≤ g.R.Keeper.reads c.args.keeper.now + d.from.dirs = both_is _ c.in_ok-paired-2.paired d c.in_ok-paired-2.ensures.spent is in
+    let spent : g.R.Keeper.reads c.pass_tree.new.keeper + c.args.counts.from.dirs ≤ g.R.Keeper.reads c.args.keeper.now + d.from.dirs = both_is _ c.in_ok-paired-2.paired d c.in_ok-paired-2.ensures.spent is in
     let counted = subst (IsPaired readings.trees here here c.args.counts) is
     (c.in_ok-paired-2.ensures.steps readings (place_of c.args.front.now e) told (longer_place c.cut.result c.longer-long.result c.args.front.now e c.cut.ensures c.longer-long.ensures)) in
-    paired_at (λ (xs ys : List Step). Sides xs ys c.args.paths.now c.args.paths.now (g.R.Keeper.reads c.args.keeper.now) (g.R.Keeper.reads c.twice_tree.new.keeper)) (piece_of into c.args.from.now c.args.front.now e) (piece_of into c.args.to.now c.args.front.now f) here here
+    paired_at (λ (xs ys : List Step). Sides xs ys c.args.paths.now c.args.paths.now (g.R.Keeper.reads c.args.keeper.now) (g.R.Keeper.reads c.pass_tree.new.keeper)) (piece_of into c.args.from.now c.args.front.now e) (piece_of into c.args.to.now c.args.front.now f) here here
     (dir_steps into c.args.from.now c.args.front.now e dir) (twice_piece into c.args.from.now c.args.to.now c.args.front.now e f c.requires.one dir (sym c.if-same_id.ensures))
-    (sides_both readings.trees here c.args.counts.from d.from c.args.paths.now c.args.paths.now (g.R.Keeper.reads c.args.keeper.now) (g.R.Keeper.reads c.twice_tree.new.keeper) counted.0 refl spent))
+    (sides_both readings.trees here c.args.counts.from d.from c.args.paths.now c.args.paths.now (g.R.Keeper.reads c.args.keeper.now) (g.R.Keeper.reads c.pass_tree.new.keeper) counted.0 refl spent))
 
 pub pair_entries-returns-clause-steps : goal.pair_entries-returns-clause-steps
 pair_entries-returns-clause-steps g t c = λ readings told.

@@ -10,8 +10,8 @@ pub returns-then-same_id-clause-sides : goal.returns-then-same_id-clause-sides
 returns-then-same_id-clause-sides g c =
     both_by _ c.in_ok-paired.paired (λ d is. λ readings told.
     let here = steps readings.trees 32 [] c.args.from.now in
-    let spent : g.R.Keeper.reads c.twice_tree.new.keeper + c.no_pair_counts.result.from.dirs ≤ g.R.Keeper.reads c.args.keeper.now + d.from.dirs = both_is _ c.in_ok-paired.paired d c.in_ok-paired.ensures.spent is in
+    let spent : g.R.Keeper.reads c.pass_tree.new.keeper + c.no_pair_counts.result.from.dirs ≤ g.R.Keeper.reads c.args.keeper.now + d.from.dirs = both_is _ c.in_ok-paired.paired d c.in_ok-paired.ensures.spent is in
     let counted = subst (IsPaired readings.trees here here c.no_pair_counts.result) is (c.in_ok-paired.ensures.steps readings [] told refl) in
-    paired_at (λ (xs ys : List Step). Sides xs ys c.args.paths.now c.args.paths.now (g.R.Keeper.reads c.args.keeper.now) (g.R.Keeper.reads c.twice_tree.new.keeper)) here (steps readings.trees 32 [] c.args.to.now) here here
+    paired_at (λ (xs ys : List Step). Sides xs ys c.args.paths.now c.args.paths.now (g.R.Keeper.reads c.args.keeper.now) (g.R.Keeper.reads c.pass_tree.new.keeper)) here (steps readings.trees 32 [] c.args.to.now) here here
     refl (ap (λ (id : List ℕ). steps readings.trees 32 [] id) (sym ((bytes_eq-Decides c.args.from.now c.args.to.now).0 (sym c.if-same_id.ensures))))
-    (sides_both readings.trees here c.no_pair_counts.result.from d.from c.args.paths.now c.args.paths.now (g.R.Keeper.reads c.args.keeper.now) (g.R.Keeper.reads c.twice_tree.new.keeper) counted.0 refl spent))
+    (sides_both readings.trees here c.no_pair_counts.result.from d.from c.args.paths.now c.args.paths.now (g.R.Keeper.reads c.args.keeper.now) (g.R.Keeper.reads c.pass_tree.new.keeper) counted.0 refl spent))

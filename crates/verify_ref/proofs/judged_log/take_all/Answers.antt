@@ -8,6 +8,7 @@ use Rattle.verify_ref.proofs.judged_log.take_all.Goals as goal
 pub ids-init : goal.ids-init
 ids-init g c = record {
   so = λ r told. ([], refl, c.requires);
+  known = λ r told. c.new-known.ensures r;
   same = search rules;
   quiet = refl;
 }
@@ -17,6 +18,7 @@ ids-preserved g c = record {
   so = λ r told.
       let was = c.ids.invariant.so r (c.take.ensures.same.content r told) in
       taken_more (real_rules c.args.rules.now.anchor) r c.args.ids.now c.ids.id-index c.id-item.result c.ids-test.true c.id-item.is c.ids.engine was.0 was.1 was.2 c.take.new.engine (c.in-Ok.ensures.taken r told);
+  known = c.take.ensures.known;
   same = search rules;
   quiet = search rules;
 }

@@ -4,12 +4,14 @@ use Rattle.keeper_api.specs.Undisturbed.{Undisturbed}
 use Rattle.log_entries.specs.Entries.{Taken}
 use Rattle.judging.specs.Engines.{Stands}
 use Rattle.entry_rules.specs.RealRules.{real_rules}
+use Rattle.tree_paths.specs.Known.{AreKnownIn}
 use Rattle.verify_ref.specs.Logs.{AreEntries}
 use Rattle.verify_ref.proofs.judged_log.take_all.Given as goal
 
 abbrev pub invariant-ids : goal.invariant-ids
 invariant-ids g l = record {
   so : (r : Repository) → g.R.Keeper.content l.keeper ≡ Some r → (log : List Taken) × AreEntries r (take l.id-index l.ids) log × Stands (real_rules l.rules.anchor) log l.engine;
+  known : (r : Repository) → g.R.Keeper.content l.keeper ≡ Some r → AreKnownIn r l.known;
   same : Undisturbed g.R.Keeper l.fn.keeper l.keeper;
   quiet : g.R.Keeper.faults l.keeper ≡ g.R.Keeper.faults l.fn.keeper;
 }

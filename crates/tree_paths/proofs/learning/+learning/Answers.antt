@@ -1,0 +1,45 @@
+use Rattle.std.proofs.Common.{rules, ap, ◌≡◌, ◌∙◌, ◌≤◌, ◌==◌, ◌-◌, ℕ, List, length, min, sym}
+use Rattle.git_object.specs.declared.trees.TreeEntry.{TreeEntry}
+use Rattle.tree_paths.specs.Adding.{Adds}
+use Rattle.tree_paths.specs.Readings.{Readings, Told}
+use Rattle.tree_paths.specs.Walks.{entry_steps, is_dir, no_counts, one_dir, steps}
+use Rattle.tree_paths.specs.declared.counts.Counts.{Counts}
+use Rattle.tree_paths.proofs.ObjectsRead.{kept_told, some_at}
+use Rattle.tree_paths.proofs.Judging.{root_cut}
+use Rattle.tree_paths.proofs.Sums.{adds_done, adds_next, adds_start}
+use Rattle.tree_paths.proofs.learning.+learning.Goals as goal
+
+pub learn_tree-entries-init : goal.learn_tree-entries-init
+learn_tree-entries-init g t c =
+    let level : 1 ≤ c.args.left = some_at (λ (entries : List TreeEntry). 1 ≤ c.args.left) c.in_ok-entries.field-0 c.in-Some-2.entries c.in_ok-entries.ensures.level c.in-Some-2.is in
+    let one : c.count_dir-adds.result ≡ one_dir no_counts = c.count_dir-adds.ensures ∙ ap one_dir c.no_counts.ensures in
+    record {
+      adds = λ readings front told is.
+          adds_start readings.trees c.args.left front c.args.id.now (c.args.len == 0) c.in-Some-2.entries c.as_slice-rest.result.now c.count_dir-adds.result level (root_cut c.args.len (length front) is)
+          (sym c.in-Some-2.is ∙ c.in_ok-entries.ensures.read readings told) c.as_slice-rest.ensures one;
+      known = λ r told. c.requires.known r (c.in_ok-entries.ensures.same.content r told);
+      same = search rules;
+      quiet = search rules;
+    }
+
+pub learn_tree-entries-preserved : goal.learn_tree-entries-preserved
+learn_tree-entries-preserved g t c =
+    let entry = c.in-Some-split_first.entry.now in
+    let adds = some_at (λ (a : Counts). (readings : Readings) (holder front : List ℕ) → Told (g.R.Keeper.content c.learn_entry.new.keeper) readings → c.args.len ≡ min (length front) 8192
+    → Adds readings.trees (entry_steps (steps readings.trees (c.args.left - 1)) holder front entry (is_dir entry.mode)) a)
+    c.in_ok-next.field-0 c.in-Some-3.next c.in_ok-next.ensures.adds c.in-Some-3.is in
+    record {
+      adds = λ readings front told is.
+          adds_next readings.trees (steps readings.trees c.args.left front c.args.id.now) (steps readings.trees (c.args.left - 1)) c.args.id.now front c.entries.rest.now c.in-Some-split_first.more.now entry
+          c.entries.adds c.in-Some-3.next c.in-Some-add_counts.sum (c.entries.invariant.adds readings front (kept_told readings c.in_ok-next.ensures.same.content told) is) c.in-Some-split_first.ensures.cases.0
+          (adds readings c.args.id.now front told is) c.in-Some-add_counts.ensures;
+      known = c.in_ok-next.ensures.known;
+      same = search rules;
+      quiet = search rules;
+    }
+
+pub learn_tree-returns-clause-known : goal.learn_tree-returns-clause-known
+learn_tree-returns-clause-known g t c = λ r told readings are.
+    c.keep.ensures readings.trees (c.entries.invariant.known r told readings are)
+    (λ front is. adds_done readings.trees (steps readings.trees c.args.left front c.args.id.now) (steps readings.trees (c.args.left - 1)) c.args.id.now front c.entries.rest.now c.entries.adds
+    (c.entries.invariant.adds readings front (record { repository = r; told = told; are = are }) is) c.in_default-split_first.ensures.cases)

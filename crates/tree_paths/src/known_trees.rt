@@ -1,0 +1,142 @@
+//! What is known of the trees of a repository.
+
+ghost use Rattle.std.specs.Prelude.{◌≡◌, ◌≤◌, ◌*◌, ℕ, List, Some, if◌then◌else◌, length, min, IfSome, OnErr, OnOk};
+ghost use Rattle.std.specs.BTreeMap as tree;
+ghost use Rattle.std.specs.Ordering.{is_eq};
+ghost use Rattle.octets.specs.BytesMap.{by_bytes};
+ghost use Rattle.git_object.specs.Repository.{Repository};
+ghost use Rattle.tree_paths.specs.Adding.{Adds, IsSum};
+ghost use Rattle.tree_paths.specs.Known.{AreKnown, AreKnownIn};
+ghost use Rattle.tree_paths.specs.Pairings.{AreFew, IsPaired};
+ghost use Rattle.tree_paths.specs.Readings.{Trees};
+ghost use Rattle.tree_paths.specs.Walks.{steps};
+ghost use Rattle.tree_paths.specs.declared.pairs.Paired.TheVariants as paired;
+
+use crate::counts::{Counts, add_counts};
+use crate::pairs::PairCounts;
+use git_object::{Memory, ObjectId};
+use std::alloc::Global;
+use std::collections::BTreeMap;
+
+/// How many trees more than four times those of the state that was learned last may be known before all are let go.
+const SPARE_TREES: usize = 4096;
+
+/// The most trees of which something is kept.
+const MOST_TREES: usize = 65_536;
+
+/// What the walk of a tree adds, with so many levels left, at a place of so many bytes (of 8,192, where it has more).
+#[derive(Clone, Copy)]
+pub(crate) struct KnownTree {
+    pub(crate) left: u32,
+    pub(crate) len: usize,
+    pub(crate) adds: Counts,
+}
+
+/// What the walk of each of some trees of a repository adds to the counts of a state, of at most 65,536 trees. It is
+/// good for one repository: the one from which it was learned.
+#[derive(Drop)]
+pub struct KnownTrees {
+    pub(crate) rows: BTreeMap<ObjectId, KnownTree>,
+    most: usize,
+}
+
+// The counts with what a tree below the root adds, if the limits have room for it.
+fn within(counts: Counts, adds: Counts) -> Option<Counts>
+    ensures sum { IfSome result (λ sum. IsSum counts adds sum) }
+    ensures few { IfSome result (λ sum. sum.dirs ≤ 32 * sum.paths) }
+{
+    let sum = add_counts(counts, adds)?;
+    if sum.dirs > 32 * sum.paths {
+        return None;
+    }
+    Some(sum)
+}
+
+// Keeps a row under an id. Where there is no memory for it, nothing changes.
+fn add_row(
+    rows: &mut BTreeMap<ObjectId, KnownTree>,
+    id: &ObjectId,
+    row: KnownTree,
+) -> Result<(), Memory>
+    ensures put { OnOk result ((q : List ℕ) → tree.get by_bytes rows.new q ≡ (if is_eq (by_bytes id.now q) then Some row else tree.get by_bytes rows.old q)) }
+    ensures same { OnErr result (rows.new.entries ≡ rows.old.entries) }
+{
+    let _had = rows.insert(*id, row)?;
+    Ok(())
+}
+
+impl KnownTrees {
+    /// Nothing is known. It takes no memory.
+    pub fn new(alloc: Global) -> KnownTrees
+        ensures { (r : Repository) → AreKnownIn r result }
+    {
+        KnownTrees {
+            rows: BTreeMap::new(alloc),
+            most: SPARE_TREES,
+        }
+    }
+
+    /// What is known of a tree with so many levels left at a place of so many bytes.
+    pub(crate) fn adds_at(&self, id: &ObjectId, left: u32, len: usize) -> Option<Counts>
+        ensures { IfSome result (λ adds. (trees : Trees) (front : List ℕ) → AreKnown trees self.now → len ≡ min (length front) 8192 → Adds trees (steps trees left front id.now) adds) }
+    {
+        let row = self.rows.get(id)?;
+        if row.left != left || row.len != len {
+            return None;
+        }
+        Some(row.adds)
+    }
+
+    /// The counts of two walks after a tree that both meet at one place, where it is known and the limits of both have
+    /// room for what it adds.
+    pub(crate) fn counted(
+        &self,
+        id: &ObjectId,
+        left: u32,
+        len: usize,
+        start: PairCounts,
+    ) -> Option<PairCounts>
+        ensures counted { IfSome result (λ c. (trees : Trees) (front : List ℕ) → AreKnown trees self.now → len ≡ min (length front) 8192
+            → IsPaired trees (steps trees left front id.now) (steps trees left front id.now) start (paired.BothCounted c)) }
+        ensures few { IfSome result (λ c. AreFew left c) }
+        ensures more { IfSome result (λ c. start.from.dirs ≤ c.from.dirs) }
+    {
+        let adds = self.adds_at(id, left, len)?;
+        let from = within(start.from, adds)?;
+        let to = within(start.to, adds)?;
+        Some(PairCounts { from, to })
+    }
+
+    /// Keeps what a tree adds, unless too many are kept already or there is no memory for it.
+    pub(crate) fn keep(&mut self, id: &ObjectId, left: u32, len: usize, adds: Counts)
+        ensures { (trees : Trees) → AreKnown trees self.old → ((front : List ℕ) → len ≡ min (length front) 8192 → Adds trees (steps trees left front id.now) adds) → AreKnown trees self.new }
+    {
+        if self.rows.len() < MOST_TREES {
+            match add_row(&mut self.rows, id, KnownTree { left, len, adds }) {
+                Ok(()) => {}
+                Err(Memory) => {}
+            }
+        }
+    }
+
+    /// Lets all go where it is more than what is of use.
+    pub(crate) fn make_room(&mut self)
+        ensures { (trees : Trees) → AreKnown trees self.old → AreKnown trees self.new }
+    {
+        if self.rows.len() > self.most {
+            self.rows.clear();
+        }
+    }
+
+    /// Makes room for the trees of a state that has so many. Where they are more than are ever kept, nothing is let go.
+    pub(crate) fn set_room(&mut self, dirs: u32)
+        ensures { (trees : Trees) → AreKnown trees self.old → AreKnown trees self.new }
+    {
+        let dirs = dirs as usize;
+        self.most = if dirs > MOST_TREES {
+            MOST_TREES
+        } else {
+            (4 * dirs + SPARE_TREES).min(MOST_TREES - 1)
+        };
+    }
+}

@@ -1,0 +1,118 @@
+//! The engine of judging with the rules by which it judges, for whoever takes entries as they come.
+
+ghost use Rattle.std.specs.Prelude.{◌≡◌, ◌+◌, [], List, Some, false, IfOk, OnErr};
+ghost use Rattle.octets.specs.Causes.{HasCause};
+ghost use Rattle.git_object.specs.Repository.{Repository, value_of};
+ghost use Rattle.keeper_api.specs.Faults.{keeper_failed};
+ghost use Rattle.keeper_api.specs.Undisturbed.{Undisturbed};
+ghost use Rattle.log_entries.specs.Entries.{Taken};
+ghost use Rattle.tree_paths.specs.Known.{AreKnownIn};
+ghost use Rattle.judging.specs.Engines.{has_taken, taken};
+ghost use Rattle.judging.specs.Logs.{prior_target};
+ghost use Rattle.judging.specs.Verdicts.{IsJudged};
+ghost use Rattle.entry_rules.specs.RealRules.{real_rules};
+ghost use Rattle.verify_ref.specs.Following.{Follows, TakesOne};
+ghost use Rattle.verify_ref.specs.Logs.{comes_next};
+
+use crate::judged_log::{LogEngine, comes_next, extend_by};
+use crate::verifying::{RefVerdict, conclude};
+use entry_rules::{EntryRules, Fault};
+use git_object::{ObjectId, RefName};
+use judging::EntryVerdict;
+use keeper_api::{Keeper, KeeperFault};
+use log_entries::Entry;
+use root_metadata::KeyIds;
+use std::alloc::Global;
+use tree_paths::KnownTrees;
+
+/// Takes the entries of a log one after the other, each to be judged in the repository that the store holds then, and
+/// answers for those that it took. What it learned of the trees of a store serves later entries, so a store that it is
+/// given may have more objects than an earlier one, and not others in their place.
+#[derive(Drop)]
+pub struct Engine {
+    rules: EntryRules,
+    known: KnownTrees,
+    entries: LogEngine,
+}
+
+impl Engine {
+    /// An engine that took no entry. Where ids are given, the first policy's root role must have exactly their keys. It
+    /// takes no memory.
+    pub fn new(alloc: Global, anchor: Option<KeyIds>) -> Engine
+        ensures anchor { result.rules.anchor ≡ anchor }
+        ensures follows { Follows [] result }
+        ensures known { (r : Repository) → AreKnownIn r result.known }
+    {
+        Engine {
+            rules: EntryRules::new(anchor),
+            known: KnownTrees::new(alloc),
+            entries: LogEngine::new(alloc),
+        }
+    }
+
+    /// How many entries were taken.
+    pub fn len(&self) -> u64
+        ensures { result ≡ taken self.now.entries }
+    {
+        self.entries.len()
+    }
+
+    /// Whether an entry is the next that may be taken: its number is one more than those taken, and none of these has its
+    /// id.
+    pub fn comes_next(&self, entry: &Entry) -> bool
+        ensures { result ≡ comes_next self.now.entries entry.now }
+    {
+        comes_next(&self.entries, entry)
+    }
+
+    /// The target of a reference's last entry that is not skipped, by the entries taken.
+    pub fn prior_target(&self, name: &RefName) -> Option<ObjectId>
+        ensures { (log : List Taken) → Follows log self.now → result ≡ prior_target (real_rules self.now.rules.anchor) log name.now }
+    {
+        self.entries.prior_target(name)
+    }
+
+    /// Takes the next entry, and answers whether it is authorised, refused for a fault, or an annotation. After a refusal the
+    /// engine followed what it followed before.
+    pub fn extend<R: Keeper>(
+        &mut self,
+        alloc: Global,
+        keeper: &mut R,
+        entry: &Entry,
+    ) -> Result<EntryVerdict<Fault>, KeeperFault>
+        requires next { entry.now.number ≡ taken self.old.entries + 1 }
+        requires fresh { has_taken self.old.entries entry.now.id ≡ false }
+        requires known { (r : Repository) → R.content keeper.old ≡ Some r → AreKnownIn r self.old.known }
+        ensures taken { IfOk result (λ verdict. (r : Repository) (log : List Taken) → R.content keeper.new ≡ Some r → Follows log self.old
+            → TakesOne log (record { entry = entry.now; repository = r }) self.new verdict) }
+        ensures refused { OnErr result ((log : List Taken) → Follows log self.old → Follows log self.new) }
+        ensures rules { self.new.rules ≡ self.old.rules }
+        ensures known { (r : Repository) → R.content keeper.new ≡ Some r → AreKnownIn r self.new.known }
+        ensures same { Undisturbed R.Keeper keeper.old keeper.new }
+        ensures cause { HasCause keeper_failed (R.faults keeper.old) (R.faults keeper.new) result }
+    {
+        extend_by(
+            alloc,
+            keeper,
+            &self.rules,
+            &mut self.known,
+            &mut self.entries,
+            entry,
+        )
+    }
+
+    /// The verdict on a reference by the entries taken and by its value in the store.
+    pub fn verdict<R: Keeper>(
+        &self,
+        alloc: Global,
+        keeper: &mut R,
+        name: &RefName,
+    ) -> Result<RefVerdict, KeeperFault>
+        ensures judged { IfOk result (λ verdict. (r : Repository) (log : List Taken) → R.content keeper.new ≡ Some r → Follows log self.now
+            → IsJudged (real_rules self.now.rules.anchor) log name.now (value_of r name.now) verdict) }
+        ensures same { Undisturbed R.Keeper keeper.old keeper.new }
+        ensures cause { HasCause keeper_failed (R.faults keeper.old) (R.faults keeper.new) result }
+    {
+        conclude(alloc, keeper, &self.entries, name)
+    }
+}
