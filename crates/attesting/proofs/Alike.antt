@@ -16,7 +16,7 @@ use Rattle.git_object.specs.declared.modes.Mode.TheVariants.{Dir, File}
 use Rattle.git_object.specs.declared.trees.TreeEntry.{TreeEntry}
 use Rattle.tree_paths.specs.Lookups.{entry_named}
 use Rattle.tree_paths.specs.Walks.{is_dir}
-use Rattle.attesting.specs.Entries.{place, put_entry}
+use Rattle.tree_editing.specs.Entries.{place, put_entry}
 use Rattle.attesting.specs.Files.{NewTrees, Putting, put_below, put_dir, put_last, with_tree}
 use Rattle.attesting.specs.Levels.{IsFit, put_levels}
 use Rattle.attesting.specs.declared.surveys.Level.{Level}

@@ -12,11 +12,11 @@ use Rattle.tree_paths.specs.Lookups.{entry_at, entry_named, entry_value, from_di
 use Rattle.tree_paths.specs.Readings.{Trees}
 use Rattle.tree_paths.specs.States.{PathValue}
 use Rattle.tree_paths.specs.Walks.{is_dir, listed}
-use Rattle.attesting.specs.Entries.{IsPut, put_entry}
+use Rattle.tree_editing.specs.Entries.{IsPut, put_entry}
 use Rattle.attesting.specs.Files.{NewTrees, Putting, entries_or, old_entries, put_below, put_dir, put_file, put_last, tree_pair}
 use Rattle.attesting.specs.Finding.{IsAllElseKept, no_dir, path_at, path_from}
-use Rattle.attesting.specs.Named.{IsAlike}
-use Rattle.attesting.proofs.InOrder.{put_is}
+use Rattle.tree_editing.specs.Named.{IsAlike}
+use Rattle.tree_editing.proofs.InOrder.{put_is}
 use Rattle.attesting.proofs.Found.{all_front, below_by, below_made, dir_made, entries_with, last_made, new_there, old_formed, opened_at, root_is, with_made}
 
 -- the old trees are among those after

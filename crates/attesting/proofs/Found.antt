@@ -15,11 +15,11 @@ use Rattle.tree_making.specs.Keeping.{Keeps, KeepsPair}
 use Rattle.tree_paths.specs.Lookups.{entry_at, entry_named, entry_value, from_dir, value_named}
 use Rattle.tree_paths.specs.Readings.{Trees}
 use Rattle.tree_paths.specs.Walks.{is_dir, listed}
-use Rattle.attesting.specs.Entries.{IsPut, put_entry}
+use Rattle.tree_editing.specs.Entries.{IsPut, put_entry}
 use Rattle.attesting.specs.Files.{NewTrees, Putting, entries_or, in_entries, old_entries, put_below, put_dir, put_file, put_last, tree_pair, with_tree}
 use Rattle.attesting.specs.Finding.{AreRead, IsFilePut}
-use Rattle.attesting.specs.Named.{IsAlike}
-use Rattle.attesting.proofs.InOrder.{put_all, put_is}
+use Rattle.tree_editing.specs.Named.{IsAlike}
+use Rattle.tree_editing.proofs.InOrder.{put_all, put_is}
 use Rattle.attesting.proofs.Puts.{fits}
 
 pub all_last : (P : Pair → Type 0) (below : List Pair) (pair : Pair) → AllByRecursion P (below ++ pair ∷ []) → P pair

@@ -1,4 +1,3 @@
-pub mod InOrder
 pub mod Puts
 pub mod AttestationsName
 pub mod Found

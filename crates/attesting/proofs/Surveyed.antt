@@ -12,7 +12,7 @@ use Rattle.git_object.specs.declared.trees.TreeEntry.{TreeEntry}
 use Rattle.tree_paths.specs.Lookups.{entry_named}
 use Rattle.tree_paths.specs.Readings.{Readings, Told}
 use Rattle.tree_paths.proofs.PathNames.{cut_parts, plain_parts, some_parts}
-use Rattle.attesting.specs.Entries.{put_entry}
+use Rattle.tree_editing.specs.Entries.{put_entry}
 use Rattle.attesting.specs.Files.{Putting, old_entries, put_below, put_dir, put_file, put_last, tree_pair, with_tree}
 use Rattle.attesting.specs.Levels.{AreLevels, HasLevels, put_levels}
 use Rattle.attesting.specs.Placing.{IsMade, IsPlaced}

@@ -41,7 +41,7 @@ use Rattle.attesting.specs.Tied.{HasBoth, IsFoundAgain}
 use Rattle.attesting.specs.declared.attesting.Attested.{Attested}
 use Rattle.attesting.proofs.Found.{all_front, all_last, file_put, id_of_pair, root_is}
 use Rattle.attesting.proofs.Held.{are_held}
-use Rattle.attesting.proofs.InOrder.{not_same}
+use Rattle.tree_editing.proofs.InOrder.{not_same}
 
 -- ---- the commit that a target is peeled to
 

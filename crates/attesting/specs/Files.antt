@@ -10,7 +10,7 @@ use Rattle.git_object.specs.declared.trees.TreeEntry.{TreeEntry}
 use Rattle.tree_paths.specs.Lookups.{entry_named}
 use Rattle.tree_paths.specs.Readings.{Trees}
 use Rattle.tree_paths.specs.Walks.{is_dir}
-use Rattle.attesting.specs.Entries.{put_entry}
+use Rattle.tree_editing.specs.Entries.{put_entry}
 
 -- new trees, the one of the last names first, and the id of the root
 pub record NewTrees : Type 0 where

@@ -1,9 +1,5 @@
 -- why an approval is not put into the attestations
 pub mod Faults
--- what stands under a name
-pub mod Named
--- a tree with one entry put in its place
-pub mod Entries
 -- trees with a file put at a path, and nothing else changed
 pub mod Files
 -- the directories on the way to a file, as they were read

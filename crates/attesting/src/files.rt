@@ -9,19 +9,19 @@ ghost use Rattle.git_object.specs.Trees.{AreWellFormed, IsEntryName};
 ghost use Rattle.git_object.specs.declared.modes.Mode.TheVariants.{Dir, File};
 ghost use Rattle.tree_paths.specs.Lookups.{entry_named};
 ghost use Rattle.tree_making.specs.Keeping.{Adds};
-ghost use Rattle.attesting.specs.Entries.{put_entry};
+ghost use Rattle.tree_editing.specs.Entries.{put_entry};
 ghost use Rattle.attesting.specs.Files.{Putting, put_below, put_last, tree_pair, with_tree};
 ghost use Rattle.attesting.specs.Levels.{AreLevels, put_levels};
-ghost use Rattle.attesting.specs.Named.{IsAlike};
+ghost use Rattle.tree_editing.specs.Named.{IsAlike};
 ghost use Rattle.attesting.specs.Placing.{IfMade, IsPlaced};
 
-use crate::entries::put_entry;
 use crate::surveys::Level;
 use git_object::{
     Kind, LARGEST_BODY, Mode, Object, ObjectId, Objects, Octets, Tree, TreeEntries, TreeEntry,
 };
 use octets::Memory;
 use std::alloc::Global;
+use tree_editing::put_entry;
 use tree_paths::{entry_named, is_dir, split_at_slash};
 
 /// What came of putting a file: the id of the root's new tree, or the object that is in the way.

@@ -1,22 +1,10 @@
-//! Laws over trees with one entry put in its place.
+//! Laws over trees with a file put at a path.
 
 ghost use Rattle.std.specs.Prelude.{ℕ, List, Option};
 ghost use Rattle.git_object.specs.Repository.{Repository};
-ghost use Rattle.git_object.specs.Trees.{AreWellFormed, IsEntryName};
-ghost use Rattle.git_object.specs.declared.trees.TreeEntry.{TreeEntry};
-ghost use Rattle.tree_paths.specs.Lookups.{entry_named};
 ghost use Rattle.tree_paths.specs.Readings.{Trees};
-ghost use Rattle.attesting.specs.Entries.{IsPut, put_entry};
 ghost use Rattle.attesting.specs.Finding.{AreHeld, IsAllElseKept, IsFilePut};
-ghost use Rattle.attesting.specs.Named.{IsAlike};
 ghost use Rattle.attesting.specs.Tied.{IsFoundAgain};
-
-/// An entry that is well named is put in Git's order among the entries of a tree, and has its name there; under every
-/// other name stands what stood there. What had its name before, if anything, is a directory exactly where it is one.
-pub fn entries_put()
-    ensures { (entry : TreeEntry) (entries : List TreeEntry) → IsEntryName entry.name → AreWellFormed entries → IsAlike entry.mode (entry_named entry.name entries)
-        → IsPut entries entry (put_entry entry entries) }
-{}
 
 /// Where a file is put at the names of a path, it stands at them from the new root in all trees that have the new ones.
 pub fn files_put()

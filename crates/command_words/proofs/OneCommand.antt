@@ -7,14 +7,15 @@ use Rattle.text_reader.specs.Hexadecimal.{IsLowerHexadecimal}
 use Rattle.text_reader.proofs.Unique.{same_hexadecimal}
 use Rattle.git_object.proofs.IdLemmas.{id_is_lower}
 use Rattle.word_values.specs.Ids.{AreIds}
+use Rattle.word_values.specs.Numbers.{IsCount}
 use Rattle.word_values.specs.Spaced.{IsSpaced}
-use Rattle.word_values.proofs.OneValue.{same_ids, same_space, same_name as same_spaced_name}
-use Rattle.command_words.specs.Commands.{IsAsked, IsRoot, IsMessage, IsTarget, annotate_app, explain_app, height_text, kind_text, width_text}
+use Rattle.word_values.proofs.OneValue.{same_count, same_ids, same_space, same_name as same_spaced_name}
+use Rattle.command_words.specs.Commands.{IsAsked, IsRoot, IsBottom, IsMessage, IsTarget, annotate_app, demo_app, explain_app, height_text, kind_text, width_text}
 use Rattle.command_words.specs.FirstWords.{AsksFor, AsksForNone, IsCommand, IsNoCommand, IsWithinLimits, name_text}
 use Rattle.command_words.specs.Grammars.{value_of}
 use Rattle.command_words.specs.Laws.{OneCommand}
 use Rattle.command_words.specs.declared.commands.Command.{Command}
-use Rattle.command_words.specs.declared.commands.Command.TheVariants.{VerifyRef, KeyGen, Record, Seal, Snapshot, Explain, Annotate, Approve}
+use Rattle.command_words.specs.declared.commands.Command.TheVariants.{VerifyRef, KeyGen, Record, Seal, Snapshot, Explain, Annotate, Approve, Demo}
 use Rattle.command_words.specs.declared.commands.CommandName.{CommandName}
 use Rattle.command_words.specs.declared.commands.CommandName.TheVariants as name
 use Rattle.command_words.specs.declared.commands.Height.{Height}
@@ -34,7 +35,7 @@ named_by word = if bytes_eq word (name_text name.VerifyRef) then Some name.Verif
     else (if bytes_eq word (name_text name.Snapshot) then Some name.Snapshot
     else (if bytes_eq word (name_text name.PolicyApply) then Some name.PolicyApply
     else (if bytes_eq word (name_text name.Explain) then Some name.Explain
-    else (if bytes_eq word (name_text name.Annotate) then Some name.Annotate else Some name.Approve))))))))))
+    else (if bytes_eq word (name_text name.Annotate) then Some name.Annotate else (if bytes_eq word (name_text name.Approve) then Some name.Approve else Some name.Demo)))))))))))
 
 named_by-text : (n : CommandName) → named_by (name_text n) ≡ Some n
 unfolding named_by
@@ -50,6 +51,7 @@ named_by-text name.PolicyApply = refl
 named_by-text name.Explain = refl
 named_by-text name.Annotate = refl
 named_by-text name.Approve = refl
+named_by-text name.Demo = refl
 
 same_some : {X : Type 0} (x y : X) → Some x ≡ Some y → x ≡ y
 same_some x y e = cc
@@ -150,6 +152,14 @@ same_root (Some text) None b is other = absurd is
 same_root (Some text) (Some a) None is other = absurd other
 same_root (Some text) (Some a) (Some b) is other = ap (λ (ids : List (List ℕ)). Some ids) (same_ids 64 text a b is other)
 
+same_bottom : (given : Option (List ℕ)) (h k : Height) (a b : Option Height) → IsBottom given h a → IsBottom given k b → a ≡ b
+same_bottom None h k None None is other = refl
+same_bottom None h k None (Some b) is other = absurd other
+same_bottom None h k (Some a) b is other = absurd is
+same_bottom (Some text) h k None b is other = absurd is
+same_bottom (Some text) h k (Some a) None is other = absurd other
+same_bottom (Some text) h k (Some a) (Some b) is other = ap (λ (height : Height). Some height) (same_height a b (sym is.0 ∙ other.0))
+
 -- behind one first word there is one command
 one_after : (first : CommandName) (rest : List (List ℕ)) (a b : Command) → AsksFor first rest a → AsksFor first rest b → a ≡ b
 one_after name.VerifyRef rest a b is other =
@@ -162,10 +172,11 @@ one_after name.VerifyRef rest a b is other =
 one_after name.Export rest a b is other = is.0 ∙ sym other.0
 one_after name.Import rest a b is other = is.0 ∙ sym other.0
 one_after name.KeyGen rest a b is other =
-    let same : is.0 ≡ other.0 = same_height is.0 other.0 (same_some _ _ (sym is.3.is_height ∙ other.3.is_height)) in
-    let alike : is.1 ≡ other.1 = same_width is.1 other.1 (same_some _ _ (sym is.3.is_width ∙ other.3.is_width)) in
-    let named : a ≡ KeyGen is.0 is.1 = is.2 in
-    let named_so : b ≡ KeyGen other.0 other.1 = other.2 in
+    let same : is.0 ≡ other.0 = same_height is.0 other.0 (same_some _ _ (sym is.4.is_height ∙ other.4.is_height)) in
+    let alike : is.1 ≡ other.1 = same_width is.1 other.1 (same_some _ _ (sym is.4.is_width ∙ other.4.is_width)) in
+    let below : is.2 ≡ other.2 = same_bottom _ is.0 other.0 is.2 other.2 is.4.is_bottom other.4.is_bottom in
+    let named : a ≡ KeyGen is.0 is.1 is.2 = is.3 in
+    let named_so : b ≡ KeyGen other.0 other.1 other.2 = other.3 in
     cc
 one_after name.Log rest a b is other = is.0 ∙ sym other.0
 one_after name.Record rest a b is other =
@@ -201,6 +212,10 @@ one_after name.Approve rest a b is other =
     let named : a ≡ Approve is.0 is.1 = is.2 in
     let named_so : b ≡ Approve other.0 other.1 = other.2 in
     cc
+one_after name.Demo rest a b is other =
+    let same : is.0 ≡ other.0 = of_given (value_of demo_app (codes "count") rest) (λ (text : List ℕ). IsCount 500 text is.0) (λ (text : List ℕ). IsCount 500 text other.0)
+    (λ (text : List ℕ) (one : IsCount 500 text is.0) (two : IsCount 500 text other.0). same_count 500 text is.0 other.0 (omega arith) one two) is.2.counts other.2.counts in
+    is.1 ∙ ap Demo same ∙ sym other.1
 
 pub one_command : OneCommand
 one_command words a b is other =
@@ -222,12 +237,22 @@ short : (given : Option (List ℕ)) (message : List ℕ) → IsMessage given mes
 short None message is = let none : length message ≡ 0 = ap length is in omega arith
 short (Some text) message is = let same : length message ≡ length text = ap length is.0 in let few : length text ≤ 65536 = is.1 in omega arith
 
+two_within : (given : Option (List ℕ)) (height : Height) (width : Width) (bottom : Option Height) → IsBottom given height bottom → IsWithinLimits (KeyGen height width bottom)
+two_within None height width None is = tt
+two_within None height width (Some bottom) is = absurd is
+two_within (Some text) height width None is = absurd is
+two_within (Some text) height width (Some bottom) is = is.1
+
+few_changes : (given : Option (List ℕ)) (count : ℕ) → IsSomeAnd given (λ text. IsCount 500 text count) → count ≤ 500
+few_changes None count is = absurd is
+few_changes (Some text) count is = is.few
+
 -- what is asked for is within its limits
 pub within_after : (first : CommandName) (rest : List (List ℕ)) (command : Command) → AsksFor first rest command → IsWithinLimits command
 within_after name.VerifyRef rest command asks = subst IsWithinLimits (sym asks.3) asks.4.named.not_log
 within_after name.Export rest command asks = subst IsWithinLimits (sym asks.0) tt
 within_after name.Import rest command asks = subst IsWithinLimits (sym asks.0) tt
-within_after name.KeyGen rest command asks = subst IsWithinLimits (sym asks.2) tt
+within_after name.KeyGen rest command asks = subst IsWithinLimits (sym asks.3) (two_within _ asks.0 asks.1 asks.2 asks.4.is_bottom)
 within_after name.Log rest command asks = subst IsWithinLimits (sym asks.0) tt
 within_after name.Record rest command asks = subst IsWithinLimits (sym asks.1) asks.2.named.not_log
 within_after name.Seal rest command asks = subst IsWithinLimits (sym asks.1) tt
@@ -236,3 +261,4 @@ within_after name.PolicyApply rest command asks = subst IsWithinLimits (sym asks
 within_after name.Explain rest command asks = subst IsWithinLimits (sym asks.2) tt
 within_after name.Annotate rest command asks = subst IsWithinLimits (sym asks.3) (listed _ asks.1 asks.4.lists, few_listed _ asks.1 asks.4.lists, short _ asks.2 asks.4.says)
 within_after name.Approve rest command asks = subst IsWithinLimits (sym asks.2) asks.3.named.not_log
+within_after name.Demo rest command asks = subst IsWithinLimits (sym asks.1) (few_changes _ asks.0 asks.2.counts)

@@ -1,6 +1,6 @@
 -- The plain words of each command ask for it.
 use Rattle.std.proofs.Common.{◌≡◌, ◌≢◌, ℕ, Bool, true, false, List, [], ◌∷◌, ◌++◌, refl, sym, subst}
-use Rattle.std.specs.Prelude.{Option, Some, None, codes}
+use Rattle.std.specs.Prelude.{Option, Some, None, codes, decimal}
 use Rattle.std.specs.Option.{IsSomeAnd}
 use Rattle.clap.specs.Faults.{defaults_fault, flags_fault, walk_fault}
 use Rattle.clap.specs.Walk.{walked}
@@ -10,12 +10,12 @@ use Rattle.ref_patterns.specs.Patterns.{prefix}
 use Rattle.ref_patterns.specs.declared.space.Space.{Space}
 use Rattle.ref_patterns.specs.declared.space.Space.TheVariants.{Git, File}
 use Rattle.word_values.specs.Spaced.{IsSpaced}
-use Rattle.command_words.specs.Commands.{AsksKey, AsksReasons, AsksReference, AsksVerdict, IsRoot, explain_app, height_text, kind_text, key_gen_app, reference_app, seal_app, verify_ref_app, width_text}
+use Rattle.command_words.specs.Commands.{AreTwo, AsksKey, AsksReasons, AsksReference, AsksVerdict, IsBottom, IsRoot, explain_app, height_text, kind_text, key_gen_app, reference_app, seal_app, verify_ref_app, width_text}
 use Rattle.command_words.specs.Grammars.{Takes, bare_app, is_given, value_of}
 use Rattle.command_words.specs.Laws.{PlainWords, flag_words}
 use Rattle.command_words.specs.declared.commands.CommandName.TheVariants as name
 use Rattle.command_words.proofs.LetterFirst.{letter_first}
-use Rattle.command_words.proofs.ValueWords.{annotate_asks, approve_asks}
+use Rattle.command_words.proofs.ValueWords.{annotate_asks, approve_asks, demo_asks}
 use Rattle.command_words.specs.declared.commands.Height.{Height}
 use Rattle.command_words.specs.declared.commands.Height.TheVariants.{H5, H10, H15}
 use Rattle.command_words.specs.declared.commands.Width.{Width}
@@ -131,8 +131,64 @@ width_given H15 W2 = refl
 width_given H15 W4 = refl
 width_given H15 W8 = refl
 
-key_asks : (height : Height) (width : Width) → AsksKey height width (height_text height ∷ width_text width ∷ [])
-key_asks height width = record { takes = key_taken height width; is_height = height_given height width; is_width = width_given height width }
+no_bottom : (height : Height) (width : Width) → value_of key_gen_app (codes "bottom") (height_text height ∷ width_text width ∷ []) ≡ None
+unfolding walked
+no_bottom H5 W1 = refl
+no_bottom H5 W2 = refl
+no_bottom H5 W4 = refl
+no_bottom H5 W8 = refl
+no_bottom H10 W1 = refl
+no_bottom H10 W2 = refl
+no_bottom H10 W4 = refl
+no_bottom H10 W8 = refl
+no_bottom H15 W1 = refl
+no_bottom H15 W2 = refl
+no_bottom H15 W4 = refl
+no_bottom H15 W8 = refl
+
+key_asks : (height : Height) (width : Width) → AsksKey height width None (height_text height ∷ width_text width ∷ [])
+key_asks height width = record {
+  takes = key_taken height width;
+  is_height = height_given height width;
+  is_width = width_given height width;
+  is_bottom = subst (λ (given : Option (List ℕ)). IsBottom given height None) (sym (no_bottom height width)) tt;
+}
+
+-- ---- with trees below
+record AreTwoWords (height bottom : Height) (width : Width) : Type 0 where
+  takes : Takes key_gen_app (height_text height ∷ width_text width ∷ codes "--bottom" ∷ height_text bottom ∷ [])
+  is_height : value_of key_gen_app (codes "height") (height_text height ∷ width_text width ∷ codes "--bottom" ∷ height_text bottom ∷ []) ≡ Some (height_text height)
+  is_width : value_of key_gen_app (codes "width") (height_text height ∷ width_text width ∷ codes "--bottom" ∷ height_text bottom ∷ []) ≡ Some (width_text width)
+  is_bottom : value_of key_gen_app (codes "bottom") (height_text height ∷ width_text width ∷ codes "--bottom" ∷ height_text bottom ∷ []) ≡ Some (height_text bottom)
+
+are_two_words : (height bottom : Height) (width : Width) → AreTwo height bottom → AreTwoWords height bottom width
+unfolding walk_fault walked flags_fault defaults_fault
+are_two_words H5 H5 W1 are = record { takes = refl; is_height = refl; is_width = refl; is_bottom = refl }
+are_two_words H5 H5 W2 are = record { takes = refl; is_height = refl; is_width = refl; is_bottom = refl }
+are_two_words H5 H5 W4 are = record { takes = refl; is_height = refl; is_width = refl; is_bottom = refl }
+are_two_words H5 H5 W8 are = record { takes = refl; is_height = refl; is_width = refl; is_bottom = refl }
+are_two_words H5 H10 W1 are = record { takes = refl; is_height = refl; is_width = refl; is_bottom = refl }
+are_two_words H5 H10 W2 are = record { takes = refl; is_height = refl; is_width = refl; is_bottom = refl }
+are_two_words H5 H10 W4 are = record { takes = refl; is_height = refl; is_width = refl; is_bottom = refl }
+are_two_words H5 H10 W8 are = record { takes = refl; is_height = refl; is_width = refl; is_bottom = refl }
+are_two_words H10 H5 W1 are = record { takes = refl; is_height = refl; is_width = refl; is_bottom = refl }
+are_two_words H10 H5 W2 are = record { takes = refl; is_height = refl; is_width = refl; is_bottom = refl }
+are_two_words H10 H5 W4 are = record { takes = refl; is_height = refl; is_width = refl; is_bottom = refl }
+are_two_words H10 H5 W8 are = record { takes = refl; is_height = refl; is_width = refl; is_bottom = refl }
+are_two_words H5 H15 width are = absurd are
+are_two_words H10 H10 width are = absurd are
+are_two_words H10 H15 width are = absurd are
+are_two_words H15 bottom width are = absurd are
+
+two_asks : (height bottom : Height) (width : Width) → AreTwo height bottom → AsksKey height width (Some bottom) (height_text height ∷ width_text width ∷ codes "--bottom" ∷ height_text bottom ∷ [])
+two_asks height bottom width are =
+    let words = are_two_words height bottom width are in
+    record {
+      takes = words.takes;
+      is_height = words.is_height;
+      is_width = words.is_width;
+      is_bottom = subst (λ (given : Option (List ℕ)). IsBottom given height (Some bottom)) (sym words.is_bottom) (refl, are);
+    }
 
 no_root : (rest : List ℕ) (stdin : Bool) → value_of verify_ref_app (codes "root") ((114 ∷ rest) ∷ flag_words (codes "--stdin") stdin) ≡ None
 unfolding walked
@@ -180,7 +236,13 @@ plain_words = record {
   flag_first = λ reference is not_log. record { first = name.VerifyRef; rest = codes "--stdin" ∷ reference ∷ []; are = refl; asks = (reference, None, true, refl, asks_first reference is not_log) };
   export = record { first = name.Export; rest = []; are = refl; asks = (refl, no_more (codes "export")) };
   import = record { first = name.Import; rest = []; are = refl; asks = (refl, no_more (codes "import")) };
-  key_gen = λ height width. record { first = name.KeyGen; rest = height_text height ∷ width_text width ∷ []; are = refl; asks = (height, width, refl, key_asks height width) };
+  key_gen = λ height width. record { first = name.KeyGen; rest = height_text height ∷ width_text width ∷ []; are = refl; asks = (height, width, None, refl, key_asks height width) };
+  key_gen_two = λ height bottom width are. record {
+    first = name.KeyGen;
+    rest = height_text height ∷ width_text width ∷ codes "--bottom" ∷ height_text bottom ∷ [];
+    are = refl;
+    asks = (height, width, Some bottom, refl, two_asks height bottom width are);
+  };
   log = record { first = name.Log; rest = []; are = refl; asks = (refl, no_more (codes "log")) };
   recorded = λ reference is not_log. record { first = name.Record; rest = reference ∷ []; are = refl; asks = (reference, refl, asks_alone (codes "record") reference is not_log) };
   seal = λ add. record { first = name.Seal; rest = flag_words (codes "--add") add; are = refl; asks = (add, refl, record { takes = seal_taken add; flag = seal_flagged add }) };
@@ -188,5 +250,6 @@ plain_words = record {
   policy_apply = record { first = name.PolicyApply; rest = []; are = refl; asks = (refl, no_more (codes "policy-apply")) };
   explain = λ space text. record { first = name.Explain; rest = (prefix space ++ text) ∷ []; are = refl; asks = (space, text, refl, asks_reasons space text) };
   annotate = λ skip text ids are. record { first = name.Annotate; rest = kind_text skip ∷ text ∷ []; are = refl; asks = (skip, ids, [], refl, annotate_asks skip text ids are) };
+  demo = λ count some few. record { first = name.Demo; rest = decimal count ∷ []; are = refl; asks = (count, refl, demo_asks count some few) };
   approve = λ reference target is not_log is_id. record { first = name.Approve; rest = reference ∷ encode_lower target ∷ []; are = refl; asks = (reference, target, refl, approve_asks reference target is not_log is_id) };
 }

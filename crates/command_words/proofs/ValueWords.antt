@@ -15,7 +15,7 @@ use Rattle.git_object.specs.Names.{IsRefName, log_name}
 use Rattle.git_object.proofs.IdLemmas.{id_is_lower}
 use Rattle.word_values.specs.Ids.{AreIds}
 use Rattle.word_values.specs.Numbers.{IsCount}
-use Rattle.command_words.specs.Commands.{AsksApproval, AsksNote, IsAsked, IsMessage, annotate_app, approve_app, kind_text}
+use Rattle.command_words.specs.Commands.{AsksApproval, AsksDemo, AsksNote, IsAsked, IsMessage, annotate_app, approve_app, demo_app, kind_text}
 use Rattle.command_words.specs.Grammars.{Takes, is_given, value_of}
 use Rattle.command_words.proofs.LetterFirst.{letter_first}
 
@@ -109,3 +109,28 @@ approve_asks name target is_name not_log is_id =
     subst (λ (n : List ℕ). IsRefName n → n ≢ log_name → AsksApproval n target (n ∷ encode_lower target ∷ [])) (sym named.1)
     (λ is other. subst (λ (text : List ℕ). AsksApproval (114 ∷ named.0) target ((114 ∷ named.0) ∷ text ∷ [])) (sym begins.is)
     (approve_begun named.0 target begins.first begins.rest begins.no_dash begins.is is_id is other)) is_name not_log
+
+-- ---- demo <count>
+of_number : (text : List ℕ) → 48 < get_or text 0 0 → Begins text
+of_number [] above = absurd (omega (arith, above))
+of_number (d ∷ rest) above = record { first = d; rest = rest; is = refl; no_dash = ne_eqb d 45 (λ same. omega (arith, above, same)) }
+
+demo_taken : (d : ℕ) (rest : List ℕ) → (d == 45) ≡ false → Takes demo_app ((d ∷ rest) ∷ [])
+unfolding walk_fault walked flags_fault defaults_fault
+demo_taken d rest other = simp other
+
+demo_given : (d : ℕ) (rest : List ℕ) → (d == 45) ≡ false → value_of demo_app (codes "count") ((d ∷ rest) ∷ []) ≡ Some (d ∷ rest)
+unfolding walked
+demo_given d rest other = simp other
+
+demo_begun : (d : ℕ) (rest : List ℕ) (count : ℕ) → (d == 45) ≡ false → IsCount 500 (d ∷ rest) count → AsksDemo count ((d ∷ rest) ∷ [])
+demo_begun d rest count other is = record {
+  takes = demo_taken d rest other;
+  counts = subst (λ (given : Option (List ℕ)). IsSomeAnd given (λ text. IsCount 500 text count)) (sym (demo_given d rest other)) is;
+}
+
+pub demo_asks : (count : ℕ) → 1 ≤ count → count ≤ 500 → AsksDemo count (decimal count ∷ [])
+demo_asks count some few =
+    let begins = of_number (decimal count) (first_decimal count (omega (arith, some)) (omega (arith, few))) in
+    subst (λ (text : List ℕ). IsCount 500 text count → AsksDemo count (text ∷ [])) (sym begins.is)
+    (demo_begun begins.first begins.rest count begins.no_dash) (record { some = some; few = few; written = refl })

@@ -88,6 +88,16 @@ pub record AsksApproval (name target : List ℕ) (words : List (List ℕ)) : Typ
   pub named : IsAsked (value_of approve_app (codes "ref") words) name
   pub at : IsTarget (value_of approve_app (codes "target") words) target
 
+-- ---- demo <n>
+
+abbrev pub demo_app : App
+demo_app = with_rule (bare_app (codes "demo")) (positional_rule (codes "count"))
+
+-- a number from 1 to 500
+pub record AsksDemo (count : ℕ) (words : List (List ℕ)) : Type 0 where
+  pub takes : Takes demo_app words
+  pub counts : IsSomeAnd (value_of demo_app (codes "count") words) (λ text. IsCount 500 text count)
+
 -- ---- explain <git:text or file:text>
 
 abbrev pub explain_app : App
@@ -108,10 +118,10 @@ pub record AsksSeal (add : Bool) (words : List (List ℕ)) : Type 0 where
   pub takes : Takes seal_app words
   pub flag : is_given seal_app (codes "add") words ≡ add
 
--- ---- key-gen <height> <width>
+-- ---- key-gen <height> <width> [--bottom <height>]
 
 abbrev pub key_gen_app : App
-key_gen_app = with_rule (with_rule (bare_app (codes "key-gen")) (positional_rule (codes "height"))) (positional_rule (codes "width"))
+key_gen_app = with_rule (with_rule (with_rule (bare_app (codes "key-gen")) (positional_rule (codes "height"))) (positional_rule (codes "width"))) (option_rule (codes "bottom"))
 
 abbrev pub height_text : Height → List ℕ
 height_text H5 = codes "5"
@@ -124,8 +134,26 @@ width_text W2 = codes "2"
 width_text W4 = codes "4"
 width_text W8 = codes "8"
 
--- the number of levels of the tree, and of bits of a digit
-pub record AsksKey (height : Height) (width : Width) (words : List (List ℕ)) : Type 0 where
+-- the trees of a key of two levels: each has 5 or 10 levels of its own, and not both 10
+abbrev pub AreTwo : Height → Height → Type 0
+AreTwo H5 H5 = Unit {0}
+AreTwo H5 H10 = Unit {0}
+AreTwo H5 H15 = ⊥
+AreTwo H10 H5 = Unit {0}
+AreTwo H10 H10 = ⊥
+AreTwo H10 H15 = ⊥
+AreTwo H15 bottom = ⊥
+
+-- the height of the trees below, or no such option
+abbrev pub IsBottom : Option (List ℕ) → Height → Option Height → Type 0
+IsBottom None height None = Unit {0}
+IsBottom None height (Some bottom) = ⊥
+IsBottom (Some text) height None = ⊥
+IsBottom (Some text) height (Some bottom) = (text ≡ height_text bottom) × AreTwo height bottom
+
+-- the number of levels of the tree, and of bits of a digit, and the number of levels of the trees below, if there are any
+pub record AsksKey (height : Height) (width : Width) (bottom : Option Height) (words : List (List ℕ)) : Type 0 where
   pub takes : Takes key_gen_app words
   pub is_height : value_of key_gen_app (codes "height") words ≡ Some (height_text height)
   pub is_width : value_of key_gen_app (codes "width") words ≡ Some (width_text width)
+  pub is_bottom : IsBottom (value_of key_gen_app (codes "bottom") words) height bottom

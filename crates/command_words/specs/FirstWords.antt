@@ -1,11 +1,11 @@
 -- Which command words ask for: the first word names it, and the words after that are such as it takes.
-use Rattle.std.specs.Prelude.{◌≡◌, ◌≢◌, ◌<◌, ◌≤◌, ◌∷◌, ℕ, Bool, List, Option, codes, length}
+use Rattle.std.specs.Prelude.{◌≡◌, ◌≢◌, ◌<◌, ◌≤◌, ◌∷◌, ℕ, Bool, List, Option, None, Some, codes, length}
 use Rattle.git_object.specs.Names.{log_name}
 use Rattle.ref_patterns.specs.declared.space.Space.{Space}
-use Rattle.command_words.specs.Commands.{AsksApproval, AsksKey, AsksNote, AsksReasons, AsksReference, AsksSeal, AsksVerdict}
+use Rattle.command_words.specs.Commands.{AreTwo, AsksApproval, AsksDemo, AsksKey, AsksNote, AsksReasons, AsksReference, AsksSeal, AsksVerdict}
 use Rattle.command_words.specs.Grammars.{Takes, bare_app}
 use Rattle.command_words.specs.declared.commands.Command.{Command}
-use Rattle.command_words.specs.declared.commands.Command.TheVariants.{VerifyRef, Export, Import, KeyGen, Log, Record, Seal, Snapshot, PolicyApply, Explain, Annotate, Approve}
+use Rattle.command_words.specs.declared.commands.Command.TheVariants.{VerifyRef, Export, Import, KeyGen, Log, Record, Seal, Snapshot, PolicyApply, Explain, Annotate, Approve, Demo}
 use Rattle.command_words.specs.declared.commands.CommandName.{CommandName}
 use Rattle.command_words.specs.declared.commands.CommandName.TheVariants as name
 use Rattle.command_words.specs.declared.commands.Height.{Height}
@@ -24,13 +24,14 @@ name_text name.PolicyApply = codes "policy-apply"
 name_text name.Explain = codes "explain"
 name_text name.Annotate = codes "annotate"
 name_text name.Approve = codes "approve"
+name_text name.Demo = codes "demo"
 
 -- the words behind this first one ask for the command
 abbrev pub AsksFor : CommandName → List (List ℕ) → Command → Type 0
 AsksFor name.VerifyRef rest command = (reference : List ℕ) × (root : Option (List (List ℕ))) × (stdin : Bool) × (command ≡ VerifyRef reference root stdin) × AsksVerdict reference root stdin rest
 AsksFor name.Export rest command = (command ≡ Export) × Takes (bare_app (codes "export")) rest
 AsksFor name.Import rest command = (command ≡ Import) × Takes (bare_app (codes "import")) rest
-AsksFor name.KeyGen rest command = (height : Height) × (width : Width) × (command ≡ KeyGen height width) × AsksKey height width rest
+AsksFor name.KeyGen rest command = (height : Height) × (width : Width) × (bottom : Option Height) × (command ≡ KeyGen height width bottom) × AsksKey height width bottom rest
 AsksFor name.Log rest command = (command ≡ Log) × Takes (bare_app (codes "log")) rest
 AsksFor name.Record rest command = (reference : List ℕ) × (command ≡ Record reference) × AsksReference (codes "record") reference rest
 AsksFor name.Seal rest command = (add : Bool) × (command ≡ Seal add) × AsksSeal add rest
@@ -39,6 +40,7 @@ AsksFor name.PolicyApply rest command = (command ≡ PolicyApply) × Takes (bare
 AsksFor name.Explain rest command = (space : Space) × (text : List ℕ) × (command ≡ Explain space text) × AsksReasons space text rest
 AsksFor name.Annotate rest command = (skip : Bool) × (ids : List (List ℕ)) × (message : List ℕ) × (command ≡ Annotate skip ids message) × AsksNote skip ids message rest
 AsksFor name.Approve rest command = (reference : List ℕ) × (target : List ℕ) × (command ≡ Approve reference target) × AsksApproval reference target rest
+AsksFor name.Demo rest command = (count : ℕ) × (command ≡ Demo count) × AsksDemo count rest
 
 abbrev pub AsksForNone : CommandName → List (List ℕ) → Type 0
 AsksForNone first rest = (command : Command) → AsksFor first rest command → ⊥
@@ -65,7 +67,8 @@ abbrev pub IsWithinLimits : Command → Type 0
 IsWithinLimits (VerifyRef name root stdin) = name ≢ log_name
 IsWithinLimits Export = Unit {0}
 IsWithinLimits Import = Unit {0}
-IsWithinLimits (KeyGen height width) = Unit {0}
+IsWithinLimits (KeyGen height width None) = Unit {0}
+IsWithinLimits (KeyGen height width (Some bottom)) = AreTwo height bottom
 IsWithinLimits Log = Unit {0}
 IsWithinLimits (Record name) = name ≢ log_name
 IsWithinLimits (Seal add) = Unit {0}
@@ -74,3 +77,4 @@ IsWithinLimits PolicyApply = Unit {0}
 IsWithinLimits (Explain space text) = Unit {0}
 IsWithinLimits (Annotate skip ids message) = (0 < length ids) × (length ids ≤ 256) × (length message ≤ 65536)
 IsWithinLimits (Approve name target) = name ≢ log_name
+IsWithinLimits (Demo count) = count ≤ 500

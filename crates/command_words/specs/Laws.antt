@@ -1,15 +1,15 @@
 -- What holds of the grammar.
-use Rattle.std.specs.Prelude.{◌≡◌, ◌≢◌, ◌++◌, ◌∷◌, [], ℕ, Bool, true, false, List, None, codes}
+use Rattle.std.specs.Prelude.{◌≡◌, ◌≢◌, ◌≤◌, ◌++◌, ◌∷◌, [], ℕ, Bool, true, false, List, None, Some, codes, decimal}
 use Rattle.hex.specs.Hex.{encode_lower}
 use Rattle.git_object.specs.Ids.{IsId}
 use Rattle.git_object.specs.Names.{IsRefName, log_name}
 use Rattle.ref_patterns.specs.Patterns.{prefix}
 use Rattle.ref_patterns.specs.declared.space.Space.{Space}
 use Rattle.word_values.specs.Ids.{AreIds}
-use Rattle.command_words.specs.Commands.{height_text, kind_text, width_text}
+use Rattle.command_words.specs.Commands.{AreTwo, height_text, kind_text, width_text}
 use Rattle.command_words.specs.FirstWords.{IsCommand}
 use Rattle.command_words.specs.declared.commands.Command.{Command}
-use Rattle.command_words.specs.declared.commands.Command.TheVariants.{VerifyRef, Export, Import, KeyGen, Log, Record, Seal, Snapshot, PolicyApply, Explain, Annotate, Approve}
+use Rattle.command_words.specs.declared.commands.Command.TheVariants.{VerifyRef, Export, Import, KeyGen, Log, Record, Seal, Snapshot, PolicyApply, Explain, Annotate, Approve, Demo}
 use Rattle.command_words.specs.declared.commands.Height.{Height}
 use Rattle.command_words.specs.declared.commands.Width.{Width}
 
@@ -30,7 +30,9 @@ pub record PlainWords : Type 0 where
       → IsCommand (codes "verify-ref" ∷ codes "--stdin" ∷ name ∷ []) (VerifyRef name None true)
   pub export : IsCommand (codes "export" ∷ []) Export
   pub import : IsCommand (codes "import" ∷ []) Import
-  pub key_gen : (height : Height) (width : Width) → IsCommand (codes "key-gen" ∷ height_text height ∷ width_text width ∷ []) (KeyGen height width)
+  pub key_gen : (height : Height) (width : Width) → IsCommand (codes "key-gen" ∷ height_text height ∷ width_text width ∷ []) (KeyGen height width None)
+  pub key_gen_two : (height bottom : Height) (width : Width) → AreTwo height bottom
+      → IsCommand (codes "key-gen" ∷ height_text height ∷ width_text width ∷ codes "--bottom" ∷ height_text bottom ∷ []) (KeyGen height width (Some bottom))
   pub log : IsCommand (codes "log" ∷ []) Log
   pub recorded : (name : List ℕ) → IsRefName name → name ≢ log_name → IsCommand (codes "record" ∷ name ∷ []) (Record name)
   pub seal : (add : Bool) → IsCommand (codes "seal" ∷ flag_words (codes "--add") add) (Seal add)
@@ -38,4 +40,5 @@ pub record PlainWords : Type 0 where
   pub policy_apply : IsCommand (codes "policy-apply" ∷ []) PolicyApply
   pub explain : (space : Space) (text : List ℕ) → IsCommand (codes "explain" ∷ (prefix space ++ text) ∷ []) (Explain space text)
   pub annotate : (skip : Bool) (text : List ℕ) (ids : List (List ℕ)) → AreIds 256 text ids → IsCommand (codes "annotate" ∷ kind_text skip ∷ text ∷ []) (Annotate skip ids [])
+  pub demo : (count : ℕ) → 1 ≤ count → count ≤ 500 → IsCommand (codes "demo" ∷ decimal count ∷ []) (Demo count)
   pub approve : (name target : List ℕ) → IsRefName name → name ≢ log_name → IsId target → IsCommand (codes "approve" ∷ name ∷ encode_lower target ∷ []) (Approve name target)

@@ -37,10 +37,11 @@ pub enum Command {
     Export,
     /// To take the source's stream into the store.
     Import,
-    /// To make a key on the key file.
+    /// To make a key on the key file, with `bottom` one of two levels.
     KeyGen {
         height: Height,
         width: Width,
+        bottom: Option<Height>,
     },
     /// The entries of the log.
     Log,
@@ -75,6 +76,10 @@ pub enum Command {
         name: RefName,
         target: ObjectId,
     },
+    /// To make the repository of a demonstration of so many changes, from 1 to 500, and to judge it.
+    Demo {
+        count: u32,
+    },
 }
 
 /// The first word of a command.
@@ -92,4 +97,5 @@ pub enum CommandName {
     Explain,
     Annotate,
     Approve,
+    Demo,
 }

@@ -62,5 +62,8 @@ pub(crate) fn named(word: &str) -> Option<CommandName>
     if is_word(word, "approve") {
         return Some(CommandName::Approve);
     }
+    if is_word(word, "demo") {
+        return Some(CommandName::Demo);
+    }
     None
 }

@@ -14,6 +14,7 @@ mod approving;
 mod arguments;
 mod bare_words;
 mod commands;
+mod demonstrating;
 mod explaining;
 mod first_words;
 mod key_types;

@@ -7,6 +7,7 @@ use crate::annotating::read_annotate;
 use crate::approving::read_approve;
 use crate::bare_words::read_no_more;
 use crate::commands::{Command, CommandName};
+use crate::demonstrating::read_demo;
 use crate::explaining::read_explain;
 use crate::first_words::{named, split_first};
 use crate::key_types::read_key_gen;
@@ -52,6 +53,7 @@ fn read_rest(alloc: Global, first: CommandName, words: &[String]) -> Result<Comm
         CommandName::Explain => read_explain(alloc, words),
         CommandName::Annotate => read_annotate(alloc, words),
         CommandName::Approve => read_approve(alloc, words),
+        CommandName::Demo => read_demo(alloc, words),
     }
 }
 

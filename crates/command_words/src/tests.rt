@@ -47,15 +47,20 @@ fn told(command: &Command) -> Told {
         }
         Command::Export => (CommandName::Export, 0, 0, false),
         Command::Import => (CommandName::Import, 0, 0, false),
-        Command::KeyGen { height, width } => {
+        Command::KeyGen {
+            height,
+            width,
+            bottom,
+        } => {
             let (height, width) = (height_number(*height), width_number(*width));
-            (CommandName::KeyGen, height, width, false)
+            (CommandName::KeyGen, height, width, bottom.is_some())
         }
         Command::Log => (CommandName::Log, 0, 0, false),
         Command::Record { name } => (CommandName::Record, name.text().len(), 0, false),
         Command::Seal { add } => (CommandName::Seal, 0, 0, *add),
         Command::Snapshot { name } => (CommandName::Snapshot, name.text().len(), 0, false),
         Command::PolicyApply => (CommandName::PolicyApply, 0, 0, false),
+        Command::Demo { count } => (CommandName::Demo, *count as usize, 0, false),
         Command::Explain { space, text } => {
             (CommandName::Explain, text.len(), 0, space.is(Space::Git))
         }
@@ -163,6 +168,10 @@ fn values_are_read(rt: HostRuntime) -> Result<(), Fail> {
             &["key-gen", "--", "15", "1"],
             (CommandName::KeyGen, 15, 1, false),
         ),
+        (
+            &["key-gen", "10", "--bottom", "5", "4"],
+            (CommandName::KeyGen, 10, 4, true),
+        ),
         (&["explain", "git:"], (CommandName::Explain, 0, 0, true)),
         (
             &["explain", "file:a b"],
@@ -222,6 +231,8 @@ fn other_values_are_outside(rt: HostRuntime) -> Result<(), Fail> {
     let alloc = rt.alloc();
     for texts in [
         ["key-gen", "10"].as_slice(),
+        &["key-gen", "10", "8", "--bottom", "10"],
+        &["key-gen", "15", "8", "--bottom", "5"],
         &["key-gen", "8", "5"],
         &["key-gen", "05", "8"],
         &["key-gen", "20", "8"],

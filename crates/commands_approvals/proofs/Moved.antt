@@ -7,7 +7,7 @@ use Rattle.keeper_api.specs.Undisturbed.{Undisturbed}
 use Rattle.keeper_api.specs.declared.keepers.Keeper as keeper
 use Rattle.edge_disk.specs.Disk.{IsKept}
 use Rattle.edge_disk.specs.declared.disks.Disk as disk
-use Rattle.lms_keys.specs.Secret.{Secret}
+use Rattle.hss_keys.specs.Secret.{Secret}
 use Rattle.key_file.proofs.Steps.{signs_from, tears_from}
 use Rattle.store_changes.proofs.Committed.{gains_from, may_gain_from}
 use Rattle.store_changes.specs.Stores.{Gains, MayGain}

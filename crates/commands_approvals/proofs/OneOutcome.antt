@@ -8,8 +8,7 @@ use Rattle.git_object.specs.Names.{log_name}
 use Rattle.git_object.specs.Repository.{Repository, value_of}
 use Rattle.log_entries.specs.Entries.{Taken}
 use Rattle.hex.specs.Hex.{IsBytes}
-use Rattle.lms_keys.specs.LmsType.{signature_len}
-use Rattle.lms_keys.specs.Secret.{Secret}
+use Rattle.hss_keys.specs.Secret.{Secret, signature_len}
 use Rattle.leaf_journal.specs.KeyFile.{IsKeyFile}
 use Rattle.judging.specs.Logs.{from}
 use Rattle.tree_paths.specs.declared.states.State.{State}
@@ -20,7 +19,7 @@ use Rattle.entry_rules.specs.RealRules.{real_rules}
 use Rattle.verify_ref.proofs.OneVerdict.{same_entries}
 use Rattle.verify_ref.specs.Logs.{AreEntries}
 use Rattle.dsse_envelope.specs.declared.envelope.Envelope.{Envelope}
-use Rattle.key_seals.proofs.OneKeyFile.{not_both, not_spent, one_key}
+use Rattle.key_file.proofs.OneKeyFile.{not_both, not_spent, one_key}
 use Rattle.key_seals.specs.Seals.{id_text}
 use Rattle.commands_log.specs.declared.appending.AppendFault.TheVariants as append
 use Rattle.commands_log.specs.declared.opening.ReadingFault.TheVariants as reading
@@ -86,8 +85,8 @@ zero_bytes n i = let e : slice_index (replicate n 0) i ≡ 0 = grind (arith, pla
 
 not_long : (secret : Secret) (v : Envelope) → HasRoom secret v → IsTooLong secret v → ⊥
 not_long secret v room long =
-    let low = room.fits (replicate (signature_len secret.lms secret.ots) 0) (length-replicate (signature_len secret.lms secret.ots) 0) (zero_bytes (signature_len secret.lms secret.ots)) in
-    let high = long.long (replicate (signature_len secret.lms secret.ots) 0) (length-replicate (signature_len secret.lms secret.ots) 0) (zero_bytes (signature_len secret.lms secret.ots)) in
+    let low = room.fits (replicate (signature_len secret) 0) (length-replicate (signature_len secret) 0) (zero_bytes (signature_len secret)) in
+    let high = long.long (replicate (signature_len secret) 0) (length-replicate (signature_len secret) 0) (zero_bytes (signature_len secret)) in
     absurd (omega (arith, low, high))
 
 abbrev blank : Envelope

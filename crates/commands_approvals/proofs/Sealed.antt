@@ -2,8 +2,7 @@
 use Rattle.std.proofs.Common.{◌≡◌, ◌∙◌, ℕ, List, length, ap, subst}
 use Rattle.std.specs.Prelude.{Ok}
 use Rattle.hex.specs.Hex.{IsBytes}
-use Rattle.lms_keys.specs.LmsType.{signature_len}
-use Rattle.lms_keys.specs.Secret.{Secret}
+use Rattle.hss_keys.specs.Secret.{Secret, signature_len}
 use Rattle.commit_texts.specs.Texts.{author_of}
 use Rattle.dsse_envelope.specs.Envelopes.{reading}
 use Rattle.dsse_envelope.specs.Sealing.{sealed}
@@ -18,7 +17,7 @@ use Rattle.commands_approvals.specs.declared.preparing.Prepared.{Prepared}
 
 pub attests_by : (prepared : Prepared) (sig author bytes : List ℕ) (envelope : Envelope) (a : Attested) → envelope ≡ sealed (signature_of prepared.keyid sig) prepared.envelope → IsWritable envelope
     → IsChange (approval_pair envelope) bytes a → bytes ≡ author → reading (text_of envelope) ≡ Ok envelope → IsBytes sig
-    → (name : List ℕ) (secret : Secret) (seconds : ℕ) → IsPrepared secret name prepared → length sig ≡ signature_len secret.lms secret.ots → author ≡ author_of seconds
+    → (name : List ℕ) (secret : Secret) (seconds : ℕ) → IsPrepared secret name prepared → length sig ≡ signature_len secret → author ≡ author_of seconds
     → Attests name prepared.ends prepared.envelope secret seconds sig a
 attests_by prepared sig author bytes envelope a is writable change same reads fits name secret seconds ready long at =
     let it : envelope ≡ sealed_by secret sig prepared.envelope = is ∙ ap (λ (k : List ℕ). sealed (signature_of k sig) prepared.envelope) ready.keyid_is in

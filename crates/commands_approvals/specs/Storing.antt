@@ -6,7 +6,7 @@ use Rattle.keeper_api.specs.Undisturbed.{Undisturbed}
 use Rattle.keeper_api.specs.declared.keepers.Keeper as keeper
 use Rattle.edge_disk.specs.declared.disks.Disk as disk
 use Rattle.store_changes.specs.Stores.{Gains, MayGain}
-use Rattle.lms_keys.specs.Secret.{Secret}
+use Rattle.hss_keys.specs.Secret.{Secret}
 use Rattle.key_file.specs.Files.{IsUsedUp}
 use Rattle.key_file.specs.Using.{FindsNone, MayTear, SignsWith}
 use Rattle.commit_texts.specs.Texts.{author_of}

@@ -1,8 +1,7 @@
 -- The approval that is to be signed, and why there is none.
 use Rattle.std.specs.Prelude.{◌≡◌, ◌⊎◌, ℕ, true, false, IsUtf8, List, [], Option, Some, None}
 use Rattle.git_object.specs.Repository.{Repository, value_of}
-use Rattle.lms_keys.specs.LmsType.{signature_len}
-use Rattle.lms_keys.specs.Secret.{Secret}
+use Rattle.hss_keys.specs.Secret.{Secret, signature_len}
 use Rattle.rsl_chain.specs.Logs.{IsUnbroken}
 use Rattle.rsl_chain.specs.declared.log_faults.LogFault.TheVariants as log
 use Rattle.dsse_envelope.specs.Sealing.{has_room}
@@ -39,7 +38,7 @@ pub record IsWanted (r : Repository) (ids : List (List ℕ)) (name target : List
 -- a signature of the key has a place in it, and does not make its text too long
 pub record HasRoom (secret : Secret) (envelope : Envelope) : Type 0 where
   pub place : has_room (id_text secret) envelope.signatures ≡ true
-  pub fits : Fits (id_text secret) (signature_len secret.lms secret.ots) envelope
+  pub fits : Fits (id_text secret) (signature_len secret) envelope
 
 -- or it has none, or would make the text too long
 abbrev pub HasNoPlace : Secret → Envelope → Type 0
@@ -47,7 +46,7 @@ HasNoPlace secret envelope = has_room (id_text secret) envelope.signatures ≡ f
 
 pub record IsTooLong (secret : Secret) (envelope : Envelope) : Type 0 where
   pub place : has_room (id_text secret) envelope.signatures ≡ true
-  pub long : FitsNot (id_text secret) (signature_len secret.lms secret.ots) envelope
+  pub long : FitsNot (id_text secret) (signature_len secret) envelope
 
 -- there is room, and an object is in the way of the approval's place among the attestations
 pub record IsInWay (r : Repository) (name : List ℕ) (ends : Ends) (secret : Secret) (envelope : Envelope) (id : List ℕ) : Type 0 where

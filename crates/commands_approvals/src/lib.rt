@@ -17,8 +17,6 @@ mod lines;
 mod outcomes;
 mod preparing;
 mod storing;
-#[cfg(test)]
-mod tests;
 
 pub use approving::{ApproveFault, approve};
 pub use ends::Ends;

@@ -8,8 +8,7 @@ ghost use Rattle.hex.specs.Hex.{IsBytes};
 ghost use Rattle.keeper_api.specs.Faults as store;
 ghost use Rattle.leaf_journal.specs.KeyFile.{KeepsUsed};
 ghost use Rattle.leaf_journal.specs.Signing.{IsLoaded};
-ghost use Rattle.lms_keys.specs.LmsType.{signature_len};
-ghost use Rattle.lms_keys.specs.Secret.{Secret};
+ghost use Rattle.hss_keys.specs.Secret.{Secret, signature_len};
 ghost use Rattle.commit_texts.specs.Texts.{author_of};
 ghost use Rattle.attesting.specs.Attesting.{attestations_name};
 ghost use Rattle.attesting.specs.Sites.{IsSiteOf};
@@ -51,7 +50,7 @@ fn seal_change(
     author: &Octets,
 ) -> Result<Attested, Memory>
     requires prepared { (name : List ℕ) × (secret : Secret) × IsPrepared secret name prepared }
-    ensures attests { IfOk result (λ a. (name : List ℕ) (secret : Secret) (seconds : ℕ) → IsPrepared secret name prepared → length sig ≡ signature_len secret.lms secret.ots → author.now ≡ author_of seconds
+    ensures attests { IfOk result (λ a. (name : List ℕ) (secret : Secret) (seconds : ℕ) → IsPrepared secret name prepared → length sig ≡ signature_len secret → author.now ≡ author_of seconds
         → Attests name prepared.ends prepared.envelope secret seconds sig a) }
     ensures at { IfOk result (λ a. (name : List ℕ) (secret : Secret) (seconds : ℕ) → IsPrepared secret name prepared → author.now ≡ author_of seconds
         → IsAt name prepared.ends prepared.envelope secret seconds prepared.site sig a) }
@@ -78,7 +77,7 @@ fn sign_prepared<D: Disk>(
     disk: &mut D,
 ) -> Result<Attested, AppendFault>
     requires loaded { (file : List ℕ) → D.seen disk.old ≡ Some file → IsLoaded file key.signer }
-    requires room { length key.room.items ≡ signature_len key.signer.secret.lms key.signer.secret.ots }
+    requires room { length key.room.items ≡ signature_len key.signer.secret }
     requires prepared { IsPrepared key.signer.secret name.now prepared }
     ensures ends { SignEnds name.now prepared.ends prepared.envelope key.signer.secret seconds D.Disk disk.old disk.new prepared.site result }
     ensures any_moment { LeavesOnly D.moment D.left_since disk.old disk.new (KeepsUsed (D.may_leave disk.old)) }
@@ -112,7 +111,7 @@ fn keep_prepared<R: Keeper, D: Disk>(
     disk: &mut D,
 ) -> Result<Ends, AppendFault>
     requires loaded { (file : List ℕ) → D.seen disk.old ≡ Some file → IsLoaded file key.signer }
-    requires room { length key.room.items ≡ signature_len key.signer.secret.lms key.signer.secret.ots }
+    requires room { length key.room.items ≡ signature_len key.signer.secret }
     requires prepared { IsPrepared key.signer.secret name.now prepared }
     requires site { (r : Repository) → R.content keeper.old ≡ Some r → IsSiteOf r (value_of r attestations_name) name.now prepared.ends.from prepared.ends.tree prepared.site }
     ensures ends { KeepingEnds R.Keeper D.Disk name.now prepared.ends prepared.envelope key.signer.secret keeper.old keeper.new disk.old disk.new result seconds }
@@ -147,7 +146,7 @@ pub fn store_approval<R: Keeper, D: Disk, C: Clock>(
     clock: &mut C,
 ) -> Result<Ends, AppendFault>
     requires loaded { (file : List ℕ) → D.seen disk.old ≡ Some file → IsLoaded file key.signer }
-    requires room { length key.room.items ≡ signature_len key.signer.secret.lms key.signer.secret.ots }
+    requires room { length key.room.items ≡ signature_len key.signer.secret }
     requires prepared { IsPrepared key.signer.secret name.now prepared }
     requires site { (r : Repository) → R.content keeper.old ≡ Some r → IsSiteOf r (value_of r attestations_name) name.now prepared.ends.from prepared.ends.tree prepared.site }
     ensures ends { StoreEnds R.Keeper D.Disk name.now prepared.ends prepared.envelope key.signer.secret keeper.old keeper.new disk.old disk.new (C.left clock.old) (C.left clock.new) result }

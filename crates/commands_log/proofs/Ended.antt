@@ -5,7 +5,7 @@ use Rattle.octets.specs.Content.{with_front}
 use Rattle.keeper_api.specs.declared.keepers.Keeper as keeper
 use Rattle.edge_disk.specs.declared.disks.Disk as disk
 use Rattle.log_entries.specs.declared.entries.EntryBody.{EntryBody}
-use Rattle.lms_keys.specs.Secret.{Secret}
+use Rattle.hss_keys.specs.Secret.{Secret}
 use Rattle.rsl_chain.specs.declared.drafts.Draft.{Draft}
 use Rattle.commands_log.proofs.Moved.{kept, kept_same, same, used_up}
 use Rattle.commands_log.specs.Appending.{AppendEnds, AppendsDraft, Drafts, RefusesDraft}

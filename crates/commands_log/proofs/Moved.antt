@@ -7,7 +7,7 @@ use Rattle.edge_disk.specs.Disk.{IsKept}
 use Rattle.edge_disk.specs.Moments.{LeavesOnly}
 use Rattle.edge_disk.specs.declared.disks.Disk as disk
 use Rattle.log_entries.specs.declared.entries.EntryBody.{EntryBody}
-use Rattle.lms_keys.specs.Secret.{Secret}
+use Rattle.hss_keys.specs.Secret.{Secret}
 use Rattle.leaf_journal.proofs.Moving.{started, weaker}
 use Rattle.leaf_journal.specs.KeyFile.{KeepsUsed}
 use Rattle.key_file.proofs.Steps.{signs_from, tears_from}
@@ -26,12 +26,12 @@ module _ {D : Type 0} (disk_of : disk.Ghosts D) where
   -- nothing is asked of the disk
   pub unmoved : (old : D) → ((c : List ℕ) → disk_of.left_since old (disk_of.moment old) c → disk_of.may_leave old c)
       → LeavesOnly disk_of.moment disk_of.left_since old old (KeepsUsed (disk_of.may_leave old))
-  unmoved old only = started disk_of.moment disk_of.left_since old (KeepsUsed (disk_of.may_leave old)) (λ c left q used. used c (only c left))
+  unmoved old only = started disk_of.moment disk_of.left_since old (KeepsUsed (disk_of.may_leave old)) (λ c left start q used. used c (only c left))
 
   -- the disk is only read
   pub only_read : (old new : D) → LeavesOnly disk_of.moment disk_of.left_since old new (disk_of.may_leave old)
       → LeavesOnly disk_of.moment disk_of.left_since old new (KeepsUsed (disk_of.may_leave old))
-  only_read old new run = weaker disk_of.moment disk_of.left_since old new (disk_of.may_leave old) (KeepsUsed (disk_of.may_leave old)) (λ c may q used. used c may) run
+  only_read old new run = weaker disk_of.moment disk_of.left_since old new (disk_of.may_leave old) (KeepsUsed (disk_of.may_leave old)) (λ c may start q used. used c may) run
 
   pub kept : (file : D) → IsKept (disk_of.seen file) (disk_of.seen file) (disk_of.may_leave file) (disk_of.may_leave file)
   kept file = record { same = λ now told. told; no_more = λ c may. may }

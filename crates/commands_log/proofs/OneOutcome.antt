@@ -5,12 +5,7 @@ use Rattle.std.proofs.Math.Nat.{lt_irrefl}
 use Rattle.std.specs.FinMap.{get}
 use Rattle.git_object.specs.Names.{log_name}
 use Rattle.git_object.specs.Repository.{Repository}
-use Rattle.lms_keys.specs.LmsType.{code, height}
-use Rattle.lms_keys.specs.Secret.{Secret}
-use Rattle.lms_keys.specs.declared.lms_type.LmsType.{LmsType}
-use Rattle.lms_keys.specs.declared.lms_type.LmsType.TheVariants.{H5, H10, H15, H20, H25}
-use Rattle.leaf_journal.specs.KeyFile.{IsHeader, IsKeyFile}
-use Rattle.key_file.specs.Files.{IsLeastUnused, IsNoKeyFile, IsUsedUp}
+use Rattle.key_file.proofs.OneKeyFile.{not_both, not_spent}
 use Rattle.rsl_chain.specs.Chain.{NeverBoth, OneBreak, OneLog}
 use Rattle.rsl_chain.specs.Logs.{IsLogOf, heads_of}
 use Rattle.commands_log.specs.Outcomes.{RecordComes}
@@ -18,35 +13,6 @@ use Rattle.commands_log.specs.declared.appending.AppendFault.TheVariants as appe
 use Rattle.commands_log.specs.declared.opening.ReadingFault.TheVariants as reading
 use Rattle.commands_log.specs.declared.recording.RecordFault.{RecordFault}
 use Rattle.commands_log.specs.declared.recording.RecordFault.TheVariants.{Unread, BreakUntold, Unappended, SinkFailed}
-
--- the height of the type of a code
-height_by : ℕ → ℕ
-height_by n = if n == 5 then 5 else (if n == 6 then 10 else (if n == 7 then 15 else (if n == 8 then 20 else 25)))
-
-height_by-code : (t : LmsType) → height_by (code t) ≡ height t
-unfolding height_by
-height_by-code H5 = refl
-height_by-code H10 = refl
-height_by-code H15 = refl
-height_by-code H20 = refl
-height_by-code H25 = refl
-
--- one header tells one height
-one_height : (head : List ℕ) (a b : Secret) → IsHeader head a → IsHeader head b → height a.lms ≡ height b.lms
-one_height head a b is other = sym (height_by-code a.lms) ∙ ap height_by (sym is.lms ∙ other.lms) ∙ height_by-code b.lms
-
-too_short : (n p : ℕ) → n < 64 → n ≡ 64 + p → ⊥
-too_short n p less is = omega arith
-
--- a file is that of a key or of none
-pub not_both : (file : List ℕ) → IsNoKeyFile file → (secret : Secret) → IsKeyFile file secret → ⊥
-not_both file (inl short) secret key = too_short (length file) (2 ^ height secret.lms) short key.size
-not_both file (inr (inl none)) secret key = none.none secret key.header
-not_both file (inr (inr other)) secret key = other.other (key.size ∙ ap (λ (h : ℕ). 64 + 2 ^ h) (one_height _ secret other.secret key.header other.header))
-
--- a file of which each leaf is used has no unused one
-not_spent : (file : List ℕ) (s t : Secret) (leaf : ℕ) → IsUsedUp file s → IsLeastUnused file t leaf → ⊥
-not_spent file s t leaf used_up unused = used_up.used leaf (subst (λ (h : ℕ). leaf < 2 ^ h) (one_height _ t s unused.is.header used_up.is.header) unused.within) unused.free
 
 module _ (one : OneLog) (once : OneBreak) (apart : NeverBoth) (file : List ℕ) (was : Repository) where
   pub not_full : (xs ys : List (List ℕ)) → IsLogOf was xs → IsLogOf was ys → length xs < 1000000 → length ys ≡ 1000000 → ⊥

@@ -8,7 +8,7 @@ use Rattle.edge_disk.specs.Disk.{IsKept}
 use Rattle.edge_disk.specs.declared.disks.Disk as disk
 use Rattle.log_entries.specs.declared.entries.EntryBody.{EntryBody}
 use Rattle.log_entries.specs.declared.entries.EntryBody.TheVariants.{Reference}
-use Rattle.lms_keys.specs.Secret.{Secret}
+use Rattle.hss_keys.specs.Secret.{Secret}
 use Rattle.rsl_chain.specs.Logs.{IsLogOf}
 use Rattle.commands_log.proofs.Moved.{append_from, same_twice}
 use Rattle.commands_log.specs.Appending.{AppendEnds}

@@ -1,6 +1,6 @@
 -- What is written of an entry is inside the grammar.
-use Rattle.std.proofs.Common.{◌≡◌, ◌+◌, ◌<◌, ◌^◌, ◌++◌, ℕ, List, [], ◌∷◌, length, length-append, refl, sym, subst, ap, ◌∙◌, arith}
-use Rattle.std.specs.Prelude.{false, None, codes, decimal}
+use Rattle.std.proofs.Common.{◌≡◌, ◌+◌, ◌<◌, ◌/◌, ◌%◌, ◌^◌, ◌++◌, ℕ, List, [], ◌∷◌, length, length-append, refl, sym, subst, ap, ◌∙◌, arith}
+use Rattle.std.specs.Prelude.{false, Option, None, Some, codes, decimal}
 use Rattle.std.specs.Int.{w32, to_be_bytes}
 use Rattle.text_reader.proofs.Unique.{decimal_line, no_byte}
 use Rattle.text_reader.specs.Line.{has_byte}
@@ -8,7 +8,9 @@ use Rattle.log_entries.specs.declared.entries.EntryBody.{EntryBody}
 use Rattle.lmots.specs.Chain.{joined}
 use Rattle.lmots.specs.OneTime as one_time
 use Rattle.lms_keys.specs.LmsType.{code, height}
-use Rattle.lms_keys.specs.Secret.{Secret, path_of}
+use Rattle.lms_keys.specs.Secret as one
+use Rattle.hss_keys.specs.Secret.{Secret, bottom_of, bytes_of, signature_by}
+use Rattle.hss_keys.specs.declared.below.Below.{Below}
 use Rattle.leaf_journal.specs.Signing.{Signs}
 use Rattle.rsl_chain.specs.Chain.{IsHead, last_of}
 use Rattle.rsl_chain.specs.Drafts.{IsBody, IsDraft, IsReadWith, IsValid, signed_text_of}
@@ -44,8 +46,17 @@ draft_valid ids seconds body short plain is = record { head = head_of ids short;
 some_bytes : (q : ℕ) (rest : List ℕ) → 0 < length (to_be_bytes w32 q ++ rest)
 some_bytes q rest = omega (arith, length-append (to_be_bytes w32 q) rest)
 
+some_signed : (key : one.Secret) (q : ℕ) (message : List ℕ) → 0 < length (one.signature key q message)
+some_signed key q message = some_bytes q (one_time.signature key.ots key.i q key.seed message ++ to_be_bytes w32 (code key.lms) ++ joined (one.path_of key q) (height key.lms))
+
+some_by : (top : one.Secret) (below : Option Below) (q : ℕ) (message : List ℕ) → 0 < length (signature_by top below q message)
+some_by top None q message = some_signed top q message
+some_by top (Some below) q message =
+    let last : one.Secret = bottom_of top.i top.seed below (q / 2 ^ height below.lms) in
+    some_bytes 1 (one.signature top (q / 2 ^ height below.lms) (bytes_of last) ++ bytes_of last ++ one.signature last (q % 2 ^ height below.lms) message)
+
 pub signature_some : (secret : Secret) (message : List ℕ) (q : ℕ) (s : List ℕ) → Signs secret message q s → 0 < length s
-signature_some secret message q s signs = subst (λ (t : List ℕ). 0 < length t) (sym signs.is) (some_bytes q (one_time.signature secret.ots secret.i q secret.seed message ++ to_be_bytes w32 (code secret.lms) ++ joined (path_of secret q) (height secret.lms)))
+signature_some secret message q s signs = subst (λ (t : List ℕ). 0 < length t) (sym signs.is) (some_by secret.top secret.below q message)
 
 pub text_is : (draft : Draft) (secret : Secret) (signature unsigned text : List ℕ) → unsigned ≡ draft_text draft → text ≡ signed_text_of unsigned (signed_by secret signature) → text ≡ entry_text draft secret signature
 unfolding draft_text entry_text

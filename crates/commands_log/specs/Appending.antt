@@ -5,7 +5,7 @@ use Rattle.keeper_api.specs.Undisturbed.{Undisturbed}
 use Rattle.keeper_api.specs.declared.keepers.Keeper as keeper
 use Rattle.edge_disk.specs.declared.disks.Disk as disk
 use Rattle.log_entries.specs.declared.entries.EntryBody.{EntryBody}
-use Rattle.lms_keys.specs.Secret.{Secret}
+use Rattle.hss_keys.specs.Secret.{Secret}
 use Rattle.key_file.specs.Files.{IsUsedUp}
 use Rattle.key_file.specs.Using.{MayTear}
 use Rattle.rsl_chain.specs.declared.drafts.Draft.{Draft}

@@ -7,8 +7,7 @@ use Rattle.git_object.specs.Objects.{object_id}
 use Rattle.git_object.specs.Repository.{Repository}
 use Rattle.git_object.specs.declared.kinds.Kind.TheVariants.{Commit}
 use Rattle.log_entries.specs.declared.entries.EntryBody.{EntryBody}
-use Rattle.lms_keys.specs.PublicKey.{key_bytes}
-use Rattle.lms_keys.specs.Secret.{Secret, public_key_of}
+use Rattle.hss_keys.specs.Secret.{Secret, public_bytes}
 use Rattle.rsl_chain.specs.Chain.{last_of}
 use Rattle.rsl_chain.specs.Drafts.{entry_of_draft, signed_text_of, unsigned_text}
 use Rattle.rsl_chain.specs.Reading.{entry_of}
@@ -30,7 +29,7 @@ draft_text draft = unsigned_text draft
 
 -- the signature by a key, whose id is the SHA-256 of its public part's bytes
 abbrev pub signed_by : Secret → List ℕ → SignatureLine
-signed_by secret signature = record { signer = sha256 (key_bytes (public_key_of secret)); signature = signature }
+signed_by secret signature = record { signer = sha256 (public_bytes secret); signature = signature }
 
 -- the body of the draft's commit with that signature
 unfoldable pub entry_text : Draft → Secret → List ℕ → List ℕ

@@ -6,7 +6,7 @@ use Rattle.keeper_api.specs.declared.keepers.Keeper as keeper
 use Rattle.edge_disk.specs.declared.disks.Disk as disk
 use Rattle.log_entries.specs.declared.entries.EntryBody.{EntryBody}
 use Rattle.log_entries.specs.declared.entries.EntryBody.TheVariants.{Annotation, Reference}
-use Rattle.lms_keys.specs.Secret.{Secret}
+use Rattle.hss_keys.specs.Secret.{Secret}
 use Rattle.rsl_chain.specs.Logs.{IsLogOf}
 use Rattle.commands_log.specs.Appending.{AppendEnds}
 use Rattle.commands_log.specs.Lines.{break_line, entry_line}

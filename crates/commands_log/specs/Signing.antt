@@ -1,7 +1,7 @@
 -- What each outcome of signing a draft means, and of adding its entry to the log.
 use Rattle.std.specs.Prelude.{◌≡◌, ℕ, Bool, true, false, List, Result, Ok, Err}
 use Rattle.edge_disk.specs.declared.disks.Disk as disk
-use Rattle.lms_keys.specs.Secret.{Secret}
+use Rattle.hss_keys.specs.Secret.{Secret}
 use Rattle.key_file.specs.Using.{FindsNone, MayTear, SignsWith}
 use Rattle.rsl_chain.specs.declared.drafts.Draft.{Draft}
 use Rattle.commands_log.specs.Entries.{ReadsAs, draft_text, entry_text}

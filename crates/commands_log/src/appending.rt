@@ -5,7 +5,7 @@ ghost use Rattle.octets.specs.Causes.{HasCause};
 ghost use Rattle.edge_disk.specs.Moments.{LeavesOnly};
 ghost use Rattle.leaf_journal.specs.KeyFile.{KeepsUsed};
 ghost use Rattle.leaf_journal.specs.Signing.{IsLoaded};
-ghost use Rattle.lms_keys.specs.LmsType.{signature_len};
+ghost use Rattle.hss_keys.specs.Secret.{signature_len};
 ghost use Rattle.rsl_chain.specs.Drafts.{IsBody, IsDraft};
 ghost use Rattle.commands_log.specs.Appending.{AppendEnds, DraftEnds};
 ghost use Rattle.commands_log.specs.Signing.{clock_failed, commit_failed, disk_failed};
@@ -56,7 +56,7 @@ fn append_draft<R: Keeper, D: Disk>(
     disk: &mut D,
 ) -> Result<ObjectId, AppendFault>
     requires loaded { (file : List ℕ) → D.seen disk.old ≡ Some file → IsLoaded file key.signer }
-    requires room { length key.room.items ≡ signature_len key.signer.secret.lms key.signer.secret.ots }
+    requires room { length key.room.items ≡ signature_len key.signer.secret }
     requires draft { IsDraft draft.now }
     ensures ends { DraftEnds R.Keeper D.Disk key.signer.secret keeper.old keeper.new disk.old disk.new draft.now result }
     ensures any_moment { LeavesOnly D.moment D.left_since disk.old disk.new (KeepsUsed (D.may_leave disk.old)) }
@@ -89,7 +89,7 @@ pub fn append_entry<R: Keeper, D: Disk, C: Clock>(
     clock: &mut C,
 ) -> Result<Appended, AppendFault>
     requires loaded { (file : List ℕ) → D.seen disk.old ≡ Some file → IsLoaded file opened.key.signer }
-    requires room { length opened.key.room.items ≡ signature_len opened.key.signer.secret.lms opened.key.signer.secret.ots }
+    requires room { length opened.key.room.items ≡ signature_len opened.key.signer.secret }
     requires short { length opened.log.ids < 1000000 }
     requires body { IsBody body }
     ensures ends { AppendEnds R.Keeper D.Disk opened.key.signer.secret keeper.old keeper.new disk.old disk.new opened.log.ids body (C.left clock.old) (C.left clock.new) result }

@@ -18,8 +18,6 @@ mod opening;
 mod outcomes;
 mod recording;
 mod signing;
-#[cfg(test)]
-mod tests;
 mod values;
 
 pub use annotating::annotate;

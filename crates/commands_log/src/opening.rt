@@ -6,7 +6,7 @@ ghost use Rattle.git_object.specs.Repository.{Repository};
 ghost use Rattle.keeper_api.specs.Undisturbed.{Undisturbed};
 ghost use Rattle.edge_disk.specs.Disk.{IsKept};
 ghost use Rattle.edge_disk.specs.Moments.{LeavesOnly};
-ghost use Rattle.lms_keys.specs.LmsType.{signature_len};
+ghost use Rattle.hss_keys.specs.Secret.{signature_len};
 ghost use Rattle.leaf_journal.specs.Signing.{IsLoaded};
 ghost use Rattle.rsl_chain.specs.Logs.{IsLogOf};
 ghost use Rattle.commands_log.specs.Opening.{IsAnyLength, WhyUnread, log_fault, opened_fault, unread_disk, unread_keeper};
@@ -69,7 +69,7 @@ pub fn open_whole_log<R: Keeper, D: Disk>(
     disk: &mut D,
 ) -> Result<OpenLog, ReadingFault>
     ensures loaded { IfOk result (λ opened. (file : List ℕ) → D.seen disk.new ≡ Some file → IsLoaded file opened.key.signer) }
-    ensures room { IfOk result (λ opened. length opened.key.room.items ≡ signature_len opened.key.signer.secret.lms opened.key.signer.secret.ots) }
+    ensures room { IfOk result (λ opened. length opened.key.room.items ≡ signature_len opened.key.signer.secret) }
     ensures log { IfOk result (λ opened. (r : Repository) → R.content keeper.new ≡ Some r → IsLogOf r opened.log.ids) }
     ensures few { IfOk result (λ opened. length opened.log.ids ≤ 1000000) }
     ensures why { IfErr result (WhyUnread R.Keeper D.Disk keeper.new disk.new) }
@@ -101,7 +101,7 @@ pub fn open_log<R: Keeper, D: Disk>(
     disk: &mut D,
 ) -> Result<OpenLog, ReadingFault>
     ensures loaded { IfOk result (λ opened. (file : List ℕ) → D.seen disk.new ≡ Some file → IsLoaded file opened.key.signer) }
-    ensures room { IfOk result (λ opened. length opened.key.room.items ≡ signature_len opened.key.signer.secret.lms opened.key.signer.secret.ots) }
+    ensures room { IfOk result (λ opened. length opened.key.room.items ≡ signature_len opened.key.signer.secret) }
     ensures log { IfOk result (λ opened. (r : Repository) → R.content keeper.new ≡ Some r → IsLogOf r opened.log.ids) }
     ensures short { IfOk result (λ opened. length opened.log.ids < 1000000) }
     ensures why { IfErr result (WhyUnread R.Keeper D.Disk keeper.new disk.new) }

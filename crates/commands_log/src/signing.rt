@@ -5,7 +5,7 @@ ghost use Rattle.octets.specs.Causes.{HasCause};
 ghost use Rattle.edge_disk.specs.Moments.{LeavesOnly};
 ghost use Rattle.leaf_journal.specs.KeyFile.{KeepsUsed};
 ghost use Rattle.leaf_journal.specs.Signing.{IsLoaded};
-ghost use Rattle.lms_keys.specs.LmsType.{signature_len};
+ghost use Rattle.hss_keys.specs.Secret.{signature_len};
 ghost use Rattle.rsl_chain.specs.Drafts.{IsDraft, IsValid};
 ghost use Rattle.commands_log.specs.Entries.{draft_text};
 ghost use Rattle.commands_log.specs.Signing.{SignEnds, disk_failed};
@@ -36,7 +36,7 @@ pub fn sign_draft<D: Disk>(
     disk: &mut D,
 ) -> Result<Octets, AppendFault>
     requires loaded { (file : List ℕ) → D.seen disk.old ≡ Some file → IsLoaded file key.signer }
-    requires room { length key.room.items ≡ signature_len key.signer.secret.lms key.signer.secret.ots }
+    requires room { length key.room.items ≡ signature_len key.signer.secret }
     requires draft { IsDraft draft.now }
     ensures ends { SignEnds D.Disk key.signer.secret draft.now disk.old disk.new result }
     ensures any_moment { LeavesOnly D.moment D.left_since disk.old disk.new (KeepsUsed (D.may_leave disk.old)) }
@@ -45,7 +45,7 @@ pub fn sign_draft<D: Disk>(
     let Ok(unsigned) = text_of(alloc, draft) else {
         return Err(AppendFault::Memory);
     };
-    let signer = key_id(&key.public().write());
+    let signer = key_id(key.public_bytes());
     let signature = match use_leaf(key, disk, unsigned.as_slice()) {
         Ok(signature) => signature,
         Err(SignFault::Exhausted) => return Err(AppendFault::Exhausted),

@@ -11,7 +11,8 @@ use Rattle.rsl_chain.specs.Logs.{heads_of}
 use Rattle.commands_history.proofs.OneHistory.{same_history}
 use Rattle.commands_history.specs.declared.faults.LogCommandFault.{LogCommandFault}
 use Rattle.commands_history.specs.declared.faults.LogCommandFault.TheVariants as log
-use Rattle.commands_log.proofs.OneOutcome.{not_both, not_full, same_record}
+use Rattle.key_file.proofs.OneKeyFile.{not_both}
+use Rattle.commands_log.proofs.OneOutcome.{not_full, same_record}
 use Rattle.commands_log.specs.Outcomes.{RecordComes}
 use Rattle.commands_log.specs.declared.opening.ReadingFault.TheVariants as reading
 use Rattle.commands_log.specs.declared.recording.RecordFault.{RecordFault}

@@ -4,7 +4,7 @@ use Rattle.git_object.specs.Repository.{Repository, value_of}
 use Rattle.keeper_api.specs.declared.keepers.Keeper as keeper
 use Rattle.edge_disk.specs.declared.disks.Disk as disk
 use Rattle.log_entries.specs.Entries.{policy_name}
-use Rattle.lms_keys.specs.Secret.{Secret}
+use Rattle.hss_keys.specs.Secret.{Secret}
 use Rattle.leaf_journal.specs.KeyFile.{IsKeyFile}
 use Rattle.rsl_chain.specs.Logs.{IsBreakOf, IsLogOf}
 use Rattle.endings.specs.Endings.{IsStopped}

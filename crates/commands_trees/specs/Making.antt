@@ -3,6 +3,7 @@ use Rattle.std.specs.Prelude.{◌≡◌, ◌≤◌, ◌++◌, [], All, ℕ, Bool
 use Rattle.std.specs.List.{AllByRecursion}
 use Rattle.octets.specs.Content.{with_front}
 use Rattle.edge_io.specs.Read.{HasMore, HasRead, IsAtEnd}
+use Rattle.git_object.specs.Repository.{largest_body}
 use Rattle.git_object.specs.Objects.{Pair}
 use Rattle.tree_paths.specs.Readings.{Trees}
 use Rattle.tree_paths.specs.States.{path_values}
@@ -26,7 +27,7 @@ pub record IsMade (rows : List Row) (made : Made) : Type 0 where
 
 -- at most 16 MiB
 abbrev pub IsSmall : Pair → Type 0
-IsSmall pair = length pair.body ≤ 16777216
+IsSmall pair = length pair.body ≤ largest_body
 
 -- made of the rows of a text, each object within the limit
 pub record MadeOf (text : List ℕ) (made : Made) : Type 0 where

@@ -14,8 +14,6 @@ mod outcomes;
 mod parents;
 mod snapshots;
 mod storing;
-#[cfg(test)]
-mod tests;
 
 pub use making::{InputFault, Made};
 pub use outcomes::snapshot_ending;

@@ -41,7 +41,14 @@ pub(crate) fn needs_of(alloc: Global, command: &[String]) -> Result<Needs, Refus
             },
         ) => (true, true, false),
         Ok(Command::Approve { name: _, target: _ }) => (true, true, false),
-        Ok(Command::KeyGen { height, width: _ }) => (false, true, height == Height::H15),
+        Ok(Command::Demo { count: _ }) => (true, false, false),
+        Ok(
+            Command::KeyGen {
+                height,
+                width: _,
+                bottom: _,
+            },
+        ) => (false, true, height == Height::H15),
         Err(WordsFault::Outside) => return Err(Refusal::Words),
         Err(WordsFault::Memory) => return Err(Refusal::Memory),
     };

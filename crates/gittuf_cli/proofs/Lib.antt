@@ -1,2 +1,3 @@
+mod KeyHeights
 mod SameOutcome
 mod ToldOutcome

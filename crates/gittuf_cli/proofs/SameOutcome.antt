@@ -6,6 +6,9 @@ use Rattle.command_words.specs.declared.commands.Command.TheVariants as command
 use Rattle.endings.proofs.Lifted.{one_ending}
 use Rattle.endings.specs.declared.ending.Ending.{Ending}
 use Rattle.commands_approvals.specs.Outcomes.{ApproveComes, OneOfApprovals, approve_ending}
+use Rattle.commands_demo.specs.Contents.{DemoComes}
+use Rattle.commands_demo.specs.Demos.{demo_ending}
+use Rattle.commands_demo.specs.Laws.{OneOfDemo}
 use Rattle.commands_history.specs.Laws.{LogComes, OneOfHistory}
 use Rattle.commands_history.specs.Logging.{log_ending}
 use Rattle.commands_keys.specs.Contents.{KeyGenComes, SealComes}
@@ -23,12 +26,12 @@ use Rattle.commands_store.specs.Verifying.{verify_ending}
 use Rattle.commands_trees.specs.OutcomeLaws.{OneOfTrees}
 use Rattle.gittuf_cli.specs.Contents.{Comes, Content, IsSettledFor, OneOutcome}
 
-module _ (store : OneOfStore) (keys : OneOfKeys) (history : OneOfHistory) (log : OneOfLog) (trees : OneOfTrees) (policy : OneOfPolicy) (approvals : OneOfApprovals) where
+module _ (store : OneOfStore) (keys : OneOfKeys) (history : OneOfHistory) (log : OneOfLog) (trees : OneOfTrees) (policy : OneOfPolicy) (approvals : OneOfApprovals) (demos : OneOfDemo) where
   one_comes : (c : Command) (content : Content) → IsSettledFor c content → (x y : Ending) → Comes c content x → Comes c content y → x ≡ y
   one_comes (command.VerifyRef name root stdin) content settled = one_ending verify_ending (VerifyComes name root stdin content.held content.bytes) (store.verify name root stdin content.held content.bytes)
   one_comes command.Export content settled = one_ending export_ending (ExportComes content.held) (store.export content.held)
   one_comes command.Import content settled = one_ending import_ending (ImportComes content.held content.bytes) (store.import content.held content.bytes)
-  one_comes (command.KeyGen height width) content settled = one_ending key_gen_ending (KeyGenComes content.file) (keys.key_gen content.file)
+  one_comes (command.KeyGen height width bottom) content settled = one_ending key_gen_ending (KeyGenComes content.file) (keys.key_gen content.file)
   one_comes command.Log content settled = one_ending log_ending (LogComes content.held) (history.log content.held)
   one_comes (command.Record name) content settled = one_ending record_ending (RecordComes content.file content.held) (log.recorded content.file content.held)
   one_comes (command.Seal add) content settled = one_ending seal_ending (SealComes add content.bytes content.file) (keys.seal add content.bytes content.file)
@@ -38,6 +41,7 @@ module _ (store : OneOfStore) (keys : OneOfKeys) (history : OneOfHistory) (log :
   one_comes (command.Explain space text) content settled = one_ending explain_ending (ExplainComes content.held) (policy.explained content.held)
   one_comes (command.Annotate skip ids message) content settled = one_ending record_ending (RecordComes content.file content.held) (log.recorded content.file content.held)
   one_comes (command.Approve name target) content settled = one_ending approve_ending (ApproveComes name target content.file content.held) (approvals.approved name target content.file content.held)
+  one_comes (command.Demo count) content settled = one_ending demo_ending (DemoComes count content.held) (demos.demo count content.held)
 
   pub same_outcome : OneCommand → OneOutcome
   same_outcome commands words content a b settled (inl none) (inl also) = none.0 ∙ sym also.0

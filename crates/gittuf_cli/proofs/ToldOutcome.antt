@@ -17,6 +17,10 @@ use Rattle.endings.specs.declared.ending.Ending.{Ending}
 use Rattle.commands_approvals.specs.Approving.{ApproveEnds}
 use Rattle.commands_approvals.specs.Outcomes.{ApproveComes, TellsOfApprovals, approve_ending}
 use Rattle.commands_approvals.specs.declared.approving.ApproveFault.{ApproveFault}
+use Rattle.commands_demo.specs.Contents.{DemoComes}
+use Rattle.commands_demo.specs.Demos.{DemoEnds, demo_ending}
+use Rattle.commands_demo.specs.Laws.{TellsOfDemo}
+use Rattle.commands_demo.specs.declared.demos.DemoFault.{DemoFault}
 use Rattle.commands_history.specs.Laws.{LogComes, TellsOfHistory}
 use Rattle.commands_history.specs.Logging.{LogEnds, log_ending}
 use Rattle.commands_history.specs.declared.faults.LogCommandFault.{LogCommandFault}
@@ -46,14 +50,14 @@ use Rattle.commands_trees.specs.OutcomeLaws.{TellsOfTrees}
 use Rattle.commands_trees.specs.Snapshots.{SnapshotEnds, snapshot_ending}
 use Rattle.commands_trees.specs.declared.snapshots.SnapshotFault.{SnapshotFault}
 use Rattle.gittuf_cli.specs.Contents.{Comes, Content, Tells, TellsOutcome}
-use Rattle.gittuf_cli.specs.KeyTypes.{lms_of, ots_of}
+use Rattle.gittuf_cli.specs.KeyTypes.{below_of, lms_of, ots_of}
 use Rattle.gittuf_cli.specs.Runs.{EndsOf}
 use Rattle.gittuf_cli.specs.Worlds.{World}
 
 same_some : {X : Type 0} (x y : X) (told : Option X) → told ≡ Some x → told ≡ Some y → x ≡ y
 same_some x y told e f = cc
 
-module _ {S K R D E C : Type 0} (source_of : source.Ghosts S) (sink_of : sink.Ghosts K) (keeper_of : keeper.Ghosts R) (disk_of : disk.Ghosts D) (entropy_of : entropy.Ghosts E) (clock_of : clock.Ghosts C) (store : TellsOfStore keeper_of) (keys : TellsOfKeys disk_of) (history : TellsOfHistory) (log : TellsOfLog keeper_of disk_of) (trees : TellsOfTrees keeper_of) (policy : TellsOfPolicy keeper_of disk_of) (approvals : TellsOfApprovals keeper_of disk_of) where
+module _ {S K R D E C : Type 0} (source_of : source.Ghosts S) (sink_of : sink.Ghosts K) (keeper_of : keeper.Ghosts R) (disk_of : disk.Ghosts D) (entropy_of : entropy.Ghosts E) (clock_of : clock.Ghosts C) (store : TellsOfStore keeper_of) (keys : TellsOfKeys disk_of) (history : TellsOfHistory) (log : TellsOfLog keeper_of disk_of) (trees : TellsOfTrees keeper_of) (policy : TellsOfPolicy keeper_of disk_of) (approvals : TellsOfApprovals keeper_of disk_of) (demos : TellsOfDemo keeper_of) where
   told_comes : (c : Command) (before after : World S K R D E C) (ending : Ending) (content : Content)
       → Tells source_of sink_of keeper_of disk_of entropy_of clock_of c before after content
       → EndsOf source_of sink_of keeper_of disk_of entropy_of clock_of c before after ending → Comes c content ending ⊎ IsStopped ending
@@ -83,12 +87,12 @@ module _ {S K R D E C : Type 0} (source_of : source.Ghosts S) (sink_of : sink.Gh
       store.import content.bytes (source_of.left after.source) content.held tells.1.now before.keeper after.keeper (sink_of.contents before.sink) (sink_of.contents after.sink) outcome tells.1.held tells.1.holds
       (subst (λ (l : Option (List ℕ)). ImportEnds keeper_of l (source_of.left after.source) before.keeper after.keeper (sink_of.contents before.sink) (sink_of.contents after.sink) outcome) tells.0 means))
       ending ends.0
-  told_comes (command.KeyGen height width) before after ending content tells ends =
+  told_comes (command.KeyGen height width bottom) before after ending content tells ends =
       told_ending key_gen_ending
-      (KeyGenEnds disk_of (lms_of height) (ots_of width) (entropy_of.left before.entropy) (entropy_of.left after.entropy) before.disk after.disk (sink_of.contents before.sink) (sink_of.contents after.sink))
+      (KeyGenEnds disk_of (lms_of height) (ots_of width) (below_of bottom) (entropy_of.left before.entropy) (entropy_of.left after.entropy) before.disk after.disk (sink_of.contents before.sink) (sink_of.contents after.sink))
       (KeyGenComes content.file)
       (λ (outcome : Result (Unit {0}) KeyGenFault) means.
-      keys.key_gen (lms_of height) (ots_of width) (entropy_of.left before.entropy) (entropy_of.left after.entropy) content.file tells.now before.disk after.disk (sink_of.contents before.sink) (sink_of.contents after.sink) outcome tells.held tells.holds means)
+      keys.key_gen (lms_of height) (ots_of width) (below_of bottom) (entropy_of.left before.entropy) (entropy_of.left after.entropy) content.file tells.now before.disk after.disk (sink_of.contents before.sink) (sink_of.contents after.sink) outcome tells.held tells.holds means)
       ending ends.0
   told_comes command.Log before after ending content tells ends =
       let same : tells.now ≡ content.held = sym (same_some content.held tells.now (keeper_of.content before.keeper) tells.held (ends.1.content tells.now tells.holds)) in
@@ -157,6 +161,13 @@ module _ {S K R D E C : Type 0} (source_of : source.Ghosts S) (sink_of : sink.Gh
       (λ (outcome : Result (Unit {0}) ApproveFault) means.
       approvals.approved name target (clock_of.left before.clock) (clock_of.left after.clock) content.held tells.0.now content.file tells.1.now before.keeper after.keeper before.disk after.disk (sink_of.contents before.sink) (sink_of.contents after.sink) outcome
       tells.0.held tells.0.holds tells.1.held tells.1.holds means)
+      ending ends.0
+  told_comes (command.Demo count) before after ending content tells ends =
+      told_ending demo_ending
+      (DemoEnds count keeper_of before.keeper after.keeper (sink_of.contents before.sink) (sink_of.contents after.sink))
+      (DemoComes count content.held)
+      (λ (outcome : Result RefVerdict DemoFault) means.
+      demos.demo count content.held tells.now before.keeper after.keeper (sink_of.contents before.sink) (sink_of.contents after.sink) outcome tells.held tells.holds means)
       ending ends.0
 
   pub told_outcome : TellsOutcome source_of sink_of keeper_of disk_of entropy_of clock_of

@@ -16,6 +16,8 @@ use Rattle.endings.specs.declared.ending.Ending.{Ending}
 use Rattle.endings.specs.declared.ending.Ending.TheVariants.{Refused}
 use Rattle.endings.specs.declared.ending.Refusal.TheVariants as refusal
 use Rattle.commands_approvals.specs.Outcomes.{ApproveComes, approve_ending}
+use Rattle.commands_demo.specs.Contents.{DemoComes}
+use Rattle.commands_demo.specs.Demos.{demo_ending}
 use Rattle.commands_history.specs.Laws.{LogComes}
 use Rattle.commands_history.specs.Logging.{log_ending}
 use Rattle.commands_keys.specs.Contents.{KeyGenComes, SealComes}
@@ -44,7 +46,7 @@ abbrev pub Comes : Command → Content → Ending → Type 0
 Comes (command.VerifyRef name root stdin) content = Ended verify_ending (VerifyComes name root stdin content.held content.bytes)
 Comes command.Export content = Ended export_ending (ExportComes content.held)
 Comes command.Import content = Ended import_ending (ImportComes content.held content.bytes)
-Comes (command.KeyGen height width) content = Ended key_gen_ending (KeyGenComes content.file)
+Comes (command.KeyGen height width bottom) content = Ended key_gen_ending (KeyGenComes content.file)
 Comes command.Log content = Ended log_ending (LogComes content.held)
 Comes (command.Record name) content = Ended record_ending (RecordComes content.file content.held)
 Comes (command.Seal add) content = Ended seal_ending (SealComes add content.bytes content.file)
@@ -53,6 +55,7 @@ Comes command.PolicyApply content = Ended apply_ending (ApplyComes content.file 
 Comes (command.Explain space text) content = Ended explain_ending (ExplainComes content.held)
 Comes (command.Annotate skip ids message) content = Ended record_ending (RecordComes content.file content.held)
 Comes (command.Approve name target) content = Ended approve_ending (ApproveComes name target content.file content.held)
+Comes (command.Demo count) content = Ended demo_ending (DemoComes count content.held)
 
 -- what is settled of the content where a command has one ending: nothing, but for the trees of a listing
 abbrev pub IsSettledFor : Command → Content → Type 0
@@ -91,7 +94,7 @@ module _ {S K R D E C : Type 0} (source_of : source.Ghosts S) (sink_of : sink.Gh
   Tells (command.VerifyRef name root stdin) before after content = TellsSource before content × TellsStore before after content
   Tells command.Export before after content = TellsStore before after content
   Tells command.Import before after content = TellsSource before content × TellsStore before after content
-  Tells (command.KeyGen height width) before after content = TellsDisk before after content
+  Tells (command.KeyGen height width bottom) before after content = TellsDisk before after content
   Tells command.Log before after content = TellsStore before after content
   Tells (command.Record name) before after content = TellsStore before after content × TellsDisk before after content
   Tells (command.Seal add) before after content = TellsSource before content × TellsDisk before after content
@@ -100,6 +103,7 @@ module _ {S K R D E C : Type 0} (source_of : source.Ghosts S) (sink_of : sink.Gh
   Tells (command.Explain space text) before after content = TellsStore before after content
   Tells (command.Annotate skip ids message) before after content = TellsStore before after content × TellsDisk before after content
   Tells (command.Approve name target) before after content = TellsStore before after content × TellsDisk before after content
+  Tells (command.Demo count) before after content = TellsStore before after content
 
   -- where the content is told, an ending is the one for it, or the run stopped
   abbrev pub TellsOutcome : Type 0

@@ -21,6 +21,7 @@ use Rattle.endings.specs.declared.ending.Ending.TheVariants.{Done, Differs, Brok
 use Rattle.endings.specs.declared.ending.Refusal.TheVariants as refusal
 use Rattle.commands_approvals.specs.Approving.{ApproveEnds}
 use Rattle.commands_approvals.specs.Outcomes.{approve_ending}
+use Rattle.commands_demo.specs.Demos.{DemoEnds, demo_ending}
 use Rattle.commands_history.specs.Logging.{LogEnds, log_ending}
 use Rattle.commands_keys.specs.MakingKeys.{KeyGenEnds, key_gen_ending}
 use Rattle.commands_keys.specs.Sealing.{SealEnds, seal_ending}
@@ -33,7 +34,7 @@ use Rattle.commands_store.specs.Exporting.{ExportEnds, export_ending}
 use Rattle.commands_store.specs.Importing.{ImportEnds, import_ending}
 use Rattle.commands_store.specs.Verifying.{VerifyEnds, verify_ending}
 use Rattle.commands_trees.specs.Snapshots.{SnapshotEnds, snapshot_ending}
-use Rattle.gittuf_cli.specs.KeyTypes.{lms_of, ots_of}
+use Rattle.gittuf_cli.specs.KeyTypes.{below_of, lms_of, ots_of}
 use Rattle.gittuf_cli.specs.Worlds.{World, faults_of}
 
 -- the line was written and no fault counted, or a front of the line was written and one fault counted
@@ -62,8 +63,8 @@ module _ {S K R D E C : Type 0} (source_of : source.Ghosts S) (sink_of : sink.Gh
   EndsOf command.Import before after ending =
       Ended import_ending (ImportEnds keeper_of (source_of.left before.source) (source_of.left after.source) before.keeper after.keeper (sink_of.contents before.sink) (sink_of.contents after.sink)) ending
       × (after ≡ record before { source = after.source; sink = after.sink; keeper = after.keeper })
-  EndsOf (command.KeyGen height width) before after ending =
-      Ended key_gen_ending (KeyGenEnds disk_of (lms_of height) (ots_of width) (entropy_of.left before.entropy) (entropy_of.left after.entropy) before.disk after.disk (sink_of.contents before.sink) (sink_of.contents after.sink)) ending
+  EndsOf (command.KeyGen height width bottom) before after ending =
+      Ended key_gen_ending (KeyGenEnds disk_of (lms_of height) (ots_of width) (below_of bottom) (entropy_of.left before.entropy) (entropy_of.left after.entropy) before.disk after.disk (sink_of.contents before.sink) (sink_of.contents after.sink)) ending
       × (after ≡ record before { sink = after.sink; disk = after.disk; entropy = after.entropy })
   EndsOf command.Log before after ending =
       Ended log_ending (LogEnds (keeper_of.content after.keeper) (sink_of.contents before.sink) (sink_of.contents after.sink)) ending
@@ -96,6 +97,9 @@ module _ {S K R D E C : Type 0} (source_of : source.Ghosts S) (sink_of : sink.Gh
       Ended approve_ending (ApproveEnds keeper_of disk_of name target (clock_of.left before.clock) (clock_of.left after.clock) before.keeper after.keeper before.disk after.disk (sink_of.contents before.sink) (sink_of.contents after.sink)) ending
       × LeavesOnly disk_of.moment disk_of.left_since before.disk after.disk (KeepsUsed (disk_of.may_leave before.disk))
       × (after ≡ record before { sink = after.sink; keeper = after.keeper; disk = after.disk; clock = after.clock })
+  EndsOf (command.Demo count) before after ending =
+      Ended demo_ending (DemoEnds count keeper_of before.keeper after.keeper (sink_of.contents before.sink) (sink_of.contents after.sink)) ending
+      × (after ≡ record before { sink = after.sink; keeper = after.keeper })
 
   -- the words ask for this command, and it ended so
   pub record RunsCommand (words : List (List ℕ)) (before after : World S K R D E C) (ending : Ending) : Type 0 where

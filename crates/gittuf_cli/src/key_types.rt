@@ -2,7 +2,7 @@
 
 ghost use Rattle.std.specs.Prelude.{◌≡◌, ◌≤◌};
 ghost use Rattle.lms_keys.specs.LmsType.{height};
-ghost use Rattle.gittuf_cli.specs.KeyTypes.{lms_of, ots_of};
+ghost use Rattle.gittuf_cli.specs.KeyTypes.{below_of, lms_of, ots_of};
 
 use command_words::{Height, Width};
 use lmots::OtsType;
@@ -17,6 +17,16 @@ pub(crate) fn lms_of(levels: Height) -> LmsType
         Height::H5 => LmsType::H5,
         Height::H10 => LmsType::H10,
         Height::H15 => LmsType::H15,
+    }
+}
+
+/// The type of the trees below, where there are two levels.
+pub(crate) fn below_of(bottom: Option<Height>) -> Option<LmsType>
+    ensures { result ≡ below_of bottom }
+{
+    match bottom {
+        None => None,
+        Some(height) => Some(lms_of(height)),
     }
 }
 

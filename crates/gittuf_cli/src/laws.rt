@@ -4,6 +4,7 @@ ghost use Rattle.gittuf_cli.specs.Contents.{OneOutcome, TellsOutcome};
 
 use command_words::laws::one_command;
 use commands_approvals::laws::{one_of_approvals, tells_of_approvals};
+use commands_demo::laws::{one_of_demo, tells_of_demo};
 use commands_history::laws::{one_of_history, tells_of_history};
 use commands_keys::laws::{one_of_keys, tells_of_keys};
 use commands_log::laws::{one_of_log, tells_of_log};
@@ -27,6 +28,7 @@ pub fn tells_outcome<S: Source, K: Sink, R: Keeper, D: Disk, E: Entropy, C: Cloc
     tells_of_trees::<R>();
     tells_of_policy::<R, D>();
     tells_of_approvals::<R, D>();
+    tells_of_demo::<R>();
 }
 
 /// There is at most one ending for the same words and content; for `snapshot` where objects are made of the listing or
@@ -42,4 +44,5 @@ pub fn one_outcome()
     one_of_trees();
     one_of_policy();
     one_of_approvals();
+    one_of_demo();
 }

@@ -7,9 +7,10 @@ ghost use Rattle.gittuf_cli.specs.Runs.{Ends, EndsOf, Ran, Says};
 ghost use Rattle.gittuf_cli.specs.Worlds.{faults_of, world_of};
 
 use crate::Outside;
-use crate::key_types::{lms_of, ots_of};
+use crate::key_types::{below_of, lms_of, ots_of};
 use command_words::{Command, WordsFault, read_command};
 use commands_approvals::{approve, approve_ending};
+use commands_demo::{demo, demo_ending};
 use commands_history::{log, log_ending};
 use commands_keys::{key_gen, key_gen_ending, seal, seal_ending};
 use commands_log::{annotate, record, record_ending};
@@ -60,11 +61,16 @@ fn carry_out<S: Source, K: Sink, F: Sink, R: Keeper, D: Disk, E: Entropy, C: Clo
             );
             import_ending(&outcome)
         }
-        Command::KeyGen { height, width } => {
+        Command::KeyGen {
+            height,
+            width,
+            bottom,
+        } => {
             let outcome = key_gen(
                 alloc,
                 lms_of(*height),
                 ots_of(*width),
+                below_of(*bottom),
                 &mut outside.sink,
                 &mut outside.disk,
                 &mut outside.entropy,
@@ -151,6 +157,10 @@ fn carry_out<S: Source, K: Sink, F: Sink, R: Keeper, D: Disk, E: Entropy, C: Clo
                 &mut outside.clock,
             );
             approve_ending(&outcome)
+        }
+        Command::Demo { count } => {
+            let outcome = demo(alloc, *count, &mut outside.sink, &mut outside.keeper);
+            demo_ending(&outcome)
         }
     }
 }

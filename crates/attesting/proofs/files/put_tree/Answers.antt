@@ -1,8 +1,8 @@
 use Rattle.std.proofs.Common.{sym, ap, subst, ◌∙◌, ◌++◌, ◌∷◌, []}
 use Rattle.git_object.specs.Objects.{Pair, object_id}
 use Rattle.git_object.specs.Trees.{AreWellFormed}
-use Rattle.attesting.specs.Entries.{put_entry}
-use Rattle.attesting.proofs.InOrder.{put_is}
+use Rattle.tree_editing.specs.Entries.{put_entry}
+use Rattle.tree_editing.proofs.InOrder.{put_is}
 use Rattle.attesting.proofs.Puts.{tree_made}
 use Rattle.attesting.proofs.files.put_tree.Goals as goal
 

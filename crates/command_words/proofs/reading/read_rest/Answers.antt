@@ -17,3 +17,6 @@ returns-in-Annotate-clause-outside c = rw c.in-Annotate.is c.read_annotate.ensur
 
 pub returns-in-Approve-clause-outside : goal.returns-in-Approve-clause-outside
 returns-in-Approve-clause-outside c = rw c.in-Approve.is c.read_approve.ensures.outside
+
+pub returns-in-Demo-clause-outside : goal.returns-in-Demo-clause-outside
+returns-in-Demo-clause-outside c = rw c.in-Demo.is c.read_demo.ensures.outside

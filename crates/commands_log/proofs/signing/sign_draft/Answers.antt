@@ -1,8 +1,6 @@
 use Rattle.std.proofs.Common.{◌≡◌, ◌∙◌, ℕ, List, ap, subst}
 use Rattle.sha2.specs.Sha256.{sha256}
-use Rattle.lms_keys.specs.PublicKey.{key_bytes}
-use Rattle.lms_keys.specs.Secret.{Secret, public_key_of}
-use Rattle.lms_keys.specs.declared.public_key.PublicKey.{PublicKey}
+use Rattle.hss_keys.specs.Secret.{Secret, public_bytes}
 use Rattle.key_file.specs.Using.{SignsWith}
 use Rattle.rsl_chain.specs.Drafts.{IsReadWith, signed_text_of}
 use Rattle.rsl_chain.specs.declared.words.SignatureLine.{SignatureLine}
@@ -11,7 +9,7 @@ use Rattle.commands_log.specs.Entries.{signed_by}
 use Rattle.commands_log.proofs.signing.sign_draft.Goals as goal
 
 -- a signature's line by its parts
-line_is : (secret : Secret) (signer signature bytes : List ℕ) → signer ≡ sha256 (key_bytes (public_key_of secret)) → bytes ≡ signature
+line_is : (secret : Secret) (signer signature bytes : List ℕ) → signer ≡ sha256 (public_bytes secret) → bytes ≡ signature
     → ◌≡◌ {A = SignatureLine} (record { signer = signer; signature = bytes }) (signed_by secret signature)
 line_is secret signer signature bytes by same = cc
 
@@ -20,8 +18,8 @@ returns-in-Ok-join_signature-clause-ends g c =
     let secret : Secret = c.args.key.signer.secret in
     let signature : List ℕ = c.in-Ok-use_leaf.signature in
     let unsigned : List ℕ = c.in-Ok.unsigned in
-    let signer : c.key_id-signer.result ≡ sha256 (key_bytes (public_key_of secret)) =
-    c.key_id-signer.ensures ∙ ap sha256 c.write.ensures ∙ ap (λ (k : PublicKey). sha256 (key_bytes k)) c.public.ensures in
+    let signer : c.key_id-signer.result ≡ sha256 (public_bytes secret) =
+    c.key_id-signer.ensures ∙ ap sha256 c.public_bytes.ensures in
     let line = line_is secret c.key_id-signer.result signature c.as_slice-3.result.now signer c.as_slice-3.ensures in
     let first : c.as_slice.result.now ≡ unsigned = c.as_slice.ensures in
     let second : c.as_slice-2.result.now ≡ unsigned = c.as_slice-2.ensures in

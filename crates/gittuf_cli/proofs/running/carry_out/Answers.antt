@@ -1,8 +1,13 @@
+use Rattle.std.proofs.Common.{sym, subst}
+use Rattle.std.specs.Prelude.{Option}
+use Rattle.command_words.specs.FirstWords.{IsWithinLimits}
+use Rattle.lms_keys.specs.declared.lms_type.LmsType.{LmsType}
 use Rattle.endings.proofs.Counting.{as_ended}
 use Rattle.commands_approvals.proofs.Counted as approvals
 use Rattle.commands_approvals.specs.Outcomes.{approve_ending}
+use Rattle.commands_demo.specs.Demos.{demo_ending}
 use Rattle.commands_history.specs.Logging.{log_ending}
-use Rattle.commands_keys.specs.MakingKeys.{key_gen_ending}
+use Rattle.commands_keys.specs.MakingKeys.{IsLow, key_gen_ending}
 use Rattle.commands_keys.specs.Sealing.{seal_ending}
 use Rattle.commands_log.proofs.Counted.{counted}
 use Rattle.commands_log.specs.Outcomes.{record_ending}
@@ -13,7 +18,9 @@ use Rattle.commands_store.specs.Exporting.{export_ending}
 use Rattle.commands_store.specs.Importing.{import_ending}
 use Rattle.commands_store.specs.Verifying.{verify_ending}
 use Rattle.commands_trees.specs.Snapshots.{snapshot_ending}
+use Rattle.gittuf_cli.specs.KeyTypes.{lms_of}
 use Rattle.gittuf_cli.specs.Worlds.{faults_of, world_of}
+use Rattle.gittuf_cli.proofs.KeyHeights.{low}
 use Rattle.gittuf_cli.proofs.running.carry_out.Goals as goal
 
 pub returns-in-VerifyRef-clause-counted : goal.returns-in-VerifyRef-clause-counted
@@ -30,6 +37,13 @@ pub returns-in-Import-clause-counted : goal.returns-in-Import-clause-counted
 returns-in-Import-clause-counted g c =
     as_ended _ _ c.import_ending.result (import_ending c.import-outcome.result) c.import_ending.ensures
     (c.import-outcome.ensures.counted (faults_of g.S.Source g.K.Sink g.R.Keeper g.D.Disk g.E.Entropy g.C.Clock (world_of c.args.outside.now)))
+
+pub key_gen-outcome-requires : goal.key_gen-outcome-requires
+key_gen-outcome-requires g c = record {
+  low = subst (λ (l : LmsType). IsLow l c.below_of.result) (sym c.lms_of.ensures.is)
+      (subst (λ (b : Option LmsType). IsLow (lms_of c.in-KeyGen.height) b) (sym c.below_of.ensures)
+      (low c.in-KeyGen.height c.in-KeyGen.width c.in-KeyGen.bottom (subst IsWithinLimits c.in-KeyGen.is c.requires)));
+}
 
 pub returns-in-KeyGen-clause-counted : goal.returns-in-KeyGen-clause-counted
 returns-in-KeyGen-clause-counted g c =
@@ -79,3 +93,8 @@ returns-in-Approve-clause-counted g c =
     as_ended _ _ c.approve_ending.result (approve_ending c.approve-outcome.result) c.approve_ending.ensures
     (approvals.counted (faults_of g.S.Source g.K.Sink g.R.Keeper g.D.Disk g.E.Entropy g.C.Clock (world_of c.args.outside.now)) _ _ _ _ c.approve-outcome.result
     c.approve-outcome.ensures.sink c.approve-outcome.ensures.keeper c.approve-outcome.ensures.disk c.approve-outcome.ensures.clock)
+
+pub returns-in-Demo-clause-counted : goal.returns-in-Demo-clause-counted
+returns-in-Demo-clause-counted g c =
+    as_ended _ _ c.demo_ending.result (demo_ending c.demo-outcome.result) c.demo_ending.ensures
+    (c.demo-outcome.ensures.counted (faults_of g.S.Source g.K.Sink g.R.Keeper g.D.Disk g.E.Entropy g.C.Clock (world_of c.args.outside.now)))

@@ -1,0 +1,4 @@
+mod FilledStores
+mod OneDemo
+mod ToldDemo
+mod CountedDemo

@@ -1,0 +1,2 @@
+mod NewJournals
+mod FirstLeaves

@@ -1,0 +1,34 @@
+-- The references of a demonstration have names.
+use Rattle.std.proofs.Common.{lit≤, refl}
+use Rattle.std.proofs.Math.Utf8.{encode}
+use Rattle.git_object.specs.Names.{IsRefName}
+use Rattle.log_entries.specs.Entries.{policy_name}
+use Rattle.demo_making.specs.Histories.{main_name}
+
+pub main_is_named : IsRefName main_name
+unfolding encode
+main_is_named = record {
+  begins = refl;
+  utf8 = (main_name, (refl, refl));
+  short = lit≤ tt;
+  few = lit≤ tt;
+  whole = refl;
+  plain = refl;
+  no_dots = refl;
+  no_at = refl;
+  no_dot_last = refl;
+}
+
+pub policy_is_named : IsRefName policy_name
+unfolding encode
+policy_is_named = record {
+  begins = refl;
+  utf8 = (policy_name, (refl, refl));
+  short = lit≤ tt;
+  few = lit≤ tt;
+  whole = refl;
+  plain = refl;
+  no_dots = refl;
+  no_at = refl;
+  no_dot_last = refl;
+}
