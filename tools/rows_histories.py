@@ -1,10 +1,10 @@
 """Histories to be judged: a repository with a log, made entry by entry, and what must come of a run over it."""
 
-import hashlib
 import textwrap
 
 from rows_objects import AUTHOR, EMPTY_TREE, FILE, ZEROS, Repository
 from rows_policies import approval, base64_of, encoded, envelope, root, rule, rule_file
+from rows_runs import Run
 from rows_signing import Key
 
 MAIN = "refs/heads/main"
@@ -15,8 +15,6 @@ OWNER, MAINTAINER, REVIEWER, KEEPER, NEWCOMER = (
     Key(name) for name in ("owner", "maintainer", "reviewer", "keeper", "newcomer")
 )
 MESSAGE_BEGINS, MESSAGE_ENDS, MESSAGE_WIDTH = "-----BEGIN MESSAGE-----", "-----END MESSAGE-----", 64
-# A text of more bytes is printed by its digest.
-LONG = 1000
 # Two trees that differ in one path alone.
 BEFORE, AFTER = {b"src/x": b"before\n"}, {b"src/x": b"after\n"}
 
@@ -132,31 +130,6 @@ def guarded(top=None, **files):
     history = History()
     history.policy(base_files(top or base_top()) | files)
     return history
-
-
-class Run:
-    """A command, how it is run, and the endings that must be seen: a status, what is printed, and what is said. What is
-    told of a key file and of standard input is for this run and for those after it in the row; each of them finds the
-    key file as the run before left it."""
-
-    def __init__(self, words, *endings, way="run", key=None, source=None):
-        self.way, self.words, self.endings, self.key, self.source = way, words, endings, key, source
-
-    def record(self):
-        told = ((b"key", self.key), (b"source", self.source))
-        records = [b"%s %d\n%s\n" % (word, len(body), body) for word, body in told if body is not None]
-        return b"".join(records) + f"{self.way} {self.words}\n".encode()
-
-    def lines(self, name):
-        return "".join(f"{name} {status} {quoted(printed)} {quoted(said)}\n" for status, printed, said in self.endings)
-
-
-def quoted(text):
-    """A text as it is printed: between quotes, or a long one by its length and its digest."""
-    body = text if isinstance(text, bytes) else text.encode()
-    if len(body) > LONG:
-        return f"{len(body)} bytes of SHA-256 {hashlib.sha256(body).hexdigest()}"
-    return '"' + body.decode().replace("\n", "\\n") + '"'
 
 
 def asked(status, printed, reference=MAIN, words=""):

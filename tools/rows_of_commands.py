@@ -1,9 +1,10 @@
 """Rows on the commands that sign, that put files on a reference, and that apply and explain a policy."""
 
 from rows_histories import BEFORE, KEEPER, MAIN, MAINTAINER, OWNER, POLICY, REVIEWER
-from rows_histories import History, Run, asked_again, base_root, guarded, keys_rule, main_rule, top_file
+from rows_histories import History, asked_again, base_root, guarded, keys_rule, main_rule, top_file
 from rows_objects import EXECUTABLE, FILE, LINK, PROGRAM, ZEROS
 from rows_policies import encoded, envelope, rule, rule_file
+from rows_runs import Run, done, given, refused
 from rows_signing import LEAVES
 
 NO_KEY_FILE = b"LMSKEY01"
@@ -23,16 +24,8 @@ def listing(files):
     return b"".join(b"%s %d %s\n%s\n" % (mode, len(body), path, body) for path, (mode, body) in sorted(files.items()))
 
 
-def done(words, printed, **more):
-    return Run(words, (0, printed + "\n", ""), **more)
-
-
 def sealed(words, text, **more):
     return Run(words, (0, text + b"\n", ""), **more)
-
-
-def refused(words, status, said, **more):
-    return Run(words, (status, "", said + "\n"), **more)
 
 
 def put(history, reference, files, **more):
@@ -136,7 +129,7 @@ def files_put_recorded_and_skipped():
         f"entry 6 {history.ids[5]} ref refs/heads/none {ZEROS}"
     )
     violation = asked_again(1, "violation refs/heads/main 1 no-policy")
-    return History(), *runs, done("log", log), violation, Run("export", (0, history.repository.stream(), ""))
+    return History(), *runs, done("log", log), violation, given(history.repository.stream())
 
 
 def no_files_put():
@@ -158,7 +151,7 @@ def no_files_put():
         *(refused("snapshot refs/heads/lost", 3, "input", source=one) for one in lists),
         refused("snapshot refs/heads/lost", 3, f"object {NOWHERE}", source=b"100644 0 a\n\n"),
         refused("snapshot refs/heads/main", 3, f"object {blob}"),
-        Run("export", (0, history.repository.stream(), "")),
+        given(history.repository.stream()),
     )
 
 
@@ -225,7 +218,7 @@ def log_that_breaks():
         done("import", "imported", key=with_used(KEEPER)),
         *(Run(words, (3, f"log-broken {first}\n", "")) for words in (*commands, f"verify-ref {MAIN}")),
         sealed("seal", History().seal(b"{}", [KEEPER]), source=b"{}"),
-        Run("export", (0, history.repository.stream(), "")),
+        given(history.repository.stream()),
     )
 
 

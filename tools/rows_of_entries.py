@@ -1,10 +1,11 @@
 """Rows on who signed an entry, on skips, and on recoveries."""
 
 from rows_histories import AFTER, ATTESTATIONS, BEFORE, KEEPER, MAIN, MAINTAINER, NEWCOMER, OWNER, REVIEWER
-from rows_histories import History, Run, asked, asked_again, base_files, base_top, guarded, keys_rule, main_rule
+from rows_histories import History, asked, asked_again, base_files, base_top, guarded, keys_rule, main_rule
 from rows_histories import top_file
 from rows_objects import ZEROS
 from rows_policies import approval, rule, rule_file
+from rows_runs import Run
 from rows_signing import TwoLevels
 
 

@@ -1,19 +1,31 @@
-//! Runs commands over repositories in memory, row by row, and prints a line for each run.
+//! Runs commands over objects in memory, row by row, and prints a line for each run.
 //!
-//! Standard input is the rows that `tools/make-rows` writes: bytes that nothing of this workspace made, and the words
-//! of the commands to run over them. `stdout` beside it has the lines that must come, which were typed by hand from
-//! what the formats say. A line is the row's name, the status, and what the command printed and what it said of a
-//! refusal.
+//! Standard input is the rows that `tools/make-rows` writes: bytes that nothing of this workspace made, which calls of
+//! the objects fail, and the words of the commands to run over them. `stdout` beside it has the lines that must come,
+//! which were typed by hand from what the formats say. A line is the row's name, the status, and what the command
+//! printed and what it said of a refusal; or the name, and what the key file holds or a call below the commands answers.
 #![tactic(auto)]
 
+mod conditions;
+mod ending_answers;
+mod endless;
+mod entry_answers;
 mod lines;
+mod outside;
+mod policy_answers;
+pub mod proved_rows;
+mod questions;
 mod records;
 mod runs;
 mod scenes;
+mod state_answers;
+mod stream_answers;
+mod words;
 
-use crate::lines::line_of;
+use crate::endless::export;
+use crate::lines::{line_of, told};
+use crate::outside::Seen;
 use crate::records::{Piece, Record, first_record};
-use crate::runs::Seen;
 use crate::scenes::Scene;
 use edge_io::{Failed, ReadFault, Sink, StdSink, StdSource, read_all, write_all};
 use octets::Memory;
@@ -67,6 +79,20 @@ fn tell<K: Sink>(alloc: Global, name: &[u8], seen: &[Seen], out: &mut K) -> Resu
     Ok(())
 }
 
+// Prints a text.
+fn tell_text<K: Sink>(alloc: Global, name: &[u8], text: &[u8], out: &mut K) -> Result<(), Stop> {
+    let line = told(alloc, name, text)?;
+    write_all(out, line.as_slice())?;
+    Ok(())
+}
+
+// Prints what is seen of an export without an end.
+fn tell_endless<K: Sink>(alloc: Global, name: &[u8], size: usize, out: &mut K) -> Result<(), Stop> {
+    let line = line_of(alloc, name, &export(alloc, size)?)?;
+    write_all(out, line.as_slice())?;
+    Ok(())
+}
+
 // The bytes that are kept under a name.
 fn kept<'a>(pieces: &[Piece<'a>], name: &[u8]) -> Option<&'a [u8]> {
     for piece in pieces {
@@ -75,6 +101,54 @@ fn kept<'a>(pieces: &[Piece<'a>], name: &[u8]) -> Option<&'a [u8]> {
         }
     }
     None
+}
+
+// Adds bytes so many times.
+fn add_times(scene: &mut Scene, count: u64, bytes: &[u8]) -> Result<(), Memory> {
+    for _ in 0..count {
+        scene.add_bytes(bytes)?;
+    }
+    Ok(())
+}
+
+// Sets the row up by a record, or runs what it asks for, and answers the row afterwards.
+fn step<'a, K: Sink>(
+    alloc: Global,
+    record: Record<'a>,
+    before: Scene,
+    pieces: &mut Vec<Piece<'a>>,
+    out: &mut K,
+) -> Result<Scene, Stop> {
+    let mut scene = before;
+    match record {
+        Record::Row { name } => return Ok(Scene::new(alloc, name)?),
+        Record::Bytes { bytes } => scene.add_bytes(bytes)?,
+        Record::Source { bytes } => scene.set_bytes(alloc, bytes)?,
+        Record::Keep { piece } => pieces.push(piece)?,
+        Record::Take { count, name } => match kept(pieces.as_slice(), name) {
+            Some(bytes) => add_times(&mut scene, count, bytes)?,
+            None => return Err(Stop::Input),
+        },
+        Record::Key { key } => scene.set_key(alloc, key)?,
+        Record::Condition { condition } => {
+            if !scene.set_condition(alloc, condition)? {
+                return Err(Stop::Input);
+            }
+        }
+        Record::Held => tell_text(alloc, scene.name(), scene.held(), out)?,
+        Record::Endless { size } => tell_endless(alloc, scene.name(), size, out)?,
+        Record::Run { way, words } => {
+            let (seen, later) = scene.run(alloc, way, words)?;
+            scene = later;
+            tell(alloc, scene.name(), seen.as_slice(), out)?;
+        }
+        Record::Ask { question } => {
+            let (text, later) = scene.ask(alloc, question)?;
+            scene = later;
+            tell_text(alloc, scene.name(), text.as_slice(), out)?;
+        }
+    }
+    Ok(scene)
 }
 
 // Runs all rows, one record after the other.
@@ -90,22 +164,7 @@ fn play<K: Sink>(alloc: Global, rows: &[u8], out: &mut K) -> Result<(), Stop> {
             return Err(Stop::Input);
         };
         rest = after;
-        match record {
-            Record::Row { name } => scene = Scene::new(alloc, name)?,
-            Record::Bytes { bytes } => scene.add_bytes(bytes)?,
-            Record::Source { bytes } => scene.set_bytes(alloc, bytes)?,
-            Record::Keep { piece } => pieces.push(piece)?,
-            Record::Take { name } => match kept(pieces.as_slice(), name) {
-                Some(bytes) => scene.add_bytes(bytes)?,
-                None => return Err(Stop::Input),
-            },
-            Record::Key { key } => scene.set_key(alloc, key)?,
-            Record::Run { way, words } => {
-                let (seen, later) = scene.run(alloc, way, words)?;
-                scene = later;
-                tell(alloc, scene.name(), seen.as_slice(), out)?;
-            }
-        }
+        scene = step(alloc, record, scene, &mut pieces, out)?;
     }
     Ok(())
 }

@@ -1,13 +1,15 @@
 //! A row: its store, its bytes and its key file, and the ways in which commands run over them.
 
-use crate::records::Way;
-use crate::runs::{Seen, run_over};
-use edge_io::MemSource;
+use crate::conditions::{Conditions, Part};
+use crate::outside::Seen;
+use crate::questions::{Question, answer};
+use crate::records::{Condition, Way};
+use crate::runs::run_over;
+use crate::words::{numbers_of, words_of};
 use keeper_api::MemKeeper;
 use octets::{Memory, Octets};
 use std::alloc::Global;
-use std::str;
-use text_reader::split_word;
+use std::mem;
 
 // So many calls of an object are let fail at most, one a run.
 const CALLS: u64 = 100_000;
@@ -22,26 +24,7 @@ pub struct Scene {
     bytes: Octets,
     key: Octets,
     keeper: MemKeeper,
-}
-
-// The words of a line, which a space divides. One that is not UTF-8 ends them.
-fn words_of(alloc: Global, line: &[u8]) -> Result<Vec<String>, Memory> {
-    let mut words = Vec::new(alloc);
-    let mut rest = line;
-    for _ in 0..line.len() {
-        let (word, after) = match split_word(rest) {
-            Some(parts) => parts,
-            None => (rest, b"".as_slice()),
-        };
-        if let Ok(text) = str::from_utf8(word) {
-            words.push(String::from_str(alloc, text)?)?;
-        }
-        if after.is_empty() {
-            break;
-        }
-        rest = after;
-    }
-    Ok(words)
+    conditions: Conditions,
 }
 
 // Adds what was seen, unless the last run ended in the same.
@@ -57,18 +40,24 @@ fn add(seen: &mut Vec<Seen>, one: Seen) -> Result<(), Memory> {
 }
 
 impl Scene {
-    /// A row of this name with an empty store, no bytes, and an empty key file.
+    /// A row of this name with an empty store, no bytes, an empty key file, and the usual conditions.
     pub fn new(alloc: Global, name: &[u8]) -> Result<Scene, Memory> {
         Ok(Scene {
             name: Octets::from_slice(alloc, name)?,
             bytes: Octets::new(alloc),
             key: Octets::new(alloc),
             keeper: MemKeeper::new(alloc),
+            conditions: Conditions::usual(alloc)?,
         })
     }
 
     pub fn name(&self) -> &[u8] {
         self.name.as_slice()
+    }
+
+    /// What the key file holds.
+    pub fn held(&self) -> &[u8] {
+        self.key.as_slice()
     }
 
     pub fn add_bytes(&mut self, bytes: &[u8]) -> Result<(), Memory> {
@@ -85,30 +74,60 @@ impl Scene {
         Ok(())
     }
 
-    // A source of the first bytes, as many as there are up to this number, of which the calls with these numbers fail.
-    fn source(&self, alloc: Global, len: usize, calls: Vec<u64>) -> Result<MemSource, Memory> {
-        let bytes = self.bytes.as_slice();
-        let (front, _) = bytes.split_at(len.min(bytes.len()));
-        Ok(MemSource::failing(Octets::from_slice(alloc, front)?, calls))
+    /// Takes a condition of the next command. Answered is false where it has a word for a number that is none.
+    pub fn set_condition(
+        &mut self,
+        alloc: Global,
+        condition: Condition<'_>,
+    ) -> Result<bool, Memory> {
+        match condition {
+            Condition::Room { part, bytes } => self.conditions.set_room(part, bytes),
+            Condition::Failing { part, calls } => match numbers_of(alloc, calls)? {
+                Some(calls) => self.conditions.set_calls(part, calls),
+                None => return Ok(false),
+            },
+            Condition::Random { bytes } => {
+                self.conditions
+                    .set_random(Octets::from_slice(alloc, bytes)?);
+            }
+            Condition::Moments { moments } => match numbers_of(alloc, moments)? {
+                Some(moments) => self.conditions.set_moments(moments),
+                None => return Ok(false),
+            },
+        }
+        Ok(true)
     }
 
-    // Runs over the row's store, of which the calls with these numbers fail, and answers the status.
+    // The conditions of the next command, after which they are the usual ones again.
+    fn take_conditions(&mut self, alloc: Global) -> Result<Conditions, Memory> {
+        let usual = Conditions::usual(alloc)?;
+        Ok(mem::replace(&mut self.conditions, usual))
+    }
+
+    // Runs over the row's store, and answers the status.
     fn over_store(
         self,
         alloc: Global,
         words: &[String],
-        calls: Vec<u64>,
+        conditions: Conditions,
         seen: &mut Vec<Seen>,
     ) -> Result<(u8, Scene), Memory> {
-        let source = self.source(alloc, usize::MAX, Vec::new(alloc))?;
         let Scene {
             name,
             bytes,
             key,
             keeper,
+            conditions: usual,
         } = self;
-        let keeper = MemKeeper::failing(keeper, calls, Vec::new(alloc));
-        let (one, keeper, key) = run_over(alloc, words, source, keeper, key.as_slice())?;
+        let source = bytes.copy()?;
+        let (one, keeper, key) = run_over(
+            alloc,
+            words,
+            conditions,
+            source,
+            keeper,
+            key.as_slice(),
+        )?;
         let status = one.status;
         add(seen, one)?;
         let scene = Scene {
@@ -116,20 +135,24 @@ impl Scene {
             bytes,
             key,
             keeper,
+            conditions: usual,
         };
         Ok((status, scene))
     }
 
-    // Runs over the row's store until no call fails.
-    fn over_failing_stores(
+    // Runs over the row's store until no call of the object fails.
+    fn over_failing(
         self,
         alloc: Global,
         words: &[String],
+        part: Part,
         seen: &mut Vec<Seen>,
     ) -> Result<Scene, Memory> {
         let mut scene = self;
         for call in 1..CALLS {
-            let (status, later) = scene.over_store(alloc, words, vec![in alloc; call]?, seen)?;
+            let mut conditions = Conditions::usual(alloc)?;
+            conditions.set_calls(part, vec![in alloc; call]?);
+            let (status, later) = scene.over_store(alloc, words, conditions, seen)?;
             scene = later;
             if status != FAULT {
                 break;
@@ -138,16 +161,27 @@ impl Scene {
         Ok(scene)
     }
 
-    // Runs over an empty store, and answers the status.
+    // Runs over an empty store and the first bytes, as many as there are up to this number, and answers the status.
     fn over_nothing(
         &self,
         alloc: Global,
         words: &[String],
-        source: MemSource,
+        conditions: Conditions,
+        len: usize,
         seen: &mut Vec<Seen>,
     ) -> Result<u8, Memory> {
+        let bytes = self.bytes.as_slice();
+        let (front, _) = bytes.split_at(len.min(bytes.len()));
+        let source = Octets::from_slice(alloc, front)?;
         let keeper = MemKeeper::new(alloc);
-        let (one, ..) = run_over(alloc, words, source, keeper, self.key.as_slice())?;
+        let (one, ..) = run_over(
+            alloc,
+            words,
+            conditions,
+            source,
+            keeper,
+            self.key.as_slice(),
+        )?;
         let status = one.status;
         add(seen, one)?;
         Ok(status)
@@ -160,8 +194,7 @@ impl Scene {
         seen: &mut Vec<Seen>,
     ) -> Result<(), Memory> {
         for len in 0..self.bytes.len() {
-            let source = self.source(alloc, len, Vec::new(alloc))?;
-            self.over_nothing(alloc, words, source, seen)?;
+            self.over_nothing(alloc, words, Conditions::usual(alloc)?, len, seen)?;
         }
         Ok(())
     }
@@ -173,8 +206,9 @@ impl Scene {
         seen: &mut Vec<Seen>,
     ) -> Result<(), Memory> {
         for call in 1..CALLS {
-            let source = self.source(alloc, usize::MAX, vec![in alloc; call]?)?;
-            if self.over_nothing(alloc, words, source, seen)? != FAULT {
+            let mut conditions = Conditions::usual(alloc)?;
+            conditions.set_calls(Part::Source, vec![in alloc; call]?);
+            if self.over_nothing(alloc, words, conditions, usize::MAX, seen)? != FAULT {
                 break;
             }
         }
@@ -186,24 +220,30 @@ impl Scene {
     pub fn run(self, alloc: Global, way: Way, line: &[u8]) -> Result<(Vec<Seen>, Scene), Memory> {
         let words = words_of(alloc, line)?;
         let mut seen = Vec::new(alloc);
+        let mut scene = self;
+        let conditions = scene.take_conditions(alloc)?;
         match way {
             Way::Once => {
-                let calls = Vec::new(alloc);
-                let (_, scene) = self.over_store(alloc, words.as_slice(), calls, &mut seen)?;
-                Ok((seen, scene))
+                let (_, later) = scene.over_store(alloc, words.as_slice(), conditions, &mut seen)?;
+                scene = later;
             }
-            Way::FailingStore => {
-                let scene = self.over_failing_stores(alloc, words.as_slice(), &mut seen)?;
-                Ok((seen, scene))
+            Way::Fronts => scene.over_fronts(alloc, words.as_slice(), &mut seen)?,
+            Way::Failing(Part::Source) => {
+                scene.over_failing_sources(alloc, words.as_slice(), &mut seen)?;
             }
-            Way::Fronts => {
-                self.over_fronts(alloc, words.as_slice(), &mut seen)?;
-                Ok((seen, self))
-            }
-            Way::FailingSource => {
-                self.over_failing_sources(alloc, words.as_slice(), &mut seen)?;
-                Ok((seen, self))
+            Way::Failing(part) => {
+                scene = scene.over_failing(alloc, words.as_slice(), part, &mut seen)?;
             }
         }
+        Ok((seen, scene))
+    }
+
+    /// The answer to a question over the row's store.
+    pub fn ask(self, alloc: Global, question: Question<'_>) -> Result<(Octets, Scene), Memory> {
+        let mut scene = self;
+        let conditions = scene.take_conditions(alloc)?;
+        scene.keeper = conditions.store(scene.keeper);
+        let text = answer(alloc, question, scene.bytes.as_slice(), &mut scene.keeper)?;
+        Ok((text, scene))
     }
 }

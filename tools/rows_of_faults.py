@@ -1,0 +1,131 @@
+"""Rows on what is wrong with a policy, first fault first, as `policy-apply` and a verdict tell it."""
+
+from rows_histories import BEFORE, KEEPER, MAIN, MAINTAINER, NEWCOMER, OWNER, POLICY
+from rows_histories import History, asked, asked_again, base_files, base_root, base_top, guarded, top_file
+from rows_objects import EXECUTABLE, FILE, LINK, PROGRAM, ZEROS
+from rows_policies import envelope, root, rule, rule_file
+from rows_runs import Anew, Held, Run, done, given, refused
+from rows_signing import LEAVES
+
+NOWHERE = "e" * 64
+# Rules stand in a chain so long at most, and a policy file has so many bytes.
+DEEPEST, LARGEST = 8, 1_048_576
+
+
+def verdicts(rows):
+    """What is said of the first policy, whose files are texts by name, for each of them."""
+    runs = []
+    for files, why in rows:
+        history = History()
+        tree = {b"metadata/" + name: it for name, it in files(history).items()}
+        history.record(POLICY, history.commit(tree), OWNER)
+        line = f"violation {POLICY} 1 not-epoch {why}" if why else f"accepted {POLICY} 1 entries"
+        ending = (1 if why else 0, line + "\n", "")
+        runs += [Anew(), Run(f"verify-ref {POLICY} --stdin", ending, source=history.repository.stream())]
+    return History(), *runs
+
+
+def sealed(history, **files):
+    """Policy files by stem, which are a payload and its signers."""
+    return {stem.replace("_", "-").encode() + b".json": history.seal(*it) for stem, it in files.items()}
+
+
+def owners(payload, signer=OWNER):
+    return payload, [signer]
+
+
+def below(name, rules=()):
+    return rule_file(name, [OWNER], list(rules) or [rule("more", "git:*", [OWNER])])
+
+
+def top(*names):
+    return top_file([OWNER], [rule(name, "git:*", [OWNER]) for name in names])
+
+
+def files_of_a_policy():
+    """A root alone and with files, no root, bad ones, one that nobody signed, a file under another's stem, one that hangs
+    on no rule, and one that another key signed; files go by their stems, so that `a` comes before `a-b`."""
+    good = owners(base_root())
+    with_dev = {"root": good, "targets": owners(top("dev"))}
+    rows = (
+        (lambda it: sealed(it, root=good), None),
+        (lambda it: sealed(it, dev=owners(below("dev")), **with_dev), None),
+        (lambda it: {}, "no-root"),
+        (lambda it: {b"targets.json": b"{}"}, "no-root"),
+        (lambda it: {b"a.json": b"{}", b"root.json": b"{}"}, "bad-file root"),
+        (lambda it: {b"root.json": envelope(base_root(), [(None, b"")])}, "root-threshold 0 of 1"),
+        (lambda it: {b"root.json": envelope(base_root(), [(OWNER.id, b"")])}, "root-threshold 0 of 1"),
+        (lambda it: sealed(it, root=owners(base_root(), KEEPER)), "root-threshold 0 of 1"),
+        (lambda it: sealed(it, root=good, dev=owners(below("dev"))), "unreachable dev"),
+        (lambda it: sealed(it, root=good, a=owners(below("dev")), a_b=owners(below("dev"))), "bad-file a"),
+        (lambda it: sealed(it, dev=owners(below("dev"), KEEPER), **with_dev), "file-threshold dev 0 of 1"),
+        (lambda it: sealed(it, root=good, targets=owners(below("dev"))), "bad-file targets"),
+        (lambda it: sealed(it, root=good) | {b".json": b"{}"}, "bad-file "),
+        (lambda it: sealed(it, root=good) | {b"a b%.json": b"{}"}, "bad-file a%20b%25"),
+        (lambda it: sealed(it, root=good) | {b"note.txt": b"{}"}, None),
+    )
+    return verdicts(rows)
+
+
+def with_mode(history, mode, text):
+    return {b"root.json": (mode, history.repository.blob(text))}
+
+
+def forms_of_a_policy_file():
+    """A file or an executable, and no link; of at most 1 MiB; and whose object is there."""
+    rows = (
+        (lambda it: with_mode(it, EXECUTABLE, it.seal(base_root(), [OWNER])), None),
+        (lambda it: with_mode(it, LINK, it.seal(base_root(), [OWNER])), "no-root"),
+        (lambda it: with_mode(it, FILE, it.seal(base_root(), [OWNER]).ljust(LARGEST)), None),
+        (lambda it: with_mode(it, FILE, it.seal(base_root(), [OWNER]).ljust(LARGEST + 1)), "bad-file root"),
+        (lambda it: {b"root.json": (FILE, NOWHERE)}, "bad-file root"),
+    )
+    return verdicts(rows)
+
+
+def chain(length):
+    """Rule files in one another, each with one rule, of which the top file has the first: so many rules."""
+    names = [f"r{number}" for number in range(1, length + 1)]
+    files = {name: owners(below(name, [rule(later, "git:*", [OWNER])])) for name, later in zip(names, names[1:])}
+    return lambda it: sealed(it, root=owners(base_root()), targets=owners(top("r1")), **files)
+
+
+def numbers_of_rules():
+    """A chain of eight rules and of nine."""
+    return verdicts(((chain(DEEPEST), None), (chain(DEEPEST + 1), f"too-deep r{DEEPEST + 1}")))
+
+
+def policy_gone():
+    """The policy's reference goes, or stands at what is missing, and the old policy stays in force."""
+    history = guarded()
+    history.record(POLICY, ZEROS, OWNER)
+    history.record(POLICY, NOWHERE, OWNER)
+    history.record(MAIN, history.commit(BEFORE), MAINTAINER)
+    return (
+        history,
+        asked(1, f"violation {POLICY} 2 not-epoch unreadable", POLICY),
+        asked_again(0, f"accepted {MAIN} 1 entries"),
+    )
+
+
+def root_that_does_not_succeed():
+    """`policy-apply` refuses a root that its own keys alone signed, and uses no leaf. Another space is unprotected."""
+    history = History(PROGRAM)
+    history.policy(base_files(base_top()))
+    later = root(2, [NEWCOMER, OWNER], [NEWCOMER], [OWNER])
+    files = base_files(base_top()) | {"root": (later, [NEWCOMER])}
+    rows = {f"metadata/{stem}.json".encode(): history.seal(*it) for stem, it in files.items()}
+    history.repository.set(POLICY, history.commit(rows))
+    key = OWNER.file(bytes(LEAVES))
+    return (
+        History(),
+        done("import", "imported", source=history.repository.stream(), key=key),
+        refused("policy-apply", 3, "policy root-succession 0 of 1"),
+        done("explain file:src/b", "unprotected"),
+        done("explain file:", "unprotected"),
+        Held(key),
+        given(history.repository.stream()),
+    )
+
+
+ROWS = (files_of_a_policy, forms_of_a_policy_file, numbers_of_rules, policy_gone, root_that_does_not_succeed)
