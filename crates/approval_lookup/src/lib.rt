@@ -11,8 +11,6 @@
 mod files;
 mod lookups;
 mod payload_fields;
-#[cfg(test)]
-mod tests;
 
 pub use files::load_file;
 pub use lookups::{approvers, load_approval, path_of};

@@ -17,10 +17,10 @@ told P o (Some more) front e h = subst (λ (p : Option (List ℕ)). IfSome p P) 
 
 -- a line that is wrong breaks there
 pub breaks_line : (at : ℕ) (line more : List ℕ) (fault : Break) → IsLine line → BreaksGrammar at line fault → BreaksLine at ((line ++ 10 ∷ []) ++ more) fault
-breaks_line at line more (BadLine p) is bad = (bad.0, inr (record { line = line; more = more; whole = append_assoc line (10 ∷ []) more; is_line = is; wrong = (refl, bad.1) }))
+breaks_line at line more (BadLine p) is bad = (bad.0, inr (record { line = line; more = more; whole = append_assoc line (10 ∷ []) more; is_line = is; wrong = bad.1 }))
 breaks_line at line more (IdDiffers id found) is bad = bad
 breaks_line at line more (Order p) is bad = bad
-breaks_line at line more (TooLarge limit) is bad = record { line = line; more = more; whole = append_assoc line (10 ∷ []) more; is_line = is; wrong = bad }
+breaks_line at line more (TooLarge limit) is bad = (bad.0, record { line = line; more = more; whole = append_assoc line (10 ∷ []) more; is_line = is; wrong = bad.1 })
 breaks_line at line more (Cut p) is bad = absurd bad
 breaks_line at line more (Failed p) is bad = absurd bad
 breaks_line at line more Memory is bad = record { name = bad.name; id = bad.id; more = more; whole = append_assoc line (10 ∷ []) more ∙ ap (λ (l : List ℕ). l ++ 10 ∷ more) bad.is; is_ref = bad.is_ref }

@@ -9,7 +9,8 @@ use Rattle.edge_io.proofs.Taken.{with_fronts}
 use Rattle.git_object.specs.Objects.{Pair, pair_id}
 use Rattle.git_object.proofs.Runs.{all_push, flat_push}
 use Rattle.keeper_api.specs.declared.changes.RefChange.{RefChange}
-use Rattle.clone_stream.specs.Breaks.{BreaksRecord, Last}
+use Rattle.clone_stream.specs.Breaks.{BreaksRecord}
+use Rattle.clone_stream.specs.Wrongs.{Last}
 use Rattle.clone_stream.specs.Changes.{set_ref}
 use Rattle.clone_stream.specs.Fronts.{AreRead, BreaksRecords, ReadSoFar, last_record, records_text}
 use Rattle.clone_stream.specs.Reading.{ComesAfter, last_of}

@@ -5,7 +5,8 @@ use Rattle.text_reader.proofs.Unique.{same_fronts}
 use Rattle.git_object.specs.Objects.{object_id}
 use Rattle.git_object.specs.Repository.{largest_body}
 use Rattle.git_object.specs.declared.kinds.Kind.{Kind}
-use Rattle.clone_stream.specs.Breaks.{BreaksBody, BreaksLine, BreaksOrder, BreaksRecord, ComesObject, HasBadEnd, HasHead, Last}
+use Rattle.clone_stream.specs.Breaks.{BreaksBody, BreaksLine, BreaksOrder, BreaksRecord}
+use Rattle.clone_stream.specs.Wrongs.{ComesObject, HasBadEnd, HasHead, Last}
 use Rattle.clone_stream.specs.Reading.{ComesAfter}
 use Rattle.clone_stream.specs.Streams.{IsRef, end_line, object_line, ref_line}
 use Rattle.clone_stream.specs.declared.stream_faults.Break.{Break}
@@ -136,11 +137,11 @@ end_front rest more found = record { line = codes "end"; whole = found; is_line 
 line_at : (last : Last) (at : ℕ) (rest : List ℕ) (fault : Break) → BreaksLine at rest fault → IsOfText fault → BreaksAt last at rest fault
 line_at last at rest (BadLine p) b of = elim b.1 [
   | inl long ↦ record { front = unended; is = long; as_it = ap BadLine b.0 }
-  | inr wrong ↦ record { front = says other wrong.more; is = record { line = wrong.line; whole = wrong.whole; is_line = wrong.is_line; says = wrong.wrong.1 }; as_it = ap BadLine b.0 }
+  | inr wrong ↦ record { front = says other wrong.more; is = record { line = wrong.line; whole = wrong.whole; is_line = wrong.is_line; says = wrong.wrong }; as_it = ap BadLine b.0 }
 ]
 line_at last at rest (IdDiffers id found) b of = absurd b
 line_at last at rest (Order p) b of = absurd b
-line_at last at rest (TooLarge limit) b of = record { front = says huge b.more; is = record { line = b.line; whole = b.whole; is_line = b.is_line; says = b.wrong.1 }; as_it = ap TooLarge b.wrong.0 }
+line_at last at rest (TooLarge limit) b of = record { front = says huge b.1.more; is = record { line = b.1.line; whole = b.1.whole; is_line = b.1.is_line; says = b.1.wrong }; as_it = ap TooLarge b.0 }
 line_at last at rest (Cut p) b of = record { front = ended; is = b.1; as_it = ap Cut b.0 }
 line_at last at rest (Failed p) b of = absurd of
 line_at last at rest Memory b of = absurd of

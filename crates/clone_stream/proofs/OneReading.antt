@@ -11,7 +11,7 @@ use Rattle.text_reader.proofs.Unique.{same_fronts, same_until}
 use Rattle.git_object.specs.Objects.{Pair}
 use Rattle.git_object.proofs.NameLemmas.{name_has_no_space}
 use Rattle.git_object.proofs.Runs.{all_front, all_last, one_run}
-use Rattle.clone_stream.specs.Breaks.{ComesObject, Last}
+use Rattle.clone_stream.specs.Wrongs.{ComesObject, Last}
 use Rattle.clone_stream.specs.Fronts.{AreRecords, last_record, records_text}
 use Rattle.clone_stream.specs.Reading.{ComesAfter}
 use Rattle.clone_stream.specs.Streams.{IsOwn, IsRef, end_line, object_line, object_record, ref_line, ref_record}

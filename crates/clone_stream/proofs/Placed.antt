@@ -4,7 +4,8 @@ use Rattle.std.specs.Prelude.{decimal, IfErr, IfSome, Ok, Err, Result, ◌⊎◌
 use Rattle.octets.specs.Content.{with_front}
 use Rattle.buffered_reader.specs.Ahead.{Reading}
 use Rattle.edge_io.proofs.Taken.{with_fronts}
-use Rattle.clone_stream.specs.Breaks.{BreaksOrder, BreaksRecord, Last}
+use Rattle.clone_stream.specs.Breaks.{BreaksOrder, BreaksRecord}
+use Rattle.clone_stream.specs.Wrongs.{Last}
 use Rattle.clone_stream.specs.Reading.{ComesAfter}
 use Rattle.clone_stream.specs.Records.{IsBroken, IsLate}
 use Rattle.clone_stream.specs.Stopping.{StopsAt}

@@ -6,7 +6,7 @@ use Rattle.git_object.specs.Objects.{Pair}
 use Rattle.git_object.specs.Repository.{Repository, empty_repository}
 use Rattle.git_object.proofs.Runs.{all_push}
 use Rattle.keeper_api.specs.Changes.{changed}
-use Rattle.clone_stream.specs.Breaks.{ComesObject}
+use Rattle.clone_stream.specs.Wrongs.{ComesObject}
 use Rattle.clone_stream.specs.Fronts.{AreRecords, BreaksAfterEnd, BreaksRecords, FirstBreak, change_of, last_record, records_text}
 use Rattle.clone_stream.specs.Reading.{ComesAfter}
 use Rattle.clone_stream.specs.Streams.{IsOwn, IsRef, IsStreamText, end_line, header, object_line, object_record, ref_line, ref_record}

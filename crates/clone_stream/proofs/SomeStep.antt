@@ -11,7 +11,8 @@ use Rattle.buffered_reader.specs.Lines.{IsLine, IsLong}
 use Rattle.git_object.specs.Objects.{Pair, object_id}
 use Rattle.git_object.specs.Repository.{largest_body}
 use Rattle.git_object.specs.declared.kinds.Kind.{Kind}
-use Rattle.clone_stream.specs.Breaks.{BreaksRecord, ComesObject, HasHead, Last}
+use Rattle.clone_stream.specs.Breaks.{BreaksRecord}
+use Rattle.clone_stream.specs.Wrongs.{ComesObject, HasHead, Last}
 use Rattle.clone_stream.specs.Reading.{ComesAfter}
 use Rattle.clone_stream.specs.Streams.{IsOwn, IsRef, end_line, object_line, object_record, ref_line, ref_record}
 use Rattle.clone_stream.specs.declared.stream_faults.Break.{Break}
@@ -128,8 +129,8 @@ module _ (last : Last) (at : ℕ) (rest : List ℕ) where
 
   -- a line that says this stands in front
   line_step : (l more : List ℕ) → rest ≡ l ++ 10 ∷ more → IsLine l → (s : Saying) → IsSaying l s → Step last at rest
-  line_step l more e is other says = fails (BadLine at) tt (inl (refl, inr (record { line = l; more = more; whole = e; is_line = is; wrong = (refl, says) })))
-  line_step l more e is huge says = fails (TooLarge largest_body) tt (inl (record { line = l; more = more; whole = e; is_line = is; wrong = (refl, says) }))
+  line_step l more e is other says = fails (BadLine at) tt (inl (refl, inr (record { line = l; more = more; whole = e; is_line = is; wrong = says })))
+  line_step l more e is huge says = fails (TooLarge largest_body) tt (inl (refl, record { line = l; more = more; whole = e; is_line = is; wrong = says }))
   line_step l more e is (head id kind size) says =
       object_step id kind size more (record { whole = e ∙ ap (λ (t : List ℕ). t ++ 10 ∷ more) says.is; is_id = says.is_id; small = says.small })
   line_step l more e is (ref name id) says =

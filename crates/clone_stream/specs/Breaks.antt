@@ -1,13 +1,12 @@
--- What breaks a stream at the record that begins at a place, each part relative to where it begins.
-use Rattle.std.specs.Prelude.{◌≡◌, ◌≢◌, ◌≤◌, ◌+◌, ◌++◌, ◌∷◌, ◌⊎◌, [], ℕ, List, length, codes, decimal, Option, None}
+-- What breaks a stream at the record that begins at a place: each thing that may be wrong, told with its place.
+use Rattle.std.specs.Prelude.{◌≡◌, ◌≢◌, ◌+◌, ◌++◌, ◌∷◌, ◌⊎◌, [], ℕ, List, length, codes, decimal}
 use Rattle.buffered_reader.specs.Lines.{IsLine, IsLong}
-use Rattle.git_object.specs.Ids.{IsId}
-use Rattle.git_object.specs.Objects.{object_id}
 use Rattle.git_object.specs.Repository.{largest_body}
 use Rattle.git_object.specs.declared.kinds.Kind.{Kind}
-use Rattle.clone_stream.specs.Grammar.{BreaksGrammar}
 use Rattle.clone_stream.specs.Reading.{ComesAfter}
-use Rattle.clone_stream.specs.Streams.{IsRef, object_line, ref_line}
+use Rattle.clone_stream.specs.Streams.{object_line}
+use Rattle.clone_stream.specs.Words.{IsHugeLine, IsOtherLine}
+use Rattle.clone_stream.specs.Wrongs.{ComesObject, HasBadEnd, HasHead, HasLateObject, HasLateRef, HasMoreThanEnd, HasOtherId, HasRef, HasWrongLine, IsPartOf, Last}
 use Rattle.clone_stream.specs.declared.stream_faults.Break.{Break}
 use Rattle.clone_stream.specs.declared.stream_faults.Break.TheVariants.{BadLine, IdDiffers, Order, TooLarge, Cut, Failed, Memory}
 
@@ -19,53 +18,15 @@ pub record FailsIn (IsPart : List ℕ → Type 0) (at : ℕ) (rest : List ℕ) (
   pub is : IsPart part
   pub place : p ≡ at + length part
 
--- a whole line stands in front of which this is wrong
-pub record HasWrongLine (Wrong : List ℕ → Type 0) (rest : List ℕ) : Type 0 where
-  pub line : List ℕ
-  pub more : List ℕ
-  pub whole : rest ≡ line ++ 10 ∷ more
-  pub is_line : IsLine line
-  pub wrong : Wrong line
-
--- the line of a reference stands in front
-pub record HasRef (rest : List ℕ) : Type 0 where
-  pub name : List ℕ
-  pub id : List ℕ
-  pub more : List ℕ
-  pub whole : rest ≡ ref_line name id ++ 10 ∷ more
-  pub is_ref : IsRef (name, id)
-
 -- what breaks in the line that begins at this place; memory is wanting at a reference's alone
 abbrev pub BreaksLine : ℕ → List ℕ → Break → Type 0
-BreaksLine at rest (BadLine p) = (p ≡ at) × (IsLong rest ⊎ HasWrongLine (λ line. BreaksGrammar at line (BadLine at)) rest)
+BreaksLine at rest (BadLine p) = (p ≡ at) × (IsLong rest ⊎ HasWrongLine IsOtherLine rest)
 BreaksLine at rest (IdDiffers id found) = ⊥
 BreaksLine at rest (Order p) = ⊥
-BreaksLine at rest (TooLarge limit) = HasWrongLine (λ line. BreaksGrammar at line (TooLarge limit)) rest
+BreaksLine at rest (TooLarge limit) = (limit ≡ largest_body) × HasWrongLine IsHugeLine rest
 BreaksLine at rest (Cut p) = (p ≡ at + length rest) × IsLine rest
 BreaksLine at rest (Failed p) = FailsIn IsLine at rest p
 BreaksLine at rest Memory = HasRef rest
-
--- after a body of so many bytes stands another byte than a line feed
-pub record HasBadEnd (size : ℕ) (rest : List ℕ) : Type 0 where
-  pub body : List ℕ
-  pub byte : ℕ
-  pub more : List ℕ
-  pub whole : rest ≡ body ++ byte ∷ more
-  pub long : length body ≡ size
-  pub other : byte ≢ 10
-
--- a body of so many bytes has this other id
-pub record HasOtherId (id : List ℕ) (kind : Kind) (size : ℕ) (rest found : List ℕ) : Type 0 where
-  pub body : List ℕ
-  pub more : List ℕ
-  pub whole : rest ≡ body ++ 10 ∷ more
-  pub long : length body ≡ size
-  pub is : found ≡ object_id kind body
-  pub other : found ≢ id
-
--- no more bytes than a body has: the line feed is not there
-abbrev pub IsPartOf : ℕ → List ℕ → Type 0
-IsPartOf size part = length part ≤ size
 
 -- what breaks after the line of an object, where its body begins at this place
 abbrev pub BreaksBody : List ℕ → Kind → ℕ → ℕ → List ℕ → Break → Type 0
@@ -76,40 +37,6 @@ BreaksBody id kind size at rest (TooLarge limit) = ⊥
 BreaksBody id kind size at rest (Cut p) = (p ≡ at + length rest) × IsPartOf size rest
 BreaksBody id kind size at rest (Failed p) = FailsIn (IsPartOf size) at rest p
 BreaksBody id kind size at rest Memory = Unit {0}
-
--- the last id and the last name, where there is one
-pub record Last : Type 0 where
-  pub id : Option (List ℕ)
-  pub name : Option (List ℕ)
-
--- an object may come after these: no reference came, and its id is greater than the last
-pub record ComesObject (last : Last) (id : List ℕ) : Type 0 where
-  pub no_refs : last.name ≡ None
-  pub comes : ComesAfter last.id id
-
--- the line of an object with a size within the limit stands in front
-pub record HasHead (rest id : List ℕ) (kind : Kind) (size : ℕ) (more : List ℕ) : Type 0 where
-  pub whole : rest ≡ object_line id kind (decimal size) ++ 10 ∷ more
-  pub is_id : IsId id
-  pub small : size ≤ largest_body
-
--- an object that may not come after these
-pub record HasLateObject (last : Last) (rest : List ℕ) : Type 0 where
-  pub id : List ℕ
-  pub kind : Kind
-  pub size : ℕ
-  pub more : List ℕ
-  pub head : HasHead rest id kind size more
-  pub late : ComesObject last id → ⊥
-
--- a reference whose name does not come after the last
-pub record HasLateRef (last : Last) (rest : List ℕ) : Type 0 where
-  pub name : List ℕ
-  pub id : List ℕ
-  pub more : List ℕ
-  pub whole : rest ≡ ref_line name id ++ 10 ∷ more
-  pub is_ref : IsRef (name, id)
-  pub late : ComesAfter last.name name → ⊥
 
 -- what breaks in the order of a record
 abbrev pub BreaksOrder : Last → ℕ → List ℕ → Break → Type 0
@@ -134,12 +61,6 @@ pub record BreaksObject (last : Last) (at : ℕ) (rest : List ℕ) (fault : Brea
 -- what breaks at the record that begins at this place, after these
 abbrev pub BreaksRecord : Last → ℕ → List ℕ → Break → Type 0
 BreaksRecord last at rest fault = BreaksLine at rest fault ⊎ (BreaksOrder last at rest fault ⊎ BreaksObject last at rest fault)
-
--- bytes stand after the last line
-pub record HasMoreThanEnd (rest : List ℕ) : Type 0 where
-  pub more : List ℕ
-  pub whole : rest ≡ codes "end" ++ 10 ∷ more
-  pub some : more ≢ []
 
 -- what breaks after the last line, which begins at this place
 abbrev pub BreaksEnd : ℕ → List ℕ → Break → Type 0

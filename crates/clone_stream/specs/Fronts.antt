@@ -7,7 +7,8 @@ use Rattle.octets.specs.Content.{with_front}
 use Rattle.git_object.specs.Objects.{Pair}
 use Rattle.keeper_api.specs.declared.changes.Change.{Change}
 use Rattle.keeper_api.specs.declared.changes.RefChange.{RefChange}
-use Rattle.clone_stream.specs.Breaks.{BreaksEnd, BreaksHeader, BreaksRecord, Last}
+use Rattle.clone_stream.specs.Breaks.{BreaksEnd, BreaksHeader, BreaksRecord}
+use Rattle.clone_stream.specs.Wrongs.{Last}
 use Rattle.clone_stream.specs.Changes.{set_ref}
 use Rattle.clone_stream.specs.Reading.{last_of}
 use Rattle.clone_stream.specs.Streams.{IsOwn, IsRef, end_line, header, object_record, ref_record}

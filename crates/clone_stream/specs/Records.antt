@@ -4,7 +4,8 @@ use Rattle.octets.specs.Content.{with_front}
 use Rattle.git_object.specs.Objects.{Pair, pair_id}
 use Rattle.git_object.specs.declared.kinds.Kind.{Kind}
 use Rattle.keeper_api.specs.declared.changes.RefChange.{RefChange}
-use Rattle.clone_stream.specs.Breaks.{BreaksBody, ComesObject, Last}
+use Rattle.clone_stream.specs.Breaks.{BreaksBody}
+use Rattle.clone_stream.specs.Wrongs.{ComesObject, Last}
 use Rattle.clone_stream.specs.Reading.{ComesAfter, last_of}
 use Rattle.clone_stream.specs.Streams.{IsOwn, IsRef, end_line, object_record, ref_record}
 use Rattle.clone_stream.specs.declared.records.Record.{Record}

@@ -11,8 +11,6 @@
 
 mod export;
 mod export_faults;
-#[cfg(test)]
-mod export_tests;
 pub mod laws;
 mod line_words;
 mod record_reads;
@@ -21,8 +19,6 @@ mod records;
 mod stream_faults;
 mod stream_reads;
 mod streams;
-#[cfg(test)]
-mod tests;
 
 pub use export::write_stream;
 pub use export_faults::ExportFault;

@@ -8,7 +8,5 @@
 
 mod escaping;
 pub mod laws;
-#[cfg(test)]
-mod tests;
 
 pub use escaping::{append_escaped, escaped_text};

@@ -12,12 +12,19 @@ use std::sync::Arc;
 /// The most bytes that the body of an object may have: 16 MiB.
 pub const LARGEST_BODY: u64 = 16777216;
 
-/// A kind and a body. The id is computed once, when the object is made; the body is shared among copies.
+// What the copies of an object share.
 #[derive(Drop)]
-pub struct Object {
+struct Stored {
     id: ObjectId,
     kind: Kind,
-    body: Arc<Octets>,
+    body: Octets,
+}
+
+/// A kind and a body. The id is computed once, when the object is made; all of it is shared among copies, so that a copy is
+/// one pointer.
+#[derive(Drop)]
+pub struct Object {
+    stored: Arc<Stored>,
 }
 
 impl Model for Object {
@@ -29,9 +36,9 @@ impl Model for Object {
     ghost use Rattle.std.specs.Arc.{arc_value};
     ghost use Rattle.git_object.specs.Objects.{object_id};
 
-    ghost view = { λ o. record { kind = o.kind; body = arc_value o.body } };
+    ghost view = { λ o. record { kind = (arc_value o.stored).kind; body = (arc_value o.stored).body } };
 
-    ghost invariant = { λ o. o.id ≡ object_id o.kind (arc_value o.body) };
+    ghost invariant = { λ o. (arc_value o.stored).id ≡ object_id (arc_value o.stored).kind (arc_value o.stored).body };
 }
 
 impl Object {
@@ -40,39 +47,35 @@ impl Object {
         ensures { IfOk result (λ o. o ≡ record { kind = kind; body = body }) }
     {
         let id = id_of(kind, body.as_slice());
-        let body = Arc::new(alloc, body)?;
-        Ok(Object { id, kind, body })
+        let stored = Arc::new(alloc, Stored { id, kind, body })?;
+        Ok(Object { stored })
     }
 
     /// The object's own id, which is not computed again.
     pub fn id(&self) -> ObjectId
         ensures { result ≡ object_id self.now.kind self.now.body }
     {
-        self.id
+        self.stored.id
     }
 
     /// The kind.
     pub fn kind(&self) -> Kind
         ensures { result ≡ self.now.kind }
     {
-        self.kind
+        self.stored.kind
     }
 
     /// The body, lent.
     pub fn body(&self) -> &[u8]
         ensures { result.now ≡ self.now.body }
     {
-        self.body.as_slice()
+        self.stored.body.as_slice()
     }
 }
 
 impl Copied for Object {
     fn copied(&self) -> Result<Object, Memory> {
-        let body = Arc::try_clone(&self.body)?;
-        Ok(Object {
-            id: self.id,
-            kind: self.kind,
-            body,
-        })
+        let stored = Arc::try_clone(&self.stored)?;
+        Ok(Object { stored })
     }
 }

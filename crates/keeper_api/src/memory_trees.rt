@@ -2,6 +2,7 @@
 
 ghost use Rattle.std.specs.Prelude.{◌≡◌, map, slice_get, Option, IfOk, OnOk, OnErr};
 ghost use Rattle.std.specs.BTreeMap.{IsOrdered};
+ghost use Rattle.std.specs.FinMap.{empty};
 ghost use Rattle.std.specs.BTreeMap.Range.{entries_between};
 ghost use Rattle.std.specs.Map.Iter.{deref_pair};
 ghost use Rattle.std.specs.Option.{option_map, option_copied};
@@ -35,8 +36,45 @@ fn entries_of(alloc: Global, objects: &[Object]) -> Result<Vec<(ObjectId, Object
     Ok(entries)
 }
 
-/// Makes a change of both trees. After a refusal they hold what they held.
-pub fn apply(
+// A tree of objects, each under its own id.
+fn tree_of(alloc: Global, objects: &[Object]) -> Result<ObjectTree, Memory>
+    ensures { IfOk result (λ tree. map_of tree ≡ with_objects objects.now empty) }
+{
+    let mut tree = BTreeMap::new(alloc);
+    'objects: for object in objects {
+        let copy = object.copied()?;
+        let _ = tree.insert(object.id(), copy)?;
+    }
+    Ok(tree)
+}
+
+// Makes a change of two trees of which that of the objects is empty: it is made anew, so that nothing has to be taken back.
+fn fill(
+    alloc: Global,
+    objects: &mut ObjectTree,
+    refs: &mut RefTree,
+    change: &Change,
+) -> Result<(), Memory>
+    requires { map_of objects.old ≡ empty }
+    ensures objects { OnOk result (map_of objects.new ≡ with_objects change.now.objects empty) }
+    ensures refs { OnOk result (map_of refs.new ≡ with_refs change.now.refs (map_of refs.old)) }
+    ensures err_objects { OnErr result (map_of objects.new ≡ map_of objects.old) }
+    ensures err_refs { OnErr result (map_of refs.new ≡ map_of refs.old) }
+{
+    let filled = tree_of(alloc, change.objects.as_slice())?;
+    let plan = plan_of(alloc, change.refs.as_slice())?;
+    match insert_all(alloc, refs, plan.sets) {
+        Ok(_) => {
+            remove_all(refs, plan.gone);
+            *objects = filled;
+            Ok(())
+        }
+        Err(refused) => Err(refused),
+    }
+}
+
+// Makes a change of two trees, entry by entry.
+fn add(
     alloc: Global,
     objects: &mut ObjectTree,
     refs: &mut RefTree,
@@ -60,6 +98,24 @@ pub fn apply(
             Err(refused)
         }
     }
+}
+
+/// Makes a change of both trees. After a refusal they hold what they held.
+pub fn apply(
+    alloc: Global,
+    objects: &mut ObjectTree,
+    refs: &mut RefTree,
+    change: &Change,
+) -> Result<(), Memory>
+    ensures objects { OnOk result (map_of objects.new ≡ with_objects change.now.objects (map_of objects.old)) }
+    ensures refs { OnOk result (map_of refs.new ≡ with_refs change.now.refs (map_of refs.old)) }
+    ensures err_objects { OnErr result (map_of objects.new ≡ map_of objects.old) }
+    ensures err_refs { OnErr result (map_of refs.new ≡ map_of refs.old) }
+{
+    if objects.is_empty() {
+        return fill(alloc, objects, refs, change);
+    }
+    add(alloc, objects, refs, change)
 }
 
 /// The first entry after a key, or the first of all.

@@ -1,9 +1,15 @@
-//! Reads a text a number of times, as a JSON value or as a rule file, for `tools/bench-policy` to time.
+//! Reads a text a number of times, as a JSON value or as a rule file, or searches rule files a number of times, for
+//! `tools/bench-policy` to time.
 //!
-//! The words are `value` or `rules` and a number of times. The text is standard input, of at most 4 MiB. It prints what
-//! the last time found: the length of the text that is a value, or how many rules and keys the file has.
+//! The words are `value` or `rules` and a number of times, with a text on standard input; or `search` or `patterns`, a
+//! number of times and a path, with rule files on standard input, a line each, of which the first is the top file. The
+//! input has at most 4 MiB. It prints what the last time found: the length of the text that is a value, how many rules and
+//! keys the file has, or how many rules the path reaches or patterns match it.
 #![tactic(auto)]
 
+mod searching;
+
+use crate::searching::{match_often, rules_of, search_often};
 use edge_io::{StdSource, read_all};
 use rule_files::RuleFile;
 use serde_json::Value;
@@ -17,7 +23,16 @@ enum Said {
     Nothing,
     Value(usize),
     Rules { rules: usize, keys: usize },
+    Found(usize),
     Refused,
+}
+
+#[derive(Clone, Copy)]
+enum Task {
+    Value,
+    Rules,
+    Search,
+    Patterns,
 }
 
 fn read_as_value(alloc: Global, text: &[u8]) -> Said {
@@ -37,16 +52,10 @@ fn read_as_rules(alloc: Global, text: &[u8]) -> Said {
     }
 }
 
-#[derive(Clone, Copy)]
-struct Case {
-    rules: bool,
-    times: u32,
-}
-
-fn repeat(alloc: Global, text: &[u8], case: Case) -> Said {
+fn read_often(alloc: Global, text: &[u8], rules: bool, times: u32) -> Said {
     let mut said = Said::Nothing;
-    for _ in 0..case.times {
-        said = if case.rules {
+    for _ in 0..times {
+        said = if rules {
             read_as_rules(alloc, text)
         } else {
             read_as_value(alloc, text)
@@ -55,32 +64,65 @@ fn repeat(alloc: Global, text: &[u8], case: Case) -> Said {
     said
 }
 
-fn case_of(words: &[String]) -> Option<Case> {
-    if words.len() != 3 {
-        return None;
+fn look_often(alloc: Global, text: &[u8], search: bool, path: &[u8], times: u32) -> Said {
+    let Some(rules) = rules_of(alloc, text) else {
+        return Said::Refused;
+    };
+    if !search {
+        return Said::Found(match_often(&rules, path, times));
     }
-    let rules = words[1].as_str() == "rules";
-    if !rules && words[1].as_str() != "value" {
-        return None;
+    match search_often(alloc, &rules, path, times) {
+        Some(reached) => Said::Found(reached),
+        None => Said::Refused,
     }
-    let times = words[2].as_str().parse::<u32>().ok()?;
-    Some(Case { rules, times })
+}
+
+fn task_of(word: &str) -> Option<Task> {
+    match word {
+        "value" => Some(Task::Value),
+        "rules" => Some(Task::Rules),
+        "search" => Some(Task::Search),
+        "patterns" => Some(Task::Patterns),
+        _ => None,
+    }
+}
+
+fn carry_out(alloc: Global, text: &[u8], task: Task, times: u32, path: &[u8]) -> Said {
+    match task {
+        Task::Value => read_often(alloc, text, false, times),
+        Task::Rules => read_often(alloc, text, true, times),
+        Task::Search => look_often(alloc, text, true, path, times),
+        Task::Patterns => look_often(alloc, text, false, path, times),
+    }
+}
+
+fn case_of(words: &[String]) -> Option<(Task, u32)> {
+    let task = task_of(words.get(1)?.as_str())?;
+    let times = words.get(2)?.as_str().parse::<u32>().ok()?;
+    Some((task, times))
 }
 
 fn main(rt: HostRuntime) -> io::Result<()> {
     let words: Vec<String> = env::args(&rt)?.collect(rt.alloc())?;
-    let Some(case) = case_of(words.as_slice()) else {
-        return println!(rt; "policy_bench value|rules TIMES");
+    let Some((task, times)) = case_of(words.as_slice()) else {
+        return println!(rt;
+            "policy_bench value|rules TIMES, or policy_bench search|patterns TIMES PATH"
+        );
+    };
+    let path = match words.get(3) {
+        Some(path) => path.as_bytes(),
+        None => b"",
     };
     let mut source = StdSource::new(rt.stdin());
     let said = match read_all(rt.alloc(), &mut source, MOST_BYTES) {
-        Ok(text) => repeat(rt.alloc(), text.as_slice(), case),
+        Ok(text) => carry_out(rt.alloc(), text.as_slice(), task, times, path),
         Err(_) => Said::Refused,
     };
     match said {
         Said::Nothing => println!(rt; "nothing"),
         Said::Value(bytes) => println!(rt; "a value of {bytes} bytes"),
         Said::Rules { rules, keys } => println!(rt; "{rules} rules and {keys} keys"),
+        Said::Found(found) => println!(rt; "found {found}"),
         Said::Refused => println!(rt; "refused"),
     }
 }

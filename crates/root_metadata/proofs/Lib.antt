@@ -1,2 +1,3 @@
 mod Sortedness
 pub mod Listed
+mod Lookups

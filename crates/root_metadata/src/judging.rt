@@ -1,13 +1,14 @@
-//! What is wrong with metadata as it is written, each by itself and without memory.
+//! What is wrong with metadata as it is written, each by itself and without memory of its own.
 
-ghost use Rattle.std.specs.Prelude.{◌≡◌, [], count_by, not};
+ghost use Rattle.std.specs.Prelude.{◌≡◌, ◌==◌, ◌||◌, [], count_by, nat_lt, not};
 ghost use Rattle.std.specs.List.{list_all, list_any, position};
 ghost use Rattle.std.specs.Str.{bytes_eq};
 ghost use Rattle.sha2.specs.Sha256.{sha256};
+ghost use Rattle.root_metadata.specs.Lookups.{IsIndex, is_bad_beside, is_found};
 ghost use Rattle.root_metadata.specs.Risings.{has_key};
-ghost use Rattle.root_metadata.specs.Judged.{first_wrong, has_bad_threshold, has_few_ids, has_own_id, is_bad_person, is_key, is_known, is_listed, is_name, is_name_byte, is_named, shares_key, too_many};
+ghost use Rattle.root_metadata.specs.Judged.{first_wrong, has_bad_threshold, has_few_ids, has_own_id, is_bad_person, is_key, is_name, is_name_byte, is_named, shares_key, too_many};
 
-use crate::{KeyId, Keyed, Person, RawKey, RawRole, Roster, key_id};
+use crate::{KeyId, Keyed, Known, Person, RawKey, RawRole, Roster, key_id};
 use json_fields::read_hex;
 use octets::Octets;
 
@@ -82,13 +83,6 @@ pub fn other_id(keys: &[RawKey]) -> Option<usize>
     keys.iter().position(|key| !has_own_id(key))
 }
 
-// Whether a key of the file has the id.
-fn is_listed(keys: &[RawKey], id: &[u8]) -> bool
-    ensures { result ≡ is_listed keys.now id.now }
-{
-    keys.iter().any(|key| key.id.key() == id)
-}
-
 // Whether a person has the name.
 fn has_name(persons: &[Person], name: &[u8]) -> bool
     ensures { result ≡ list_any (is_named name.now) persons.now }
@@ -97,36 +91,42 @@ fn has_name(persons: &[Person], name: &[u8]) -> bool
 }
 
 // Whether a listed text is one of the file.
-fn is_known(roster: &Roster, text: &[u8]) -> bool
-    ensures { result ≡ is_known roster.now text.now }
+fn is_found(known: &Known, schema: u32, text: &[u8]) -> bool
+    ensures { result ≡ is_found known.now schema text.now }
 {
-    if roster.schema != 1 {
-        return has_name(roster.persons.as_slice(), text);
+    if schema != 1 {
+        return known.names.has(text);
     }
     match read_hex::<32>(text) {
-        Some(id) => is_listed(roster.keys.as_slice(), &id),
+        Some(id) => known.ids.has(&id),
         None => false,
     }
 }
 
 // How many of the listed are of the file.
-fn count_known(roster: &Roster, listed: &[Octets]) -> usize
-    ensures { result ≡ count_by (is_known roster.now) listed.now }
+fn count_found(known: &Known, schema: u32, listed: &[Octets]) -> usize
+    ensures { result ≡ count_by (is_found known.now schema) listed.now }
 {
     listed
         .iter()
-        .filter(|text| is_known(roster, text.as_slice()))
+        .filter(|text| is_found(known, schema, text.as_slice()))
         .count()
 }
 
+// Whether a threshold is 0, or more than so many.
+fn is_out_of_reach(threshold: u32, count: usize) -> bool
+    ensures { result ≡ (threshold == 0 || nat_lt count threshold) }
+{
+    threshold == 0 || count < threshold as usize
+}
+
 /// Whether a role's threshold is 0, or more than those who are listed and are of the file.
-pub fn has_bad_threshold(roster: &Roster, role: &RawRole) -> bool
+pub fn has_bad_threshold(roster: &Roster, known: &Known, role: &RawRole) -> bool
+    requires { IsIndex roster.now known.now }
     ensures { result ≡ has_bad_threshold roster.now role.now }
 {
-    if role.threshold == 0 {
-        return true;
-    }
-    count_known(roster, role.listed.as_slice()) < role.threshold as usize
+    let count = count_found(known, roster.schema, role.listed.as_slice());
+    is_out_of_reach(role.threshold, count)
 }
 
 // Whether each byte may stand in a name.
@@ -156,15 +156,15 @@ fn has_few_ids(person: &Person) -> bool
 }
 
 // Whether a key of the file has each id of the person.
-fn are_listed(keys: &[RawKey], ids: &[KeyId]) -> bool
-    ensures { result ≡ list_all (is_listed keys.now) ids.now }
+fn are_listed(known: &Known, ids: &[KeyId]) -> bool
+    ensures { result ≡ list_all (has_key (λ k. k) known.now.ids) ids.now }
 {
-    ids.iter().all(|id| is_listed(keys, id.key()))
+    ids.iter().all(|id| known.ids.has(id.key()))
 }
 
 // Whether a person is wrong beside the earlier ones.
-fn is_bad_person(keys: &[RawKey], earlier: &[Person], person: &Person) -> bool
-    ensures { result ≡ is_bad_person keys.now earlier.now person.now }
+fn is_bad_beside(known: &Known, earlier: &[Person], person: &Person) -> bool
+    ensures { result ≡ is_bad_beside known.now earlier.now person.now }
 {
     if !is_name(person.name.as_slice()) {
         return true;
@@ -175,7 +175,7 @@ fn is_bad_person(keys: &[RawKey], earlier: &[Person], person: &Person) -> bool
     if !has_few_ids(person) {
         return true;
     }
-    !are_listed(keys, person.keyids.as_slice())
+    !are_listed(known, person.keyids.as_slice())
 }
 
 // Whether an earlier person has the id.
@@ -193,22 +193,28 @@ fn shares_key(earlier: &[Person], person: &Person) -> bool
     ids.iter().any(|id| has_owner(earlier, id.key()))
 }
 
-/// The place of the first person whose name is none or an earlier person's, who has not 1 to 16 distinct ids, or of whom
-/// an id is that of no key of the file.
-pub fn bad_person(roster: &Roster) -> Option<usize>
-    ensures { result ≡ first_wrong (is_bad_person roster.now.keys) [] roster.now.persons }
+// The place of the first person who is wrong beside the earlier ones.
+fn first_bad(known: &Known, persons: &[Person]) -> Option<usize>
+    ensures { result ≡ first_wrong (is_bad_beside known.now) [] persons.now }
 {
-    let keys = roster.keys.as_slice();
-    let persons = roster.persons.as_slice();
     let mut at = 0;
     'persons: for person in persons {
         let (earlier, _) = persons.split_at(at);
-        if is_bad_person(keys, earlier, person) {
+        if is_bad_beside(known, earlier, person) {
             return Some(at);
         }
         at += 1;
     }
     None
+}
+
+/// The place of the first person whose name is none or an earlier person's, who has not 1 to 16 distinct ids, or of whom
+/// an id is that of no key of the file.
+pub fn bad_person(roster: &Roster, known: &Known) -> Option<usize>
+    requires { IsIndex roster.now known.now }
+    ensures { result ≡ first_wrong (is_bad_person roster.now.keys) [] roster.now.persons }
+{
+    first_bad(known, roster.persons.as_slice())
 }
 
 /// The place of the first person of whom an id is an earlier person's.

@@ -9,6 +9,7 @@
 
 mod judging;
 mod keys;
+mod known;
 mod making;
 mod persons;
 mod raw;
@@ -23,6 +24,7 @@ pub use judging::{
     bad_key, bad_person, has_bad_threshold, is_name, other_id, shared_key, too_many,
 };
 pub use keys::{Key, KeyIds, Keys, key_id};
+pub use known::Known;
 pub use making::{make_keys, make_persons, make_role};
 pub use octets::{Items, Memory, Octets};
 pub use persons::{Person, Persons, count_in};

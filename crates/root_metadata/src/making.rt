@@ -111,8 +111,8 @@ pub fn make_role(alloc: Global, roster: &Roster, role: &RawRole) -> Result<Role,
     })
 }
 
-// All names of persons of the file.
-fn copy_names(alloc: Global, persons: &[Person]) -> Result<Items<Octets>, Memory>
+/// All names of persons of the file.
+pub(crate) fn copy_names(alloc: Global, persons: &[Person]) -> Result<Items<Octets>, Memory>
     ensures { IfOk result (λ names. names ≡ map (λ p. p.name) persons.now) }
 {
     let mut names = Items::new(alloc);

@@ -84,7 +84,11 @@ impl<T: Keyed> Rising<T> {
     pub fn has(&self, key: &[u8]) -> bool
         ensures { result ≡ has_key T.key self.now key.now }
     {
-        self.items.as_slice().iter().any(|item| item.key() == key)
+        let items = self.items.as_slice();
+        match items.binary_search_by(|item| item.key().cmp(key)) {
+            Ok(_) => true,
+            Err(_) => false,
+        }
     }
 
     /// Whether an item of this key may be added: it is greater than the last item's.

@@ -2,13 +2,14 @@
 
 ghost use Rattle.std.specs.Prelude.{◌≡◌, ◌⊎◌, IfOk, IfErr, IsErrOf, None, Ok, Err, Some};
 ghost use Rattle.serde_json.specs.View.{view};
+ghost use Rattle.root_metadata.specs.Lookups.{IsIndex};
 ghost use Rattle.root_metadata.specs.Roots.{count_fault, fault_of, from_json, from_shape, id_fault, key_fault, person_fault, reading, role_at, root_made, root_of, shared_fault, threshold_fault};
 ghost use Rattle.root_metadata.specs.declared.roots.MetaFault.TheVariants as fault;
 
 use crate::judging::{bad_key, bad_person, has_bad_threshold, other_id, shared_key, too_many};
 use crate::making::{make_keys, make_persons, make_role};
 use crate::reading::{role_in, roster_in};
-use crate::{MetaFault, RawRole, RawRoot, Root};
+use crate::{Known, MetaFault, RawRole, RawRoot, Root};
 use json_fields::{ParseFault, ShapeFault, parse, value_in};
 use octets::Memory;
 use serde_json::Value;
@@ -73,22 +74,24 @@ fn id_fault(root: &RawRoot) -> Option<MetaFault>
     }
 }
 
-fn threshold_fault(root: &RawRoot) -> Option<MetaFault>
+fn threshold_fault(root: &RawRoot, known: &Known) -> Option<MetaFault>
+    requires { IsIndex root.now.roster known.now }
     ensures { result ≡ threshold_fault root.now }
 {
-    if has_bad_threshold(&root.roster, &root.root) {
+    if has_bad_threshold(&root.roster, known, &root.root) {
         return Some(MetaFault::BadThreshold { at: 0 });
     }
-    if has_bad_threshold(&root.roster, &root.targets) {
+    if has_bad_threshold(&root.roster, known, &root.targets) {
         return Some(MetaFault::BadThreshold { at: 1 });
     }
     None
 }
 
-fn person_fault(root: &RawRoot) -> Option<MetaFault>
+fn person_fault(root: &RawRoot, known: &Known) -> Option<MetaFault>
+    requires { IsIndex root.now.roster known.now }
     ensures { result ≡ person_fault root.now }
 {
-    match bad_person(&root.roster) {
+    match bad_person(&root.roster, known) {
         Some(at) => Some(MetaFault::BadPerson { at }),
         None => None,
     }
@@ -104,7 +107,8 @@ fn shared_fault(root: &RawRoot) -> Option<MetaFault>
 }
 
 // The first that is wrong.
-fn fault_of(root: &RawRoot) -> Option<MetaFault>
+fn fault_of(root: &RawRoot, known: &Known) -> Option<MetaFault>
+    requires { IsIndex root.now.roster known.now }
     ensures { result ≡ fault_of root.now }
 {
     if let Some(fault) = count_fault(root) {
@@ -116,10 +120,10 @@ fn fault_of(root: &RawRoot) -> Option<MetaFault>
     if let Some(fault) = id_fault(root) {
         return Some(fault);
     }
-    if let Some(fault) = threshold_fault(root) {
+    if let Some(fault) = threshold_fault(root, known) {
         return Some(fault);
     }
-    if let Some(fault) = person_fault(root) {
+    if let Some(fault) = person_fault(root, known) {
         return Some(fault);
     }
     shared_fault(root)
@@ -153,7 +157,8 @@ fn read_value(alloc: Global, value: &Value) -> Result<Root, MetaFault>
         Err(ShapeFault::Missing) => return Err(MetaFault::MissingField),
         Err(ShapeFault::Memory) => return Err(MetaFault::Memory),
     };
-    if let Some(fault) = fault_of(&raw) {
+    let known = Known::of(alloc, &raw.roster)?;
+    if let Some(fault) = fault_of(&raw, &known) {
         return Err(fault);
     }
     Ok(make_root(alloc, &raw)?)

@@ -1,16 +1,17 @@
-//! What is wrong with a rule file as it is written, number by number and without memory.
+//! What is wrong with a rule file as it is written, number by number and without memory of its own.
 
 ghost use Rattle.std.specs.Prelude.{◌≡◌, length, not};
 ghost use Rattle.std.specs.List.{find, position};
 ghost use Rattle.std.specs.Option.{option_copied};
 ghost use Rattle.root_metadata.specs.Judged.{has_bad_threshold, or_next, too_many};
+ghost use Rattle.root_metadata.specs.Lookups.{IsIndex};
 ghost use Rattle.rule_files.specs.Files.{count_fault, early_fault, fault_of, has_few_patterns, id_fault, is_pattern, is_rule_name, key_fault, late_fault, name_fault, pattern_fault, pattern_fault_from, patterns_count, person_fault, shared_fault, threshold_fault};
 
 use crate::RuleFault;
 use crate::raw::{RawRule, RawRuleFile};
 use octets::Octets;
 use root_metadata::{
-    Roster, bad_key, bad_person, has_bad_threshold, is_name, other_id, shared_key, too_many,
+    Known, Roster, bad_key, bad_person, has_bad_threshold, is_name, other_id, shared_key, too_many,
 };
 
 /// The most patterns of a rule.
@@ -84,18 +85,20 @@ fn id_fault(file: &RawRuleFile) -> Option<RuleFault>
 }
 
 // The place of the first rule whose threshold is wrong.
-fn bad_threshold(roster: &Roster, rules: &[RawRule]) -> Option<usize>
+fn bad_threshold(roster: &Roster, known: &Known, rules: &[RawRule]) -> Option<usize>
+    requires { IsIndex roster.now known.now }
     ensures { result ≡ position (λ rule. has_bad_threshold roster.now rule.role) rules.now }
 {
     rules
         .iter()
-        .position(|rule| has_bad_threshold(roster, &rule.role))
+        .position(|rule| has_bad_threshold(roster, known, &rule.role))
 }
 
-fn threshold_fault(file: &RawRuleFile) -> Option<RuleFault>
+fn threshold_fault(file: &RawRuleFile, known: &Known) -> Option<RuleFault>
+    requires { IsIndex file.now.roster known.now }
     ensures { result ≡ threshold_fault file.now }
 {
-    match bad_threshold(&file.roster, file.rules.as_slice()) {
+    match bad_threshold(&file.roster, known, file.rules.as_slice()) {
         Some(at) => Some(RuleFault::BadThreshold { at }),
         None => None,
     }
@@ -154,10 +157,11 @@ fn name_fault(file: &RawRuleFile) -> Option<RuleFault>
     }
 }
 
-fn person_fault(file: &RawRuleFile) -> Option<RuleFault>
+fn person_fault(file: &RawRuleFile, known: &Known) -> Option<RuleFault>
+    requires { IsIndex file.now.roster known.now }
     ensures { result ≡ person_fault file.now }
 {
-    match bad_person(&file.roster) {
+    match bad_person(&file.roster, known) {
         Some(at) => Some(RuleFault::BadPerson { at }),
         None => None,
     }
@@ -173,7 +177,8 @@ fn shared_fault(file: &RawRuleFile) -> Option<RuleFault>
 }
 
 // The first that is wrong among counts, keys and thresholds.
-fn early_fault(file: &RawRuleFile) -> Option<RuleFault>
+fn early_fault(file: &RawRuleFile, known: &Known) -> Option<RuleFault>
+    requires { IsIndex file.now.roster known.now }
     ensures { result ≡ early_fault file.now }
 {
     if let Some(fault) = count_fault(file) {
@@ -185,11 +190,12 @@ fn early_fault(file: &RawRuleFile) -> Option<RuleFault>
     if let Some(fault) = id_fault(file) {
         return Some(fault);
     }
-    threshold_fault(file)
+    threshold_fault(file, known)
 }
 
 // The first that is wrong among patterns, names and persons.
-fn late_fault(file: &RawRuleFile) -> Option<RuleFault>
+fn late_fault(file: &RawRuleFile, known: &Known) -> Option<RuleFault>
+    requires { IsIndex file.now.roster known.now }
     ensures { result ≡ late_fault file.now }
 {
     if let Some(fault) = pattern_fault(file) {
@@ -198,18 +204,19 @@ fn late_fault(file: &RawRuleFile) -> Option<RuleFault>
     if let Some(fault) = name_fault(file) {
         return Some(fault);
     }
-    if let Some(fault) = person_fault(file) {
+    if let Some(fault) = person_fault(file, known) {
         return Some(fault);
     }
     shared_fault(file)
 }
 
 /// The first that is wrong.
-pub(crate) fn fault_of(file: &RawRuleFile) -> Option<RuleFault>
+pub(crate) fn fault_of(file: &RawRuleFile, known: &Known) -> Option<RuleFault>
+    requires { IsIndex file.now.roster known.now }
     ensures { result ≡ fault_of file.now }
 {
-    if let Some(fault) = early_fault(file) {
+    if let Some(fault) = early_fault(file, known) {
         return Some(fault);
     }
-    late_fault(file)
+    late_fault(file, known)
 }

@@ -14,7 +14,7 @@ use crate::{Patterns, Rule, RuleFault, RuleFile, RuleList};
 use json_fields::{ParseFault, ShapeFault, parse};
 use octets::{Items, Memory, Octets};
 use ref_patterns::{Pattern, PatternFault};
-use root_metadata::{Roster, make_keys, make_persons, make_role};
+use root_metadata::{Known, Roster, make_keys, make_persons, make_role};
 use serde_json::Value;
 use std::alloc::Global;
 
@@ -96,7 +96,8 @@ fn read_value(alloc: Global, value: &Value) -> Result<RuleFile, RuleFault>
         Err(ShapeFault::Missing) => return Err(RuleFault::MissingField),
         Err(ShapeFault::Memory) => return Err(RuleFault::Memory),
     };
-    if let Some(fault) = fault_of(&raw) {
+    let known = Known::of(alloc, &raw.roster)?;
+    if let Some(fault) = fault_of(&raw, &known) {
         return Err(fault);
     }
     Ok(make_file(alloc, &raw)?)

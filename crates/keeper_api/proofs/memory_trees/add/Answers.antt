@@ -6,7 +6,7 @@ use Rattle.keeper_api.specs.Trees.{with_entries}
 use Rattle.keeper_api.proofs.Inserting.{with_objects_entries}
 use Rattle.keeper_api.proofs.Planning.{planned}
 use Rattle.keeper_api.proofs.Trees.{exact_bytes}
-use Rattle.keeper_api.proofs.memory_trees.apply.Goals as goal
+use Rattle.keeper_api.proofs.memory_trees.add.Goals as goal
 
 pub insert_all-requires : goal.insert_all-requires
 insert_all-requires c = exact_bytes
