@@ -214,7 +214,7 @@ def keeps_the_policy_in_force(repositories):
 def guards_as_the_readme_says(repositories):
     """the lines of README.md that guard a repository can be copied, and print what it says"""
     with open(os.path.join(TOP, "README.md"), encoding="utf-8") as file:
-        _, found, section = file.read().partition("## Guard a repository\n")
+        _, found, section = file.read().partition("## Guard a repository by the program alone\n")
     if not found:
         raise Failure("README.md has no section on guarding a repository")
     lines = section.split("```\n")[1]
