@@ -2,16 +2,20 @@
 
 import base64
 import json
+import os
 import re
+import shutil
 import struct
 
 from check_keys import bytes_of, line_of
-from checking import LAUNCHER
+from checking import LAUNCHER, Skip, TOP
 from checking import run, want, want_run
 from made_keys import CHAINS, D_INNER, D_LEAF, D_MESSAGE, D_PUBLIC, LMS_TYPES, OTS_TYPES
 from made_keys import digest, digits_of, walk
 
 KEY_LINE = re.compile(rb"key ([0-9a-f]{64}) ([0-9a-f]{120})\n")
+CASTLE = "/usr/share/java/bcprov.jar"
+VECTORS = os.path.join(TOP, "tools", "lms-vectors", "LmsVectors.java")
 HEIGHTS = {code: height for height, code in LMS_TYPES.items()}
 WIDTHS = {code: width for width, code in OTS_TYPES.items()}
 
@@ -58,14 +62,13 @@ def leaves_in(public, message, signature):
 
 
 def sealed(key, public, payload):
-    """Seals a payload, and returns the leaves of the signature and its signed key."""
+    """Seals a payload, and returns the bytes that were signed and the signature."""
     status, output, errors = run(LAUNCHER, "-", key, "seal", input=payload)
     want((status, errors), (0, b""), "the status and errors of seal")
     envelope = json.loads(output)
     kind, signature = envelope["payloadType"].encode(), envelope["signatures"][0]
     want(signature["keyid"], digest(public).hex(), "the id of the key")
-    text = b"DSSEv1 %d %s %d %s" % (len(kind), kind, len(payload), payload)
-    return leaves_in(public, text, base64.b64decode(signature["sig"]))
+    return b"DSSEv1 %d %s %d %s" % (len(kind), kind, len(payload), payload), base64.b64decode(signature["sig"])
 
 
 def signs_over_a_change_of_the_key_below(repositories):
@@ -79,7 +82,7 @@ def signs_over_a_change_of_the_key_below(repositories):
     with open(key, "r+b") as file:
         file.seek(72)
         file.write(b"\1" * 31)
-    first, second, third = (sealed(key, public, payload) for payload in (b"31", b"32", b"33"))
+    first, second, third = (leaves_in(public, *sealed(key, public, it)) for it in (b"31", b"32", b"33"))
     want((first[:2], second[:2], third[:2]), ((0, 31), (1, 0), (1, 1)), "the leaves that signed")
     want((first[2] == second[2], second[2] == third[2]), (False, True), "which signed keys are one")
     want(bytes_of(key)[72:107], b"\1" * 34 + b"\0", "the leaves that are used")
@@ -97,7 +100,28 @@ def takes_no_taller_levels(repositories):
     want_run((LAUNCHER, "-", key, "seal"), 3, errors=b"key file\n", input=b"{}")
 
 
+def another_implementation_takes_signatures(repositories):
+    """Bouncy Castle takes what keys of two levels sign, and nothing else"""
+    if not (os.path.exists(CASTLE) and shutil.which("javac") and shutil.which("java")):
+        raise Skip("Bouncy Castle is not here")
+    made = repositories.path("castle")
+    want_run(("javac", "-cp", CASTLE, "-d", made, VECTORS), 0)
+    judge = ("java", "-cp", f"{made}:{CASTLE}", "org.bouncycastle.pqc.crypto.lms.LmsVectors", "check")
+    for heights in (("5", "5"), ("5", "10"), ("10", "5")):
+        key = repositories.path(f"{'-'.join(heights)}.key")
+        found = line_of(KEY_LINE, (LAUNCHER, "-", key, "key-gen", heights[0], "4", "--bottom", heights[1]))
+        public = bytes.fromhex(found[2].decode())
+        text, signature = sealed(key, public, b"what is sealed")
+        for message, output in ((text, b"true\n"), (text + b".", b"false\n")):
+            files = {"public": public, "message": message, "signature": signature}
+            for name, content in files.items():
+                with open(os.path.join(made, name), "wb") as file:
+                    file.write(content)
+            want_run((*judge, *(os.path.join(made, it) for it in files)), 0, output)
+
+
 CHECKS = (
+    another_implementation_takes_signatures,
     signs_over_a_change_of_the_key_below,
     takes_no_taller_levels,
 )

@@ -1,7 +1,7 @@
 -- What a key of one level or of two signs is good by its public bytes.
-use Rattle.std.proofs.Common.{◌≡◌, ◌<◌, ◌≤◌, ◌+◌, ◌/◌, ◌%◌, ◌^◌, ℕ, List, ◌++◌, length, take, drop, inl, inr, refl, sym, ap, ◌∙◌, subst, arith, append_assoc, length-take}
+use Rattle.std.proofs.Common.{◌≡◌, ◌<◌, ◌+◌, ◌/◌, ◌%◌, ◌^◌, ℕ, List, ◌++◌, length, take, drop, inl, inr, refl, sym, ap, ◌∙◌, subst, arith, append_assoc, length-take}
 use Rattle.std.specs.Prelude.{Option, None, Some}
-use Rattle.std.specs.Int.{w32, to_be_bytes, from_be_bytes}
+use Rattle.std.specs.Int.{w32, to_be_bytes}
 use Rattle.std.proofs.lemmas.List.{drop_at, take_at}
 use Rattle.std.proofs.lemmas.Nat.{from_be_bytes-to_be_bytes_4}
 use Rattle.sha2.proofs.Facts256.{length-sha256}
@@ -14,7 +14,7 @@ use Rattle.lms_keys.proofs.Levels.{joins, none_signed}
 use Rattle.hss_keys.specs.Laws.{OneLink}
 use Rattle.hss_keys.specs.Secret.{HasLeaves, Secret, bottom_of, bytes_of, height_below, height_of, leaves_by, link_by, link_len, public_by, public_bytes, signature, signature_by}
 use Rattle.hss_keys.specs.declared.below.Below.{Below}
-use Rattle.hss_keys.proofs.Sizes.{above_low, below_low, bytes_long, leaf_small, link_long, lms_good}
+use Rattle.hss_keys.proofs.Sizes.{above_low, below_low, leaf_small, link_long, lms_good}
 
 bottom_wide : (i seed : List ℕ) (below : Below) (t : ℕ) → length (bottom_of i seed below t).i ≡ 16
 bottom_wide i seed below t =

@@ -1,8 +1,7 @@
 -- The sizes of leaves and of the parts of a signature.
-use Rattle.std.proofs.Common.{◌≡◌, ◌<◌, ◌≤◌, ◌+◌, ◌*◌, ◌/◌, ◌%◌, ◌^◌, ℕ, List, ◌++◌, length, take, sym, ap, ◌∙◌, subst, arith, length-append, length-take}
+use Rattle.std.proofs.Common.{◌≡◌, ◌<◌, ◌+◌, ◌/◌, ◌%◌, ◌^◌, ℕ, List, ◌++◌, length, arith, length-append}
 use Rattle.std.specs.Int.{w32, to_be_bytes}
 use Rattle.std.proofs.lemmas.Nat.{pow-add}
-use Rattle.sha2.specs.Sha256.{sha256}
 use Rattle.lms_keys.specs.LmsType.{height, signature_len}
 use Rattle.lms_keys.specs.Secret as one
 use Rattle.lms_keys.specs.declared.lms_type.LmsType.{LmsType}

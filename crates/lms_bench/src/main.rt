@@ -8,9 +8,11 @@
 
 mod one_by_one;
 
-ghost use Rattle.std.specs.Prelude.{◌≡◌, length};
-ghost use Rattle.lms_keys.specs.LmsType.{signature_len};
+ghost use Rattle.std.specs.Prelude.{◌≡◌, ◌<◌, ◌≤◌, ◌+◌, ◌^◌, length};
+ghost use Rattle.lms_keys.specs.LmsType.{height, signature_len};
+ghost use Rattle.hss_keys.specs.Secret as two;
 
+use hss_keys::{Below, SigningKey};
 use lmots::{OtsType, public_of, public_of_eight};
 use lms_keys::{LmsType, PublicKey, SecretKey, verify};
 use one_by_one::root;
@@ -28,7 +30,8 @@ const MESSAGE: &[u8; 22] = b"a message of one line\n";
 
 // What is done, and so what is made: the SHA-256 of 55 bytes, a one-time public key, the one-time
 // public keys of eight leaves, an LMS key, its root by one hash after another, a signature with each
-// leaf in turn, or a verdict on one, and the last two by one hash after another.
+// leaf in turn, or a verdict on one, and the last two by one hash after another; or a signature of two
+// levels, each below another leaf of the top key than the one before.
 #[derive(Debug, Clone, Copy)]
 enum Work {
     Hash,
@@ -40,6 +43,7 @@ enum Work {
     SignAlone,
     Verify,
     VerifyAlone,
+    Change,
 }
 
 #[derive(Clone, Copy)]
@@ -61,6 +65,7 @@ fn work_of(word: &str) -> Option<Work> {
         "sign-one-by-one" => Some(Work::SignAlone),
         "verify" => Some(Work::Verify),
         "verify-one-by-one" => Some(Work::VerifyAlone),
+        "change" => Some(Work::Change),
         _ => None,
     }
 }
@@ -174,6 +179,19 @@ fn sign(secret: &SecretKey, times: u32, out: &mut [u8]) -> u32
     front(&Sha256::digest(&*out))
 }
 
+// Each turn makes the key below anew, since its leaf is of the key below the other of two leaves of the top key.
+fn change(key: &mut SigningKey, leaves: u32, times: u32, out: &mut [u8]) -> u32
+    requires leaf { leaves < 2 ^ two.height_of key.old }
+    requires room { length out.old ≡ two.signature_len key.old }
+{
+    let mut leaf = 0;
+    'changes: for _ in 0..times {
+        leaf = if leaf == 0 { leaves } else { 0 };
+        key.sign_at(leaf, MESSAGE, out);
+    }
+    front(&Sha256::digest(&*out))
+}
+
 // How many of the verdicts are true.
 fn verdicts(public: &PublicKey, signature: &[u8], alone: bool, times: u32) -> u32
     requires { length signature.now ≡ signature_len public.now.lms public.now.ots }
@@ -198,6 +216,26 @@ fn timed_sign(rt: &impl Clock, alloc: Global, case: Case) -> io::Result<Option<(
     let mut out = vec![in alloc; 0u8; secret.signature_len()]?;
     let start = Instant::now(rt)?;
     let value = sign(&secret, case.times, &mut out);
+    Ok(Some((value, start.elapsed(rt)?)))
+}
+
+// A key of height 5 above keys of these types, of which the second begins with leaf `leaves`.
+fn timed_change(
+    rt: &impl Clock,
+    alloc: Global,
+    below: Below,
+    leaves: u32,
+    times: u32,
+) -> io::Result<Option<(u32, Duration)>>
+    requires low { height below.lms ≤ 10 }
+    requires leaf { leaves < 2 ^ (5 + height below.lms) }
+{
+    let Ok(mut key) = SigningKey::of_two(alloc, LmsType::H5, below.ots, I, SEED, below, 0) else {
+        return Ok(None);
+    };
+    let mut out = vec![in alloc; 0u8; key.signature_len()]?;
+    let start = Instant::now(rt)?;
+    let value = change(&mut key, leaves, times, &mut out);
     Ok(Some((value, start.elapsed(rt)?)))
 }
 
@@ -238,6 +276,19 @@ fn timed(rt: &impl Clock, alloc: Global, case: Case) -> io::Result<Option<(u32, 
         },
         Work::Sign => return timed_sign(rt, alloc, case),
         Work::Verify | Work::VerifyAlone => return timed_verify(rt, alloc, case),
+        Work::Change => {
+            let ots = case.ots;
+            return match case.lms {
+                LmsType::H10 => {
+                    let lms = LmsType::H10;
+                    timed_change(rt, alloc, Below { lms, ots }, 1024, case.times)
+                }
+                _ => {
+                    let lms = LmsType::H5;
+                    timed_change(rt, alloc, Below { lms, ots }, 32, case.times)
+                }
+            };
+        }
     };
     Ok(Some((value, start.elapsed(rt)?)))
 }
@@ -246,7 +297,7 @@ fn main(rt: HostRuntime) -> io::Result<()> {
     let words: Vec<String> = env::args(&rt)?.collect(rt.alloc())?;
     let Some(case) = case_of(words.as_slice()) else {
         return println!(rt;
-            "lms_bench hash|key|eight|make|one-by-one|sign|sign-one-by-one|verify|verify-one-by-one 5|10 1|2|4|8 TIMES [time]"
+            "lms_bench hash|key|eight|make|one-by-one|sign|sign-one-by-one|verify|verify-one-by-one|change 5|10 1|2|4|8 TIMES [time]"
         );
     };
     let Some((value, time)) = timed(&rt, rt.alloc(), case)? else {

@@ -1,6 +1,5 @@
-use Rattle.std.proofs.Common.{rules, ◌≡◌, List, ℕ, length, ◌∙◌, ap, sym}
-use Rattle.lms_keys.specs.SigOk.{SigOk}
-use Rattle.hss_keys.specs.Secret.{HasLeaves, public_bytes, signature}
+use Rattle.std.proofs.Common.{rules, ◌≡◌, length}
+use Rattle.hss_keys.specs.Secret.{signature}
 use Rattle.hss_keys.proofs.Both.{good, has_leaves}
 use Rattle.hss_keys.proofs.signing_key.SigningKey.sign_at.Goals as goal
 
