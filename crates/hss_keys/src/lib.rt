@@ -14,8 +14,6 @@ pub mod laws;
 mod linking;
 mod publishing;
 mod signing_key;
-#[cfg(test)]
-mod tests;
 
 pub use below::Below;
 pub use publishing::hss_public;

@@ -22,7 +22,5 @@ mod places;
 mod ref_files;
 mod ref_plans;
 mod stores;
-#[cfg(test)]
-mod tests;
 
 pub use dir_keepers::{DirKeeper, OpenFault};

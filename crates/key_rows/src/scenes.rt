@@ -7,15 +7,15 @@ use octets::Octets;
 use std::alloc::Global;
 use std::test::Fail;
 
-pub(crate) const I: [u8; 16] = *b"fedcba9876543210";
+pub(crate) const I: [u8; 16] = *b"0123456789abcdef";
 
-pub(crate) const SEED: [u8; 32] = *b"a seed of thirty-two bytes here.";
+pub(crate) const SEED: [u8; 32] = *b"thirty-two bytes make this seed.";
 
-pub(crate) const MESSAGE: &[u8; 9] = b"a message";
+pub(crate) const MESSAGE: &[u8; 22] = b"a message of one line\n";
 
 /// The new key file of these, of 5 levels and width 1.
 pub(crate) const FILE: &[u8; 96] =
-    b"LMSKEY01\0\0\0\x05\0\0\0\x01fedcba9876543210a seed of thirty-two bytes here.\
+    b"LMSKEY01\0\0\0\x05\0\0\0\x010123456789abcdefthirty-two bytes make this seed.\
 \0\0\0\0\0\0\0\0\0\0\0\0\0\0\0\0\0\0\0\0\0\0\0\0\0\0\0\0\0\0\0\0";
 
 /// A disk with the first bytes of the key file, in which a byte is another.

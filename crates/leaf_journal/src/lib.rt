@@ -17,10 +17,6 @@ mod leaf_writes;
 mod loading;
 mod making;
 mod signers;
-#[cfg(test)]
-mod tests;
-#[cfg(test)]
-mod two_level_tests;
 
 pub use faults::{CreateFault, LoadFault, SignFault};
 pub use making::{create, create_two};

@@ -1,21 +1,11 @@
-use crate::{CreateFault, LoadFault, SignFault, Signer, create};
+use crate::scenes::{FILE, I, MESSAGE, SEED};
 use edge_disk::{Disk, MemDisk};
+use leaf_journal::{CreateFault, LoadFault, SignFault, Signer, create};
 use lmots::OtsType;
 use lms_keys::{LmsType, PublicKey, verify_any};
 use octets::Octets;
 use std::alloc::Global;
 use std::test::Fail;
-
-const I: [u8; 16] = *b"0123456789abcdef";
-
-const SEED: [u8; 32] = *b"thirty-two bytes make this seed.";
-
-const MESSAGE: &[u8; 22] = b"a message of one line\n";
-
-// A new key file of these.
-const FILE: &[u8; 96] =
-    b"LMSKEY01\0\0\0\x05\0\0\0\x010123456789abcdefthirty-two bytes make this seed.\
-\0\0\0\0\0\0\0\0\0\0\0\0\0\0\0\0\0\0\0\0\0\0\0\0\0\0\0\0\0\0\0\0";
 
 fn make<D: Disk>(alloc: Global, disk: &mut D) -> Result<PublicKey, CreateFault> {
     create(alloc, disk, LmsType::H5, OtsType::W1, I, SEED)

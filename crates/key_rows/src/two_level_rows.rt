@@ -1,16 +1,11 @@
-use crate::{CreateFault, LoadFault, SignFault, Signer, create_two};
+use crate::scenes::{I, MESSAGE, SEED};
 use edge_disk::MemDisk;
+use leaf_journal::{CreateFault, LoadFault, SignFault, Signer, create_two};
 use lmots::OtsType;
 use lms_keys::{LmsType, verify_any};
 use octets::Octets;
 use std::alloc::Global;
 use std::test::Fail;
-
-const I: [u8; 16] = *b"0123456789abcdef";
-
-const SEED: [u8; 32] = *b"thirty-two bytes make this seed.";
-
-const MESSAGE: &[u8; 22] = b"a message of one line\n";
 
 // The bytes of a signature up to the one by the key below, with two trees of 5 levels and width 1.
 const LINK: usize = 8744;

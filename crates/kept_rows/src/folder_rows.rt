@@ -1,6 +1,6 @@
-use crate::{DirKeeper, OpenFault};
 use git_object::{Kind, Object, ObjectId, Objects, Octets, RefName, id_of};
 use keeper_api::{Change, Keeper, KeeperFault, RefChange, RefChanges};
+use keeper_directory::{DirKeeper, OpenFault};
 use std::alloc::Global;
 use std::test::Fail;
 use std::{env, fs, process, str};
@@ -9,7 +9,7 @@ use std::{env, fs, process, str};
 fn fresh_folder(rt: &HostRuntime, name: &str) -> Result<String, Fail> {
     let mut path = env::temp_dir(rt)?.into_string();
     let number = process::id(rt.process());
-    path.push_str(format!(in rt.alloc(); "/keeper_directory-{number}-{name}")?.as_str())?;
+    path.push_str(format!(in rt.alloc(); "/kept_rows-{number}-{name}")?.as_str())?;
     let _ = fs::remove_dir_all(rt, path.as_str());
     Ok(path)
 }

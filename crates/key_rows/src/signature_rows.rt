@@ -1,16 +1,11 @@
-use crate::{Below, SigningKey, hss_public};
+use crate::scenes::{I, MESSAGE, SEED};
+use hss_keys::{Below, SigningKey, hss_public};
 use lmots::OtsType;
 use lms_keys::{LmsType, SecretKey, verify_any};
 use sha2::{Digest, Sha256};
 use std::alloc::Global;
 use std::process::Abort;
 use std::test::Fail;
-
-const I: [u8; 16] = *b"0123456789abcdef";
-
-const SEED: [u8; 32] = *b"thirty-two bytes make this seed.";
-
-const MESSAGE: &[u8; 22] = b"a message of one line\n";
 
 // The leaves on both sides of a change of the key below, with two trees of 5 levels, and the last.
 const LEAVES: [u32; 3] = [31, 32, 1023];

@@ -1,0 +1,8 @@
+//! Rows of a repository that is kept in a folder, over real files. It holds tests alone.
+//!
+//! This crate stands on `git_object`, `keeper_api` and `keeper_directory`, and nothing stands on it.
+
+#![tactic(auto)]
+
+#[cfg(test)]
+mod folder_rows;
