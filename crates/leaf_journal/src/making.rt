@@ -87,6 +87,7 @@ pub fn create<D: Disk>(
     ensures was { OnOk result ((c : List ℕ) → D.seen disk.new ≡ Some c → D.seen disk.old ≡ Some []) }
     ensures tall { IsErrOf result fault.TooTall ↔ (15 < height lms) }
     ensures not_empty { (len : ℕ) → IsErrOf result (fault.NotEmpty len) → (file : List ℕ) → D.seen disk.new ≡ Some file → (len ≡ length file) × (0 < len) }
+    ensures memory { IsErrOf result fault.Memory → (file : List ℕ) → D.seen disk.new ≡ Some file → file ≡ [] }
     ensures untouched { OnErr result ((IsErrOf result fault.Disk → ⊥) → IsKept (D.seen disk.old) (D.seen disk.new) (D.may_leave disk.old) (D.may_leave disk.new)) }
     ensures cause { HasCause create_failed (D.faults disk.old) (D.faults disk.new) result }
 {
@@ -152,6 +153,7 @@ pub fn create_two<D: Disk>(
     ensures was { OnOk result ((c : List ℕ) → D.seen disk.new ≡ Some c → D.seen disk.old ≡ Some []) }
     ensures tall { IsErrOf result fault.TooTall ↔ (15 < height top + height bottom) }
     ensures not_empty { (len : ℕ) → IsErrOf result (fault.NotEmpty len) → (file : List ℕ) → D.seen disk.new ≡ Some file → (len ≡ length file) × (0 < len) }
+    ensures memory { IsErrOf result fault.Memory → (file : List ℕ) → D.seen disk.new ≡ Some file → file ≡ [] }
     ensures untouched { OnErr result ((IsErrOf result fault.Disk → ⊥) → IsKept (D.seen disk.old) (D.seen disk.new) (D.may_leave disk.old) (D.may_leave disk.new)) }
     ensures cause { HasCause create_failed (D.faults disk.old) (D.faults disk.new) result }
 {
