@@ -135,6 +135,7 @@ pub fn read_header(
     ensures low { IfOk result (λ header. height header.lms + height_below header.below ≤ 15) }
     ensures why { IfErr result (λ fault. (file : List ℕ) → length file ≡ len → Begins head.now file → WhyNotLoaded fault file) }
     ensures unread { IsErrOf result fault.Disk → ⊥ }
+    ensures memory { IsErrOf result fault.Memory → ⊥ }
 {
     let Some(top) = read_top(head, i, seed) else {
         return Err(LoadFault::BadHeader);

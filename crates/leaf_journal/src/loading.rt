@@ -1,6 +1,6 @@
 //! What a key file says, and which of its leaves are used.
 
-ghost use Rattle.std.specs.Prelude.{◌≡◌, ◌+◌, ◌^◌, ◌≤◌, ℕ, List, length, drop, IfOk, IfErr, OnOk, Some};
+ghost use Rattle.std.specs.Prelude.{◌≡◌, ◌+◌, ◌^◌, ◌≤◌, ℕ, List, length, drop, IfOk, IfErr, IsErrOf, OnOk, Some};
 ghost use Rattle.octets.specs.Causes.{HasCause};
 ghost use Rattle.edge_disk.specs.Disk.{IsKept};
 ghost use Rattle.edge_disk.specs.Moments.{LeavesOnly};
@@ -9,6 +9,7 @@ ghost use Rattle.hss_keys.specs.Secret.{height_below};
 ghost use Rattle.leaf_journal.specs.Faults.{load_failed};
 ghost use Rattle.leaf_journal.specs.KeyFile.{IsKeyFile};
 ghost use Rattle.leaf_journal.specs.Loading.{Begins, WhyNotLoaded, secret_with};
+ghost use Rattle.leaf_journal.specs.declared.faults.LoadFault.TheVariants as fault;
 
 use crate::LoadFault;
 use crate::first_free::first_free;
@@ -22,6 +23,7 @@ fn read_front<D: Disk>(disk: &mut D, len: u64, head: &mut [u8; 72]) -> Result<()
     requires long { 64 ≤ len }
     requires size { (file : List ℕ) → D.seen disk.old ≡ Some file → length file ≡ len }
     ensures front { OnOk result ((file : List ℕ) → D.seen disk.new ≡ Some file → Begins head.new file) }
+    ensures memory { IsErrOf result fault.Memory → ⊥ }
     ensures why { IfErr result (λ fault. (file : List ℕ) → D.seen disk.new ≡ Some file → WhyNotLoaded fault file) }
     ensures kept { IsKept (D.seen disk.old) (D.seen disk.new) (D.may_leave disk.old) (D.may_leave disk.new) }
     ensures any_moment { LeavesOnly D.moment D.left_since disk.old disk.new (D.may_leave disk.old) }
@@ -43,6 +45,7 @@ pub fn read_head<D: Disk>(
 ) -> Result<Header, LoadFault>
     ensures head { IfOk result (λ header. (file : List ℕ) → D.seen disk.new ≡ Some file → IsKeyFile file (secret_with header i.new seed.new)) }
     ensures low { IfOk result (λ header. height header.lms + height_below header.below ≤ 15) }
+    ensures memory { IsErrOf result fault.Memory → ⊥ }
     ensures why { IfErr result (λ fault. (file : List ℕ) → D.seen disk.new ≡ Some file → WhyNotLoaded fault file) }
     ensures kept { IsKept (D.seen disk.old) (D.seen disk.new) (D.may_leave disk.old) (D.may_leave disk.new) }
     ensures any_moment { LeavesOnly D.moment D.left_since disk.old disk.new (D.may_leave disk.old) }

@@ -5,11 +5,12 @@ ghost use Rattle.octets.specs.Causes.{HasCause};
 ghost use Rattle.octets.specs.Content.{Told};
 ghost use Rattle.edge_disk.specs.Disk.{IsKept, Torn, Written};
 ghost use Rattle.edge_disk.specs.Moments.{LeavesOnly};
-ghost use Rattle.hss_keys.specs.Secret.{height_of, public_bytes, signature_len};
+ghost use Rattle.hss_keys.specs.Secret.{Secret, height_of, public_bytes, signature_len};
 ghost use Rattle.leaf_journal.specs.Faults.{load_failed, sign_failed};
-ghost use Rattle.leaf_journal.specs.KeyFile.{KeepsUsed, UsedInAll, start_of};
+ghost use Rattle.leaf_journal.specs.KeyFile.{IsKeyFile, KeepsUsed, UsedInAll, start_of};
 ghost use Rattle.leaf_journal.specs.Loading.{WhyNotLoaded};
 ghost use Rattle.leaf_journal.specs.Runs.{Marks, Opens, Releases, in_use};
+ghost use Rattle.leaf_journal.specs.declared.faults.LoadFault.TheVariants as load_fault;
 ghost use Rattle.leaf_journal.specs.declared.faults.SignFault.TheVariants as fault;
 
 use crate::first_free::first_free;
@@ -63,11 +64,13 @@ impl Signer {
     ///
     /// With fewer than 64 bytes `WrongLength` comes; else `BadHeader` where the first bytes are the header of no key, 64
     /// of one level and 72 of two, and then `WrongLength` where the length is not the header's and one for each leaf.
-    /// The disk is as it was. With two levels the tree of one key below is made, so that signing needs no memory.
+    /// `Memory` comes only for a key file. The disk is as it was. With two levels the tree of one key below is made, so that
+    /// signing needs no memory.
     pub fn load<D: Disk>(alloc: Global, disk: &mut D) -> Result<Signer, LoadFault>
         ensures loaded { IfOk result (λ signer. (file : List ℕ) → D.seen disk.new ≡ Some file → IsLoaded file signer) }
         ensures covers { IfOk result (λ signer. (file : List ℕ) → D.seen disk.new ≡ Some file → Covers signer file) }
         ensures why { IfErr result (λ fault. (file : List ℕ) → D.seen disk.new ≡ Some file → WhyNotLoaded fault file) }
+        ensures memory { IsErrOf result load_fault.Memory → (file : List ℕ) → D.seen disk.new ≡ Some file → (secret : Secret) × IsKeyFile file secret }
         ensures opened { IfOk result (λ signer. (file : List ℕ) → D.seen disk.new ≡ Some file → Opens (in_use D.Disk) disk.old disk.new signer.marks) }
         ensures kept { IsKept (D.seen disk.old) (D.seen disk.new) (D.may_leave disk.old) (D.may_leave disk.new) }
         ensures any_moment { LeavesOnly D.moment D.left_since disk.old disk.new (D.may_leave disk.old) }

@@ -26,3 +26,15 @@ returns-in-Ok-make_key-clause-opened g c = λ file told.
     opens g.D.Disk.may_leave c.args.disk.now c.read_marks.new.disk file _
     (λ image may. c.in-Ok.ensures.kept.no_more image (c.in-Ok-read_marks.ensures.kept.no_more image may))
     (g.met.D.Disk.seen_may_stay c.read_marks.new.disk file told) (returns-in-Ok-make_key-clause-loaded g c file told)
+
+pub returns-in-Err-read_marks-clause-memory : goal.returns-in-Err-read_marks-clause-memory
+returns-in-Err-read_marks-clause-memory g c = λ is file told. (_, c.in-Ok.ensures.head file (c.in-Err-read_marks.ensures.kept.same file told))
+
+pub returns-in-Err-make_key-clause-memory : goal.returns-in-Err-make_key-clause-memory
+returns-in-Err-make_key-clause-memory g c = λ is file told. (_, c.in-Ok.ensures.head file (c.in-Ok-read_marks.ensures.kept.same file told))
+
+pub returns-in-Ok-make_key-clause-kept : goal.returns-in-Ok-make_key-clause-kept
+returns-in-Ok-make_key-clause-kept g c = record {
+  same = λ file told. c.in-Ok.ensures.kept.same file (c.in-Ok-read_marks.ensures.kept.same file told);
+  no_more = λ image may. c.in-Ok.ensures.kept.no_more image (c.in-Ok-read_marks.ensures.kept.no_more image may);
+}
