@@ -89,6 +89,7 @@ impl Envelope {
         ensures sealed { OnOk result (self.new ≡ sealed signature self.old) }
         ensures room { IsOk result → has_room signature.keyid self.old.signatures ≡ true }
         ensures full { IsErrOf result SealFault.Full → has_room signature.keyid self.old.signatures ≡ false }
+        ensures refused { has_room signature.keyid self.old.signatures ≡ false → IsErrOf result SealFault.Full }
         ensures same { OnErr result (self.new ≡ self.old) }
     {
         let at = place_of(signature.keyid.as_slice(), self.signatures.as_slice());
