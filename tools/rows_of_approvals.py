@@ -201,13 +201,25 @@ def with_note(history, path, _text, tree):
     return {path: history.seal(text_of(fields), [REVIEWER])}
 
 
-def of_another_type(history, path, text, _tree):
-    return {path: text.replace(b"vnd.gittuf+json", b"json")}
+def of_another_type(history, path, _text, tree):
+    """Its signature is good over a payload of that type."""
+    payload, kind = approval(MAIN, ZEROS, tree), "application/json"
+    return {path: envelope(payload, [(REVIEWER.id, history.sign(REVIEWER, encoded(payload, kind)))], kind)}
+
+
+def that_says(**other):
+    """What was signed says another type of itself, or none."""
+
+    def made(history, path, _text, tree):
+        fields = {"targetRef": MAIN, "fromRevisionID": ZEROS, "targetTreeID": tree} | other
+        return {path: history.seal(text_of(fields), [REVIEWER])}
+
+    return made
 
 
 def which_files_are_approvals():
     """A file or an executable of at most 1 MiB at the place, and no link, no directory and no other name; with fields
-    beside the four; of the type alone, and where it is an envelope."""
+    beside the four; of the type alone, in the envelope and in what was signed, and where it is an envelope."""
     counted, not_counted = (0, f"accepted {MAIN} 1 entries\n", ""), (1, f"violation {MAIN} 3 ref-rule main 1 of 2\n", "")
     rows = (
         (with_mode(FILE), counted),
@@ -219,6 +231,9 @@ def which_files_are_approvals():
         (lambda _history, path, text, _tree: {path: text.ljust(MOST + 1)}, not_counted),
         (with_note, counted),
         (of_another_type, not_counted),
+        (that_says(type="approval"), counted),
+        (that_says(type="approvals"), not_counted),
+        (that_says(), not_counted),
         (lambda _history, path, _text, _tree: {path: b"{}"}, not_counted),
     )
     runs = [it for files_of, ending in rows for it in (Anew(), Run(f"verify-ref {MAIN} --stdin", ending, source=judged_by(files_of)))]

@@ -106,6 +106,13 @@ def signer_of_a_rule_file_out_of_reach():
     return history, asked(0, "accepted refs/heads/main 1 entries")
 
 
+def signer_whose_key_the_root_alone_has():
+    """The rule of main lists the owner, whose key stands in no file but the root."""
+    history = guarded(top_file([MAINTAINER], [main_rule(MAINTAINER, OWNER)]))
+    history.record(MAIN, history.commit(BEFORE), OWNER)
+    return history, asked(0, "accepted refs/heads/main 1 entries")
+
+
 def signer_whom_no_rule_in_reach_lists():
     """The newcomer's key is one of the policy's, and only a rule that main does not reach lists it."""
     rules = [main_rule(MAINTAINER), rule("other", "git:refs/heads/other", [MAINTAINER])]
@@ -240,6 +247,7 @@ ROWS = (
     attestations_moved_back,
     attestations_moved_back_later,
     signer_of_a_rule_file_out_of_reach,
+    signer_whose_key_the_root_alone_has,
     signer_whom_no_rule_in_reach_lists,
     recovered,
     recovered_and_hurt,

@@ -42,9 +42,15 @@ def top(*names):
     return top_file([OWNER], [rule(name, "git:*", [OWNER]) for name in names])
 
 
+def of_another_type(files, name):
+    """The same files, of which one says that its payload is of another type."""
+    return files | {name: files[name].replace(b"vnd.gittuf+json", b"json")}
+
+
 def files_of_a_policy():
     """A root alone and with files, no root, bad ones, one that nobody signed, a file under another's stem, one that hangs
-    on no rule, and one that another key signed; files go by their stems, so that `a` comes before `a-b`."""
+    on no rule, one that another key signed, and one of another type; files go by their stems, so that `a` comes before
+    `a-b`."""
     good = owners(base_root())
     with_dev = {"root": good, "targets": owners(top("dev"))}
     rows = (
@@ -58,10 +64,14 @@ def files_of_a_policy():
         (lambda it: sealed(it, root=owners(base_root(), KEEPER)), "root-threshold 0 of 1"),
         (lambda it: sealed(it, root=good, dev=owners(below("dev"))), "unreachable dev"),
         (lambda it: sealed(it, root=good, a=owners(below("dev")), a_b=owners(below("dev"))), "bad-file a"),
+        (lambda it: sealed(it, root=good) | {b"a.json": b"{}", b"targets.json": b"{}"}, "bad-file targets"),
         (lambda it: sealed(it, dev=owners(below("dev"), KEEPER), **with_dev), "file-threshold dev 0 of 1"),
         (lambda it: sealed(it, root=good, targets=owners(below("dev"))), "bad-file targets"),
         (lambda it: sealed(it, root=good) | {b".json": b"{}"}, "bad-file "),
         (lambda it: sealed(it, root=good) | {b"a b%.json": b"{}"}, "bad-file a%20b%25"),
+        (lambda it: sealed(it, root=good) | {b"a b%.json": it.seal(*owners(below("a b%")))}, "unreachable a%20b%25"),
+        (lambda it: of_another_type(sealed(it, **with_dev), b"root.json"), "bad-file root"),
+        (lambda it: of_another_type(sealed(it, dev=owners(below("dev")), **with_dev), b"dev.json"), "bad-file dev"),
         (lambda it: sealed(it, root=good) | {b"note.txt": b"{}"}, None),
     )
     return verdicts(rows)

@@ -121,6 +121,7 @@ def fields_of_a_root():
         (b'"x":[{}],"type":"root","version":1', good % 1),
     ]
     versions = (b"0", b"1.0", b"1e3", b"%d" % (LAST_VERSION + 1), b'"1"', b"-1", b"null", b'1,"schema":3', b'1,"schema":0')
+    versions += tuple(b'1,"schema":' + it for it in (b'"1"', b"null", b"1.0"))
     table += [(b'"type":"root","version":' + it, "missing-field") for it in versions]
     table += [(b'"type":"root","version":1,"schema":2,"persons":[]', "missing-field")]
     table += [(it, "missing-field") for it in (b'"type":"rules","version":1', b'"version":1', b'"type":"root"')]
@@ -128,6 +129,32 @@ def fields_of_a_root():
     deep = (b"[" * 126 + b"]" * 126, b"[" * 127 + b"]" * 127)
     table += [(b'"type":"root","version":1,"x":' + deep[0], good % 1), (b'"type":"root","version":1,"x":' + deep[1], "not-json")]
     return History(), asked("root", b"{", "not-json"), *(asked("root", b"{" + it + tail, answer) for it, answer in table)
+
+
+def without(value, field):
+    return {name: it for name, it in value.items() if name != field}
+
+
+def fields_that_are_missing():
+    """Each field of a file, a key, a person, a role and a rule by itself; and listed ids and thresholds that are none."""
+    one, alice = root([A.listed()], role([A.id])), role(["alice"], 1, "persons")
+    two = root([A.listed()], alice, alice, [person("alice", A)])
+    file = rules([A.listed()], [rule()])
+    roots = [without(one, it) for it in ("keys", "roles")] + [without(two, "persons")]
+    roots += [one | {"keys": [without(A.listed(), it)]} for it in ("keyid", "keytype", "public")]
+    roots += [one | {"roles": without(one["roles"], it)} for it in ("root", "targets")]
+    roots += [root([A.listed()], role([A.id]), without(role([A.id]), it)) for it in ("keyids", "threshold")]
+    roots += [root([A.listed()], alice, without(alice, "persons"), [person("alice", A)])]
+    roots += [root([A.listed()], role([A.id, it])) for it in (A.id.upper(), A.id[1:], A.id + "0", "")]
+    roots += [root([A.listed()], role([A.id], it)) for it in ("1", 1.0, -1)]
+    roots += [two | {"persons": [without(person("alice", A), it)]} for it in ("name", "keyids")]
+    files = [without(file, it) for it in ("type", "name", "version", "keys", "rules")] + [file | {"type": "root"}]
+    files += [file | {"rules": [without(rule(), it)]} for it in ("name", "paths", "terminating", "keyids", "threshold")]
+    return (
+        History(),
+        *(asked("root", it, "missing-field") for it in roots),
+        *(asked("rules", it, "missing-field") for it in files),
+    )
 
 
 def first_fault_of_a_root():
@@ -236,9 +263,13 @@ def first_fault_of_a_rule_file():
 
 
 def persons_of_a_rule_file():
-    """Persons are judged last."""
+    """Persons are judged last, and counted behind the patterns."""
     who = rule("m", who=("alice",), field="persons")
+    many = rule("m", ["git:*"] * (MOST_PATTERNS + 1), who=("alice",), field="persons")
     table = [
+        ([OF_55_BYTES], [who], [person("alice", A)] * (MOST + 1), f"bad-count {MOST + 1}"),
+        ([OF_55_BYTES], [who], [person("alice", A)] * MOST, "bad-key 0"),
+        ([OF_55_BYTES], [many], [person("alice", A)] * (MOST + 1), f"bad-count {MOST_PATTERNS + 1}"),
         ([A.listed()], [who], [person("alice", A), person("bob")], "bad-person 1"),
         ([A.listed()], [who], [person("alice", A), person("bob", A)], "shared-key 1"),
         ([A.listed()], [rule("targets", who=("alice",), field="persons")], [person("alice")], "bad-name 0"),
@@ -249,6 +280,7 @@ def persons_of_a_rule_file():
 ROWS = (
     roots_read,
     fields_of_a_root,
+    fields_that_are_missing,
     first_fault_of_a_root,
     first_fault_of_persons,
     rule_files_read,

@@ -53,6 +53,12 @@ def next_root_signed_twice_by_one_person():
     return followed(files, 1, SECOND + "root-succession 1 of 2", before)
 
 
+def next_root_signed_by_a_key_of_another_file():
+    """The old root role lists the maintainer too, who signed what follows with a key of the old top file alone."""
+    files, before = next_signed_by(root(1, [OWNER], [OWNER, MAINTAINER], [OWNER]), [OWNER], MAINTAINER)
+    return followed(files, 1, SECOND + "root-succession 0 of 1", before)
+
+
 def file_signed_by_one_of_two():
     """The rule of the file asks for two, and one signed it."""
     top = top_file([MAINTAINER, REVIEWER], [main_rule(MAINTAINER, REVIEWER, threshold=2)])
@@ -69,6 +75,13 @@ def top_file_signed_by_one_of_two():
     """The root's role for the top file asks for two, and its own role for one."""
     of_two = root(1, [OWNER, KEEPER], [OWNER], [OWNER, KEEPER], (1, 2))
     return guarded(root=(of_two, [OWNER])), asked(1, FIRST + "file-threshold targets 1 of 2", POLICY)
+
+
+def top_file_signed_by_a_key_of_its_own():
+    """The root's role for the top file lists the maintainer too, whose key stands in that file alone, and who signed it."""
+    listed = root(1, [OWNER], [OWNER], [OWNER, MAINTAINER])
+    history = guarded(root=(listed, [OWNER]), targets=(base_top(), [MAINTAINER]))
+    return history, asked(1, FIRST + "file-threshold targets 0 of 1", POLICY)
 
 
 def anchored_by_a_person():
@@ -89,8 +102,10 @@ ROWS = (
     next_root_without_old_keys,
     next_root_signed_by_the_other_key,
     next_root_signed_twice_by_one_person,
+    next_root_signed_by_a_key_of_another_file,
     file_signed_by_one_of_two,
     file_signed_twice_by_one_person,
     top_file_signed_by_one_of_two,
+    top_file_signed_by_a_key_of_its_own,
     anchored_by_a_person,
 )

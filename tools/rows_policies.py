@@ -15,15 +15,15 @@ def base64_of(body):
     return base64.b64encode(body).decode()
 
 
-def encoded(payload):
+def encoded(payload, kind=PAYLOAD_TYPE):
     """What DSSE signs."""
-    return b"DSSEv1 %d %s %d %s" % (len(PAYLOAD_TYPE), PAYLOAD_TYPE.encode(), len(payload), payload)
+    return b"DSSEv1 %d %s %d %s" % (len(kind), kind.encode(), len(payload), payload)
 
 
-def envelope(payload, signatures):
+def envelope(payload, signatures, kind=PAYLOAD_TYPE):
     """The envelope of a payload with signatures, which are (key id or None, bytes)."""
     listed = [{"sig": base64_of(sig)} | ({} if id is None else {"keyid": id}) for id, sig in signatures]
-    return text_of({"payload": base64_of(payload), "payloadType": PAYLOAD_TYPE, "signatures": listed})
+    return text_of({"payload": base64_of(payload), "payloadType": kind, "signatures": listed})
 
 
 def listed_keys(keys):
