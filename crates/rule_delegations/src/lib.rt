@@ -14,6 +14,8 @@ mod cutting;
 mod deep;
 mod forest;
 pub mod laws;
+#[cfg(test)]
+mod limit_tests;
 mod links;
 mod marking;
 mod matching;

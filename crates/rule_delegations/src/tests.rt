@@ -1,7 +1,7 @@
 use crate::{AssembleFault, RuleRef, Rules};
 use octets::Octets;
 use ref_patterns::{Pattern, Space};
-use root_metadata::{Key, KeyId, KeyIds, Keys, Person, Persons, key_id};
+use root_metadata::{KeyId, KeyIds, Keys, Person, Persons, key_id};
 use rule_files::{Patterns, Rule, RuleFile, RuleFiles, RuleList};
 use std::alloc::Global;
 use std::test::Fail;
@@ -35,7 +35,7 @@ fn persons_of(alloc: Global, listed: &[(&[u8], &[u8])]) -> Result<Persons, Fail>
     Ok(persons)
 }
 
-fn rule_of(
+pub(crate) fn rule_of(
     alloc: Global,
     name: &[u8],
     pattern: &[u8],
@@ -57,7 +57,7 @@ fn rule_of(
     })
 }
 
-fn file_of(alloc: Global, name: &[u8], rules: RuleList) -> Result<RuleFile, Fail> {
+pub(crate) fn file_of(alloc: Global, name: &[u8], rules: RuleList) -> Result<RuleFile, Fail> {
     Ok(RuleFile {
         name: Octets::from_slice(alloc, name)?,
         schema: 1,
@@ -75,7 +75,7 @@ fn plain_rule(alloc: Global, name: &[u8]) -> Result<Rule, Fail> {
 }
 
 // A file of such rules, each named by a letter.
-fn plain_file(alloc: Global, name: &[u8], letters: &[u8]) -> Result<RuleFile, Fail> {
+pub(crate) fn plain_file(alloc: Global, name: &[u8], letters: &[u8]) -> Result<RuleFile, Fail> {
     let mut rules = RuleList::new(alloc);
     for letter in letters {
         rules.push(plain_rule(alloc, &[*letter])?)?;
@@ -91,7 +91,7 @@ fn files_of(alloc: Global, listed: &[(&[u8], &[u8])]) -> Result<RuleFiles, Fail>
     Ok(files)
 }
 
-fn assembled(alloc: Global, files: RuleFiles) -> Result<Rules, Fail> {
+pub(crate) fn assembled(alloc: Global, files: RuleFiles) -> Result<Rules, Fail> {
     match Rules::assemble(alloc, files) {
         Ok(rules) => Ok(rules),
         Err(_) => Err("files of a policy".into()),
@@ -99,7 +99,7 @@ fn assembled(alloc: Global, files: RuleFiles) -> Result<Rules, Fail> {
 }
 
 // The number of the refusal and what it names, or its count.
-fn refusal(alloc: Global, files: RuleFiles) -> Result<(u8, Octets, usize), Fail> {
+pub(crate) fn refusal(alloc: Global, files: RuleFiles) -> Result<(u8, Octets, usize), Fail> {
     match Rules::assemble(alloc, files) {
         Ok(_) => Err("a refusal".into()),
         Err(AssembleFault::DuplicateName { name }) => Ok((1, name, 0)),
@@ -252,43 +252,6 @@ fn eight_rules_below_each_other_are_the_most(rt: HostRuntime) -> Result<(), Fail
     let rules = assembled(alloc, files_of(alloc, eight)?)?;
     let found = rules.search(alloc, Space::File, b"a")?;
     assert_eq!(rt; found.len(), 8);
-    Ok(())
-}
-
-// Rules of names of two letters or digits, so many.
-fn many_rules(alloc: Global, count: usize) -> Result<RuleFiles, Fail> {
-    let mut rules = RuleList::new(alloc);
-    for at in 0..count {
-        let name = [b'0' + (at / 40 % 40) as u8, b'0' + (at % 40) as u8];
-        rules.push(rule_of(alloc, &name, b"file:*", false, &[], 1)?)?;
-    }
-    let mut files = RuleFiles::new(alloc);
-    files.push(file_of(alloc, b"targets", rules)?)?;
-    Ok(files)
-}
-
-#[test]
-fn rules_and_listed_keys_are_counted(rt: HostRuntime) -> Result<(), Fail> {
-    let alloc = rt.alloc();
-    let (number, _, count) = refusal(alloc, many_rules(alloc, 1025)?)?;
-    assert_eq!(rt; number, 4);
-    assert_eq!(rt; count, 1025);
-    let rules = assembled(alloc, many_rules(alloc, 1024)?)?;
-    assert_eq!(rt; rules.search(alloc, Space::File, b"a")?.len(), 1024);
-    let mut keys = Keys::new(alloc);
-    for _ in 0..1026 {
-        keys.push(Key {
-            id: key_id(b"abc"),
-            public: Octets::from_slice(alloc, b"abc")?,
-        })?;
-    }
-    let mut top = plain_file(alloc, b"targets", b"")?;
-    top.keys = keys;
-    let mut files = RuleFiles::new(alloc);
-    files.push(top)?;
-    let (number, _, count) = refusal(alloc, files)?;
-    assert_eq!(rt; number, 4);
-    assert_eq!(rt; count, 1026);
     Ok(())
 }
 
