@@ -72,13 +72,15 @@ def put(body, at, *lines):
 
 
 def lines_missing_repeated_or_swapped():
-    """The number of the first line that is not as wanted, for each line; 0 is none."""
+    """The number of the first line that is not as wanted, for each line; 0 is none. A word alone, without its space, is none
+    of a line of a person."""
     missing = (1, 11, 3, 4, 0, 6, 7, 8, 0, 0, 11, 12, 13, 0, 0, 16)
     repeated = (2, 3, 4, 5, 6, 7, 8, 9, 0, 0, 12, 13, 14, 0, 16, 17)
     swapped = (1, 3, 3, 4, 6, 6, 7, 8, 0, 11, 11, 12, 13, 15, 16)
     runs = [good_reference(), good_annotation()]
     for at, line in enumerate(REFERENCE, 1):
         runs += [bad(put(REFERENCE, at), at), bad(put(REFERENCE, at, line, line), at + 1), bad(put(REFERENCE, at, "x"), at)]
+    runs += [bad(put(REFERENCE, at, word), at) for at, word in ((2, "author"), (3, "committer"))]
     for at in range(1, len(REFERENCE)):
         runs.append(bad(put(put(REFERENCE, at, REFERENCE[at]), at + 1, REFERENCE[at - 1]), at))
     for at, line in enumerate(ANNOTATION, 1):
@@ -105,12 +107,17 @@ def text_of(line):
 
 
 def numbers_and_names():
-    """Numbers at both ends and in other forms, and names that stand in no entry."""
+    """Numbers at both ends and in other forms, ids in capitals or with a digit less or more, and names that stand in no
+    entry."""
     rows = [f"number: {it}" for it in ("0", "1", "1000001", "02", "+2", "", "2 ", "18446744073709551618")]
     runs = [bad(put(ANNOTATION, 12, it), 12) for it in rows]
     runs += [good_annotation(put(ANNOTATION, 12, f"number: {it}"), it) for it in (2, LAST_NUMBER)]
     runs.append(bad(put(REFERENCE, 9, "number: 2"), 9))
     runs += [bad(put(REFERENCE, 7, it), 7) for it in (f"ref: {LOG}", "ref: heads/main", "ref: refs/", f"ref:{MAIN}")]
+    ids = (BLOB.upper(), BLOB[1:], f"{BLOB}0")
+    runs += [bad(put(REFERENCE, 8, f"targetID: {it}"), 8) for it in ids]
+    for at, tail in ((2, "parent {}"), (5, "lmssig {} AA=="), (9, "entryID: {}")):
+        runs += [bad(put(ANNOTATION, at, tail.format(it)), at) for it in ids]
     runs.append(good_reference(put(REFERENCE, 7, f"ref: {POLICY}"), POLICY))
     return History(), *runs
 

@@ -126,7 +126,10 @@ def tags_before_a_commit():
         top = store.tag(top, "tag")
     store.whole(top, empty, 0, 1)
     store.broken(store.tag(top, "tag"), lowest)
-    store.broken(store.tag(start, "tree"), start)
+    for kind in ("blob", "tree", "tag"):
+        store.broken(store.tag(start, kind), start)
+    for kind in ("blob", "tree", "commit"):
+        store.broken(store.tag(lowest, kind), lowest)
     store.broken(store.tag(store.file(b"lost"), "commit"), store.file(b"lost"))
     return store.done()
 
