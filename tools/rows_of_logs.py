@@ -134,10 +134,14 @@ def base64_stands_or_not():
 
 
 def ends_of_bodies():
-    """A body ends early, within a line, or goes on."""
+    """A body ends early, after each line or within one, or goes on. An annotation may end behind its number, and its message
+    has a line."""
     whole = lines_of(REFERENCE)
     rows = ((b"", 1), (REFERENCE[0].encode(), 1), (whole[:-1], 9), (whole + b"x", 10), (whole + b"x\n", 10))
-    return History(), *(bad(body, line) for body, line in rows)
+    fronts = [body[:at] for body in (REFERENCE, ANNOTATION) for at in range(1, len(body)) if body[at - 1] != "number: 7"]
+    runs = [bad(front, len(front) + 1) for front in fronts]
+    runs += [good_annotation(ANNOTATION[:12], message=b""), bad((*ANNOTATION[:13], ANNOTATION[15]), 14)]
+    return History(), *(bad(body, line) for body, line in rows), *runs
 
 
 def with_ids(count):
