@@ -1,6 +1,6 @@
 //! One list type for sets that are kept in the order of their keys.
 
-ghost use Rattle.std.specs.Prelude.{◌≡◌, ◌++◌, ◌∷◌, ◌==◌, [], ℕ, List, length, slice_get, true, IfOk, OnOk, OnErr};
+ghost use Rattle.std.specs.Prelude.{◌≡◌, ◌++◌, ◌∷◌, ◌==◌, [], ℕ, List, length, slice_get, true, IfOk, IsOk, OnOk, OnErr};
 ghost use Rattle.std.specs.Option.{option_copied};
 ghost use Rattle.root_metadata.specs.Risings.{IsRising, has_key, is_next};
 
@@ -114,7 +114,8 @@ impl<T: Keyed> Rising<T> {
 
     /// An equal list. That of the empty list takes no memory.
     pub fn copy(&self) -> Result<Self, Memory>
-        ensures { IfOk result (λ list. list ≡ self.now) }
+        ensures same { IfOk result (λ list. list ≡ self.now) }
+        ensures free { length self.now ≡ 0 → IsOk result }
     {
         Ok(Rising {
             items: self.items.copy()?,
