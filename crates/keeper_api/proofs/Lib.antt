@@ -1,6 +1,7 @@
 pub mod Committing
 pub mod Emptiness
 pub mod Following
+pub mod Halving
 pub mod Inserting
 pub mod Planning
 pub mod Removing

@@ -6,7 +6,9 @@ pub mod Keepers
 pub mod Undisturbed
 -- The store in memory.
 pub mod Stores
--- States between its private calls: trees as maps, a list of changes as a plan, inserts that can be taken back.
+-- States between its private calls: trees as maps, a list of objects as two halves, a list of changes as a plan, inserts
+-- that can be taken back.
 pub mod Trees
+pub mod Halves
 pub mod RefPlans
 pub mod Undoing

@@ -16,8 +16,6 @@ mod memory_keeper;
 mod memory_trees;
 mod questions;
 mod ref_plans;
-#[cfg(test)]
-mod tests;
 mod tree_edits;
 
 pub use changes::{Change, RefChange, RefChanges, RefValue};

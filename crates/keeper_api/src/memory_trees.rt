@@ -1,6 +1,6 @@
 //! The two trees of a keeper in memory: a change of both, and the entry after a key.
 
-ghost use Rattle.std.specs.Prelude.{◌≡◌, map, slice_get, Option, IfOk, OnOk, OnErr};
+ghost use Rattle.std.specs.Prelude.{◌≡◌, map, slice_get, Option, IfOk, IsTrue, OnOk, OnErr};
 ghost use Rattle.std.specs.BTreeMap.{IsOrdered};
 ghost use Rattle.std.specs.FinMap.{empty};
 ghost use Rattle.std.specs.BTreeMap.Range.{entries_between};
@@ -10,6 +10,7 @@ ghost use Rattle.std.specs.declared.ops.Bound.TheVariants.{Unbounded};
 ghost use Rattle.octets.specs.BytesMap.{map_of};
 ghost use Rattle.git_object.specs.Objects.{pair_id};
 ghost use Rattle.keeper_api.specs.Changes.{with_objects, with_refs};
+ghost use Rattle.keeper_api.specs.Halves.{AreNew, half};
 ghost use Rattle.keeper_api.specs.Trees.{bound_after};
 
 use crate::Change;
@@ -36,8 +37,27 @@ fn entries_of(alloc: Global, objects: &[Object]) -> Result<Vec<(ObjectId, Object
     Ok(entries)
 }
 
-// A tree of objects, each under its own id.
-fn tree_of(alloc: Global, objects: &[Object]) -> Result<ObjectTree, Memory>
+// Keeps the objects at each second place under their own ids: from the first on, or from the second. Answers whether nothing
+// was kept there before, and stops where something was.
+fn keep_half(tree: &mut ObjectTree, objects: &[Object], first: bool) -> Result<bool, Memory>
+    ensures { IfOk result (λ new. IsTrue new → (map_of tree.new ≡ with_objects (half first objects.now) (map_of tree.old)) × AreNew (half first objects.now) (map_of tree.old)) }
+{
+    let mut is_taken = first;
+    'objects: for object in objects {
+        if is_taken {
+            let copy = object.copied()?;
+            match tree.insert(object.id(), copy)? {
+                Some(_) => return Ok(false),
+                None => {}
+            }
+        }
+        is_taken = !is_taken;
+    }
+    Ok(true)
+}
+
+// A tree of objects, each kept under its own id in the order of the list.
+fn tree_in_order(alloc: Global, objects: &[Object]) -> Result<ObjectTree, Memory>
     ensures { IfOk result (λ tree. map_of tree ≡ with_objects objects.now empty) }
 {
     let mut tree = BTreeMap::new(alloc);
@@ -46,6 +66,18 @@ fn tree_of(alloc: Global, objects: &[Object]) -> Result<ObjectTree, Memory>
         let _ = tree.insert(object.id(), copy)?;
     }
     Ok(tree)
+}
+
+// A tree of objects, each under its own id. Where ids rise, as in a stream, each second object goes first and leaves nodes half
+// full, which the others fill; in their order all would stay half full.
+fn tree_of(alloc: Global, objects: &[Object]) -> Result<ObjectTree, Memory>
+    ensures { IfOk result (λ tree. map_of tree ≡ with_objects objects.now empty) }
+{
+    let mut tree = BTreeMap::new(alloc);
+    if keep_half(&mut tree, objects, true)? && keep_half(&mut tree, objects, false)? {
+        return Ok(tree);
+    }
+    tree_in_order(alloc, objects)
 }
 
 // Makes a change of two trees of which that of the objects is empty: it is made anew, so that nothing has to be taken back.

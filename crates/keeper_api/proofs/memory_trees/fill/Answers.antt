@@ -1,8 +1,7 @@
 use Rattle.std.proofs.Common.{ap, ◌∙◌}
 use Rattle.std.specs.BTreeSet.{contains}
-use Rattle.std.specs.FinMap.{empty}
 use Rattle.octets.specs.BytesMap.{by_bytes}
-use Rattle.keeper_api.specs.Changes.{with_objects, with_refs}
+use Rattle.keeper_api.specs.Changes.{with_refs}
 use Rattle.keeper_api.proofs.Planning.{planned}
 use Rattle.keeper_api.proofs.Trees.{exact_bytes}
 use Rattle.octets.specs.BytesMap.{map_of}

@@ -1,13 +1,14 @@
-use Rattle.std.proofs.Common.{◌∙◌}
-use Rattle.std.specs.FinMap.{empty, insert}
-use Rattle.std.proofs.lemmas.Cmp.{nat_list_cmp_total}
-use Rattle.octets.specs.BytesMap.{map_of}
-use Rattle.keeper_api.proofs.Inserting.{one_more_object}
-use Rattle.keeper_api.proofs.Trees.{exact_bytes, tree_map_insert}
+use Rattle.std.proofs.Common.{ap, subst, false, true, ◌∙◌}
+use Rattle.std.specs.FinMap.{empty, from_entries}
+use Rattle.keeper_api.specs.Changes.{with_objects}
+use Rattle.keeper_api.specs.Halves.{AreNew, half}
+use Rattle.keeper_api.proofs.Halving.{halves}
 use Rattle.keeper_api.proofs.memory_trees.tree_of.Goals as goal
 
-pub objects-preserved : goal.objects-preserved
-objects-preserved c =
-    let added = tree_map_insert nat_list_cmp_total exact_bytes c.objects.tree c.insert.new.self c.id.result c.in_ok-copy.copy c.in_ok-insert.ensures.updates.0
-    ∙ (λ i. insert (map_of c.objects.tree) (c.id.ensures i) (c.in_ok-copy.ensures i)) in
-    one_more_object c.args.objects.now c.objects.object-index c.object-item.result empty (map_of c.objects.tree) (map_of c.insert.new.self) c.objects-test.true c.object-item.is added c.objects.invariant
+pub returns-then-branch-2 : goal.returns-then-branch-2
+returns-then-branch-2 c =
+    let pairs = c.args.objects.now in
+    let one = c.in_ok-keep_half.ensures c.if-branch.true in
+    let two = c.in_ok-keep_half-2.ensures c.if-branch-2.true in
+    let begun = one.0 ∙ ap (with_objects (half true pairs)) (ap from_entries c.new-tree.ensures.empty) in
+    two.0 ∙ ap (with_objects (half false pairs)) begun ∙ halves true pairs empty (subst (AreNew (half false pairs)) begun two.1)
