@@ -1,6 +1,6 @@
 //! Which envelope is an approval.
 
-ghost use Rattle.std.specs.Prelude.{◌≡◌, ◌&&◌, IfOk};
+ghost use Rattle.std.specs.Prelude.{◌≡◌, ◌&&◌, false, IfOk, IsOk};
 ghost use Rattle.std.specs.Option.{option_map};
 ghost use Rattle.std.specs.Str.{bytes_eq};
 ghost use Rattle.hex.specs.Hex.{encode_lower};
@@ -65,6 +65,7 @@ fn has_type(envelope: &Envelope) -> bool
 /// Whether an envelope is an approval that lets a reference go from a target to a tree: it has the type of an approval,
 /// and its payload is JSON whose fields `type`, `targetRef`, `fromRevisionID` and `targetTreeID` say so, ids in
 /// lower-case hexadecimal. Other fields are passed over.
+/// It takes no memory for an envelope of another type.
 pub fn is_approval(
     alloc: Global,
     envelope: &Envelope,
@@ -72,7 +73,8 @@ pub fn is_approval(
     from: &ObjectId,
     tree: &ObjectId,
 ) -> Result<bool, Memory>
-    ensures { IfOk result (λ is. is ≡ is_approval name.now from.now tree.now envelope.now) }
+    ensures is { IfOk result (λ is. is ≡ is_approval name.now from.now tree.now envelope.now) }
+    ensures typed { bytes_eq envelope.now.payload_type approval_type ≡ false → IsOk result }
 {
     if !has_type(envelope) {
         return Ok(false);

@@ -1,24 +1,10 @@
--- The faults of policies as verdicts tell them, each name as one printable word, and their places in the order in which they
--- are tried.
+-- The faults of policies as verdicts tell them, each name as one printable word.
 use Rattle.std.specs.Prelude.{◌++◌, ℕ, List, codes, decimal}
 use Rattle.escaped_text.specs.Escaped.{escaped}
 use Rattle.rule_delegations.specs.declared.assembling.AssembleFault.{AssembleFault}
 use Rattle.rule_delegations.specs.declared.assembling.AssembleFault.TheVariants as why
 use Rattle.policy_epochs.specs.declared.faults.PolicyFault.{PolicyFault}
 use Rattle.policy_epochs.specs.declared.faults.PolicyFault.TheVariants as fault
-
-abbrev pub fault_number : PolicyFault → ℕ
-fault_number fault.Unreadable = 1
-fault_number fault.NoRoot = 2
-fault_number (fault.BadFile file) = 3
-fault_number (fault.RootThreshold got need) = 4
-fault_number (fault.Forest forest) = 5
-fault_number (fault.FileThreshold file got need) = 6
-fault_number fault.Anchor = 7
-fault_number (fault.RootVersion old new) = 8
-fault_number (fault.RootSuccession got need) = 9
-fault_number (fault.FileVersion file) = 10
-fault_number (fault.FileDropped file) = 11
 
 -- why rule files are no rules of a policy; the last never stands in a fault of a policy
 abbrev pub forest_text : AssembleFault → List ℕ

@@ -1,6 +1,6 @@
 //! The policy in force, entry by entry.
 
-ghost use Rattle.std.specs.Prelude.{◌≡◌, ◌++◌, ℕ, List, IfOk, OnErr, OnOk, Some};
+ghost use Rattle.std.specs.Prelude.{◌≡◌, ◌++◌, ℕ, List, IfOk, IsOk, OnErr, OnOk, Some};
 ghost use Rattle.std.specs.Option.{option_copied};
 ghost use Rattle.policy_epochs.specs.Epochs.{AreEpochs, below, fault_under, next_policy, policy_in};
 ghost use Rattle.policy_epochs.specs.Standing.{Found, IsNext, Stands, verdict_of};
@@ -56,6 +56,7 @@ impl Epochs {
         ensures verdict { IfOk result (λ verdict. verdict ≡ verdict_of (fault_under (succession self.old.anchor) self.old.current found)) }
         ensures kept { OnOk result (self.new.current ≡ next_policy (succession self.old.anchor) self.old.current (Some found)) }
         ensures same { OnErr result (self.new ≡ self.old) }
+        ensures memory { OnErr result (IsOk found) }
     {
         let policy = match found {
             Ok(policy) => policy,
@@ -72,7 +73,7 @@ impl Epochs {
 
     /// Takes the next entry for the policy, of which this was found. It is an epoch where its policy is valid and breaks no
     /// rule of succession; else the first that it breaks, or its own fault, is told, and the policy stays. The policy is moved,
-    /// and after a want of memory the epochs are as before.
+    /// and after a want of memory, which only a valid policy leads to, the epochs are as before.
     pub fn take(
         &mut self,
         alloc: Global,
@@ -84,6 +85,7 @@ impl Epochs {
         ensures epoch { IfOk result (λ verdict. (checked : Found) (n number : ℕ) (list : List ℕ) → IsNext checked n number found → Stands self.old checked n → AreEpochs checked (succession self.old.anchor) number list
             → verdict ≡ verdict_of (fault_under (succession self.old.anchor) (policy_in checked (below number list)) found)) }
         ensures same { OnErr result (self.new ≡ self.old) }
+        ensures memory { OnErr result (IsOk found) }
     {
         self.step(alloc, found)
     }
@@ -94,7 +96,8 @@ impl Epochs {
         alloc: Global,
         found: Result<Policy, PolicyFault>,
     ) -> Result<EpochVerdict, Memory>
-        ensures { IfOk result (λ verdict. verdict ≡ verdict_of (fault_under (succession self.now.anchor) self.now.current found)) }
+        ensures verdict { IfOk result (λ verdict. verdict ≡ verdict_of (fault_under (succession self.now.anchor) self.now.current found)) }
+        ensures memory { OnErr result (IsOk found) }
     {
         match found {
             Err(fault) => Ok(EpochVerdict::Refused(fault)),

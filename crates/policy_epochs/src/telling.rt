@@ -2,7 +2,7 @@
 
 ghost use Rattle.std.specs.Prelude.{◌≡◌, ◌++◌, IfOk, OnOk, codes, decimal};
 ghost use Rattle.escaped_text.specs.Escaped.{escaped};
-ghost use Rattle.policy_epochs.specs.Telling.{fault_number, fault_text, forest_text};
+ghost use Rattle.policy_epochs.specs.Telling.{fault_text, forest_text};
 
 use crate::PolicyFault;
 use escaped_text::append_escaped;
@@ -67,25 +67,6 @@ fn of_forest(alloc: Global, why: &AssembleFault) -> Result<Octets, Memory>
 }
 
 impl PolicyFault {
-    /// The place of the fault, from 1, in the order in which faults are tried.
-    pub fn number(&self) -> u8
-        ensures { result ≡ fault_number self.now }
-    {
-        match self {
-            PolicyFault::Unreadable => 1,
-            PolicyFault::NoRoot => 2,
-            PolicyFault::BadFile { .. } => 3,
-            PolicyFault::RootThreshold { .. } => 4,
-            PolicyFault::Forest { .. } => 5,
-            PolicyFault::FileThreshold { .. } => 6,
-            PolicyFault::Anchor => 7,
-            PolicyFault::RootVersion { .. } => 8,
-            PolicyFault::RootSuccession { .. } => 9,
-            PolicyFault::FileVersion { .. } => 10,
-            PolicyFault::FileDropped { .. } => 11,
-        }
-    }
-
     /// The fault as verdicts tell it, without a line's end.
     pub fn text(&self, alloc: Global) -> Result<Octets, Memory>
         ensures { IfOk result (λ text. text ≡ fault_text self.now) }

@@ -3,9 +3,9 @@ use Rattle.std.proofs.Common.{◌≡◌, ◌+◌, ◌≤◌, ◌<◌, ℕ, suc, 
 use Prim.Native.Nat as Nat
 use Rattle.std.specs.Prelude.{slice_get, IsSome, All, is_some}
 use Rattle.std.specs.List.{AllByRecursion}
-use Rattle.std.proofs.lemmas.Bool.{cases_lt, false≢true}
+use Rattle.std.proofs.lemmas.Bool.{cases_lt, false_from_ne_true, false≢true}
 use Rattle.std.proofs.lemmas.List.Elements.{All-cons, All-nil}
-use Rattle.std.proofs.lemmas.Option.{slice_get_read}
+use Rattle.std.proofs.lemmas.Option.{get_or_from_slice_get, slice_get-get_or, slice_get_read}
 use Rattle.rule_files.specs.declared.rules.Rule.{Rule}
 use Rattle.rule_files.specs.declared.rules.RuleFile.{RuleFile}
 use Rattle.rule_delegations.specs.declared.places.RuleRef.{RuleRef}
@@ -109,3 +109,21 @@ module _ (files : List RuleFile) (name : Name) (rules : List Rule) (are : rules 
       let first = first_rule files 0 p ps reached.is_chain in
       let less = found_less rules p.rule first.rule (begins_there p first) in
       no_fewer at p none first reached.matches.0 (omega arith)
+
+  -- where no chain is reached, no rule of the top file matches: the first that did would be reached
+  unmatched : IsFirstReached files name None → (at : ℕ) → NoMatch name rules at
+  unmatched none Nat.zero k rule less there = absurd (omega (arith, less))
+  unmatched none (suc at) k rule less there = elim (cases_lt k at) [
+    | inl earlier ↦ unmatched none at k rule earlier there
+    | inr last ↦
+        let same : k ≡ at = omega arith in
+        let here : slice_get rules at ≡ Some rule = rw (← same) there in
+        let is : rule ≡ get_or rules at rule = sym (get_or_from_slice_get rules at rule rule here) in
+        let none_before = unmatched none at in
+        false_from_ne_true (rule_matches name rule) (λ match.
+        let found = first_found at rule (found_less rules at rule here) is none_before match in
+        none found.0 found.1.reached)
+  ]
+
+  pub none_matches : IsFirstReached files name None → All (λ rule. rule_matches name rule ≡ false) rules
+  none_matches none k d less = unmatched none (k + 1) k (get_or rules k d) (omega arith) (slice_get-get_or rules k d less)

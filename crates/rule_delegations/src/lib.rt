@@ -14,8 +14,6 @@ mod cutting;
 mod deep;
 mod forest;
 pub mod laws;
-#[cfg(test)]
-mod limit_tests;
 mod links;
 mod marking;
 mod matching;
@@ -23,8 +21,6 @@ mod meeting;
 mod places;
 mod rules;
 mod searching;
-#[cfg(test)]
-mod tests;
 mod twice;
 
 pub use assembling::AssembleFault;

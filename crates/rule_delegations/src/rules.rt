@@ -1,6 +1,6 @@
 //! The rules of a policy.
 
-ghost use Rattle.std.specs.Prelude.{◌≡◌, ◌⊎◌, ◌↔◌, IfErr, IfOk, OnOk, IfSome, IsSome, IsTrue, Some, All};
+ghost use Rattle.std.specs.Prelude.{◌≡◌, ◌⊎◌, ◌↔◌, IfErr, IfOk, IsOk, OnOk, IfSome, IsSome, IsTrue, None, Some, All};
 ghost use Rattle.rule_delegations.specs.declared.assembling.AssembleFault.{AssembleFault};
 ghost use Rattle.rule_delegations.specs.declared.assembling.AssembleFault.TheVariants as fault;
 ghost use Rattle.rule_delegations.specs.Assembling.{HasFault};
@@ -77,6 +77,7 @@ impl Rules {
     pub fn search(&self, alloc: Global, space: Space, text: &[u8]) -> Result<Vec<RuleRef>, Memory>
         ensures reached { IfOk result (λ places. AreReached self.now (record { space = space; text = text.now }) places.items) }
         ensures places { IfOk result (λ places. All (λ place. IsSome (rule_at self.now place)) places.items) }
+        ensures free { IsFirstReached self.now (record { space = space; text = text.now }) None → IsOk result }
     {
         let mut found = Vec::new(alloc);
         search_file(&self.forest, 0, DEEPEST, space, text, &mut found)?;

@@ -1,7 +1,9 @@
 //! The search of reached rules.
 
-ghost use Rattle.std.specs.Prelude.{◌≡◌, ◌<◌, ℕ, List, Some, IfOk};
+ghost use Rattle.std.specs.Prelude.{◌≡◌, ◌<◌, ℕ, false, List, Some, All, IfOk, IsOk};
 ghost use Rattle.rule_delegations.specs.Chains.{rule_at};
+ghost use Rattle.rule_delegations.specs.Forests.{rules_of};
+ghost use Rattle.rule_delegations.specs.Reached.{rule_matches};
 ghost use Rattle.rule_delegations.specs.Walks.{Adds, found_at, walk};
 
 use crate::RuleRef;
@@ -12,7 +14,7 @@ use ref_patterns::Space;
 use rule_files::Rule;
 
 /// Adds the places that are reached by a rule and below it, through so many files; whether a terminating rule ended the
-/// search.
+/// search. It takes no memory for a rule that does not match.
 #[cycle(searching)]
 fn search_rule(
     forest: &Forest,
@@ -24,8 +26,9 @@ fn search_rule(
     found: &mut Vec<RuleRef>,
 ) -> Result<bool, Memory>
     requires { rule_at forest.now place ≡ Some rule.now }
-    ensures { IfOk result (λ stopped. Adds found.old.items found.new.items stopped
+    ensures added { IfOk result (λ stopped. Adds found.old.items found.new.items stopped
         (found_at forest.now (record { space = space; text = text.now }) left place rule.now)) }
+    ensures free { rule_matches (record { space = space; text = text.now }) rule.now ≡ false → IsOk result }
 {
     if !rule_matches(rule, space, text) {
         return Ok(false);
@@ -40,7 +43,8 @@ fn search_rule(
     Ok(rule.terminating)
 }
 
-/// Adds the places that are reached from a file on, through so many files; whether a terminating rule ended the search.
+/// Adds the places that are reached from a file on, through so many files; whether a terminating rule ended the search. It
+/// takes no memory for a rule that does not match.
 #[cycle(searching)]
 pub(crate) fn search_file(
     forest: &Forest,
@@ -50,7 +54,8 @@ pub(crate) fn search_file(
     text: &[u8],
     found: &mut Vec<RuleRef>,
 ) -> Result<bool, Memory>
-    ensures { IfOk result (λ stopped. Adds found.old.items found.new.items stopped (walk forest.now (record { space = space; text = text.now }) left file)) }
+    ensures added { IfOk result (λ stopped. Adds found.old.items found.new.items stopped (walk forest.now (record { space = space; text = text.now }) left file)) }
+    ensures free { All (λ rule. rule_matches (record { space = space; text = text.now }) rule ≡ false) (rules_of forest.now file) → IsOk result }
 {
     if left == 0 {
         return Ok(false);

@@ -1,6 +1,6 @@
 //! The engine of judging with the rules by which it judges, for whoever takes entries as they come.
 
-ghost use Rattle.std.specs.Prelude.{◌≡◌, ◌+◌, [], List, Some, false, IfOk, OnErr};
+ghost use Rattle.std.specs.Prelude.{◌≡◌, ◌+◌, [], List, Some, false, IfOk, OnErr, OnOk};
 ghost use Rattle.octets.specs.Causes.{HasCause};
 ghost use Rattle.git_object.specs.Repository.{Repository, value_of};
 ghost use Rattle.keeper_api.specs.Faults.{keeper_failed};
@@ -85,6 +85,7 @@ impl Engine {
         requires known { (r : Repository) → R.content keeper.old ≡ Some r → AreKnownIn r self.old.known }
         ensures taken { IfOk result (λ verdict. (r : Repository) (log : List Taken) → R.content keeper.new ≡ Some r → Follows log self.old
             → TakesOne log (record { entry = entry.now; repository = r }) self.new verdict) }
+        ensures count { OnOk result (taken self.new.entries ≡ entry.now.number) }
         ensures refused { OnErr result ((log : List Taken) → Follows log self.old → Follows log self.new) }
         ensures rules { self.new.rules ≡ self.old.rules }
         ensures known { (r : Repository) → R.content keeper.new ≡ Some r → AreKnownIn r self.new.known }

@@ -77,6 +77,7 @@ pub(crate) fn extend_by<R: Keeper>(
     requires known { (r : Repository) → R.content keeper.old ≡ Some r → AreKnownIn r known.old }
     ensures taken { IfOk result (λ verdict. (r : Repository) (log : List Taken) → R.content keeper.new ≡ Some r → Stands (real_rules rules.now.anchor) log engine.old
         → IsTaken (real_rules rules.now.anchor) log (record { entry = entry.now; repository = r }) engine.new verdict) }
+    ensures count { OnOk result (taken engine.new ≡ entry.now.number) }
     ensures refused { OnErr result ((rules : Rules Policy Fault) (log : List Taken) → Stands rules log engine.old → Stands rules log engine.new) }
     ensures known { (r : Repository) → R.content keeper.new ≡ Some r → AreKnownIn r known.new }
     ensures same { Undisturbed R.Keeper keeper.old keeper.new }

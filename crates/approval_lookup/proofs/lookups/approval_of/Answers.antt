@@ -8,8 +8,8 @@ returns-in_default-clause-found c =
 
 pub returns-then-not-is-clause-found : goal.returns-then-not-is-clause-found
 returns-then-not-is-clause-found c =
-    other_envelope c.args.name.now c.args.from.now c.args.tree.now c.args.bytes.now c.in-Some.envelope (sym c.in-Some.is ∙ c.in_ok-envelope.ensures.found) (sym c.in_ok-is.ensures ∙ c.if-not-is.true)
+    other_envelope c.args.name.now c.args.from.now c.args.tree.now c.args.bytes.now c.in-Some.envelope (sym c.in-Some.is ∙ c.in_ok-envelope.ensures.found) (sym c.in_ok-is.ensures.is ∙ c.if-not-is.true)
 
 pub returns-clause-found : goal.returns-clause-found
 returns-clause-found c =
-    this_envelope c.args.name.now c.args.from.now c.args.tree.now c.args.bytes.now c.in-Some.envelope (sym c.in-Some.is ∙ c.in_ok-envelope.ensures.found) (sym c.in_ok-is.ensures ∙ c.if-not-is.false)
+    this_envelope c.args.name.now c.args.from.now c.args.tree.now c.args.bytes.now c.in-Some.envelope (sym c.in-Some.is ∙ c.in_ok-envelope.ensures.found) (sym c.in_ok-is.ensures.is ∙ c.if-not-is.false)
