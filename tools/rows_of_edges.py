@@ -2,7 +2,7 @@
 
 import base64
 
-from rows_histories import KEEPER, MAIN, MAINTAINER, History, guarded, top_file
+from rows_histories import KEEPER, LOG, MAIN, MAINTAINER, History, guarded, top_file
 from rows_objects import FILE, PROGRAM
 from rows_of_streams import EMPTY
 from rows_policies import PAYLOAD_TYPE, envelope, rule
@@ -47,6 +47,27 @@ def roots_asked_for():
         accepted(MAIN, f" --root {id}"),
         accepted(MAIN, f" --root {','.join([id] * MOST_ROOTS)}"),
         *(refused(f"verify-ref {MAIN} --root {it}", 2, "words refused") for it in none),
+    )
+
+
+def words_outside():
+    """No word of a command may be left out, come again, stand for another or be written otherwise."""
+    id = KEEPER.id
+    words = ["--help", "verify", f"Verify-ref {MAIN}", "verify-ref --help", f"verify-ref {MAIN} --std"]
+    words += [f"verify-ref {MAIN} --stdin=true", "export x", f"policy-apply {MAIN}", f"record {MAIN} --stdin", "record"]
+    words += ["snapshot", f"snapshot {LOG}", f"verify-ref {LOG}", "seal --add --add", "explain gi:a", "explain "]
+    words += [f"annotate skips {id}", "annotate skip ", f"approve {MAIN} 11", f"approve {LOG} {id}", "key-gen 5 "]
+    none = (refused(it, 2, "words refused") for it in words)
+    # Two dashes end the flags, which stand in any place.
+    return (
+        History(),
+        *none,
+        given(EMPTY),
+        Run("export --", (0, EMPTY, "")),
+        Run("log --", (0, "", "")),
+        done(f"explain -- git:{MAIN}", "no-policy"),
+        done(f"verify-ref --root {id} -- {MAIN}", f"accepted {MAIN} 0 entries"),
+        done(f"verify-ref --stdin {MAIN}", f"accepted {MAIN} 0 entries", source=EMPTY),
     )
 
 
@@ -158,6 +179,7 @@ def patterns_matched():
 ROWS = (
     names_of_references,
     roots_asked_for,
+    words_outside,
     listings_kept_or_not,
     listings_in_other_forms,
     envelopes_sealed_or_not,

@@ -109,9 +109,36 @@ def no_key_made():
         refused(words, 4, "fault", over=[random(DRAWN), room("disk", 95)]),
         refused(words, 4, "fault", over=[random(DRAWN), failing("disk", 1)]),
         Held(b""),
-        Run(words, (4, "", "fault\n"), over=[random(DRAWN), room("sink", len(OTHERS))]),
+        refused(words, 4, "fault", over=[random(DRAWN), room("disk", 96), failing("disk", 2)]),
+        Held(b""),
+        # The file is written, and may not be there after a stop.
+        refused(words, 4, "fault", over=[random(DRAWN), room("disk", 96), failing("disk", 3)]),
+        Held(key_file(5, 8)),
+        refused(words, 3, "not empty", over=[random(DRAWN)]),
+        refused(words, 4, "fault", key=b"", over=[random(DRAWN), room("sink", len(OTHERS))]),
         Held(key_file(5, 8)),
     )
+
+
+def marks_that_a_stop_left():
+    """A leaf is used whatever byte but zero stands for it, and the first that is not used signs."""
+    runs = []
+    for marks, leaf in ((b"\0", 0), (b"\1", 1), (b"\2", 1), (b"\x80", 1), (b"\xff", 1), (b"0\0", 1), (b"1\xff", 2), (b"\0\1", 0)):
+        marks = marks.ljust(LEAVES, b"\0")
+        history = History()
+        history.used[KEEPER] = leaf
+        runs.append(Run("seal", (0, history.seal(b"{}", [KEEPER]) + b"\n", ""), source=b"{}", key=KEEPER.file(marks)))
+        runs.append(Held(KEEPER.file(marks[:leaf] + b"\1" + marks[leaf + 1 :])))
+    return History(), *runs
+
+
+def no_files_of_two_levels():
+    """A file of two levels that is cut, is longer, or has a type that its levels may not have."""
+    file = two_level_file(5, 8, 5)
+    none = [file[:63], file[:71], file[:72], file[:-1], file + b"\0"]
+    for at, byte in ((7, b"3"), (11, b"\7"), (15, b"\0"), (67, b"\x08"), (67, b"\6"), (71, b"\0"), (71, b"\5")):
+        none.append(file[:at] + byte + file[at + 1 :])
+    return History(), *(refused("seal", 3, "key file", source=b"{}", key=key) for key in none)
 
 
 def with_first_used(key):
@@ -219,6 +246,8 @@ ROWS = (
     keys_made,
     keys_of_two_levels_made,
     no_key_made,
+    marks_that_a_stop_left,
+    no_files_of_two_levels,
     recorded_by_a_disk_that_fails,
     recorded_by_a_store_that_fails,
     not_recorded,

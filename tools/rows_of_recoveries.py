@@ -2,6 +2,7 @@
 
 from rows_histories import AFTER, BEFORE, KEEPER, MAIN, MAINTAINER, NEWCOMER, REVIEWER
 from rows_histories import asked, asked_again, guarded, top_file
+from rows_objects import ZEROS
 from rows_of_rules import Named, asked_each, heads, heads_top
 from rows_policies import rule
 
@@ -75,6 +76,22 @@ def put_back_by_nobody():
     return put_back([AFTER], [3], REFUSED_AT_3, signer=None)
 
 
+def put_back_by_a_stranger():
+    """The same, and the keeper signed, who may not."""
+    return put_back([AFTER], [3], REFUSED_AT_3, signer=KEEPER)
+
+
+def put_back_to_the_same_target():
+    """Main goes back to the very commit where it was before."""
+    history = guarded()
+    first = history.commit(BEFORE)
+    for target, signer in ((first, MAINTAINER), (history.commit(AFTER), KEEPER)):
+        history.record(MAIN, target, signer)
+    history.skip(3, MAINTAINER)
+    history.record(MAIN, first, MAINTAINER)
+    return history, asked(0, "accepted refs/heads/main 3 entries")
+
+
 def two_put_back():
     """Two of the keeper's entries are skipped, the second first."""
     return put_back([AFTER, OTHER], [4, 3], (0, "accepted refs/heads/main 4 entries"))
@@ -123,15 +140,71 @@ def one_branch_put_back():
     return (history, *asked_each((0, "a", "accepted @ 3 entries"), (1, "b", "violation @ 5 ref-rule heads 0 of 1")))
 
 
+def recoveries_in_one_another():
+    """The keeper puts other files there, and then the old ones, which ends no recovery. Both entries are skipped, and the
+    maintainer's way back takes in both."""
+    return put_back([AFTER, BEFORE], [3, 4], (0, "accepted refs/heads/main 4 entries"))
+
+
+def put_back_after(*skips):
+    """The keeper's entry is skipped by annotations of the entries of these numbers, and main is put back."""
+    history = guarded()
+    history.record(MAIN, history.commit(BEFORE), MAINTAINER)
+    history.record(MAIN, history.commit(AFTER), KEEPER)
+    for numbers in skips:
+        history.annotate(True, [history.ids[number - 1] for number in numbers], MAINTAINER)
+    history.record(MAIN, history.commit(BEFORE), MAINTAINER)
+    return history, asked(0, "accepted refs/heads/main 3 entries")
+
+
+def skipped_twice():
+    """The keeper's entry is skipped, beside the policy's, and then once more."""
+    return put_back_after((1, 3), (3,))
+
+
+def skip_that_is_skipped():
+    """The keeper's entry is skipped, and then the skip, which counts all the same."""
+    return put_back_after((3,), (4,))
+
+
+def way_back_skipped_later():
+    """The entry that ends a recovery is skipped then. What it took in stays so, and main goes back to the first commit."""
+    history = guarded()
+    first = history.commit(BEFORE)
+    for target, signer in ((first, MAINTAINER), (history.commit(AFTER), KEEPER)):
+        history.record(MAIN, target, signer)
+    history.skip(3, MAINTAINER)
+    history.record(MAIN, history.commit(BEFORE), MAINTAINER)
+    history.skip(5, MAINTAINER)
+    history.repository.set(MAIN, first)
+    return history, asked(0, "accepted refs/heads/main 3 entries")
+
+
+def deleted_and_put_back():
+    """Main is deleted, put back and deleted again, by the maintainer each time."""
+    history = guarded()
+    first = history.commit(BEFORE)
+    for target in (first, ZEROS, first, ZEROS):
+        history.record(MAIN, target, MAINTAINER)
+    return history, asked(0, "accepted refs/heads/main 4 entries")
+
+
 ROWS = (
     who_may_skip,
     skipped_by_another_key_of_a_person,
     put_back_to_another_tree,
     put_back_by_nobody,
+    put_back_by_a_stranger,
+    put_back_to_the_same_target,
     two_put_back,
     put_back_behind_one_that_stays,
     last_of_a_stranger_is_not_put_back,
     what_was_before_is_not_put_back,
     broken_and_put_back,
     one_branch_put_back,
+    recoveries_in_one_another,
+    skipped_twice,
+    skip_that_is_skipped,
+    way_back_skipped_later,
+    deleted_and_put_back,
 )

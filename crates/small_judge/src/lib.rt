@@ -1,4 +1,4 @@
-//! A small judge in memory, for what tries and measures the engine of judging.
+//! A small judge in memory, for what measures the engine of judging.
 //!
 //! This crate stands on `octets`, `git_object`, `log_entries` and `judging`. Its rules need no store: a policy is
 //! one key, the holder's, which may record and skip everything; the holder opens the next policy; a target is its
@@ -8,15 +8,7 @@
 #![tactic(auto)]
 
 mod judge;
-#[cfg(test)]
-mod lists;
-#[cfg(test)]
-mod plain;
 mod policies;
-#[cfg(test)]
-mod random_lists;
-#[cfg(test)]
-mod rows;
 
 pub use judge::{SmallJudge, SmallStore};
 pub use policies::{Holder, SmallFault};
