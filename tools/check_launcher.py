@@ -8,8 +8,9 @@ import time
 
 from checking import ACCEPTED, EMPTY_STREAM, LAUNCHER, PROGRAM, TOP, VERIFY, Failure, run, want, want_run
 
-SOURCES = f"{PROGRAM}.sources"
-# The launcher adds 2 to 3 ms. A busy machine is allowed more, and the figure is printed.
+SMALL_PROGRAM = os.path.join(TOP, "crates", "source_check", "out", "source_check")
+LIST, SOURCES = f"{PROGRAM}.files", f"{PROGRAM}.sources"
+# The launcher adds about 2.5 ms on a busy machine. A busier one is allowed more, and the figure is printed.
 MOST_MS = 20
 RUNS = 31
 COMMANDS = (b"import", b"export", b"verify-ref")
@@ -41,8 +42,12 @@ def stand_in(repositories, name, text):
     with open(program, "w", encoding="utf-8") as file:
         file.write(text)
     os.chmod(program, 0o755)
-    with open(f"{program}.sources", "w", encoding="utf-8") as file:
-        file.write("sum=0\nset -- crates.txt\n")
+    check = os.path.join(top, os.path.relpath(SMALL_PROGRAM, TOP))
+    os.makedirs(os.path.dirname(check))
+    shutil.copy2(SMALL_PROGRAM, check)
+    for suffix, line in (("files", "crates.txt"), ("sources", "sum=0")):
+        with open(f"{program}.{suffix}", "w", encoding="utf-8") as file:
+            file.write(f"{line}\n")
     ahead = time.time() + 60
     os.utime(file.name, (ahead, ahead))
     return os.path.join(top, "gittuf")
@@ -96,9 +101,9 @@ def names_the_page(repositories):
 def copy_of_the_product(repositories, name):
     """A copy of the launcher, its tools, the program and its sources, in which nothing keeps its time."""
     top = repositories.path(name)
-    with open(SOURCES, encoding="utf-8") as file:
-        paths = file.read().split("set -- ", 1)[1].replace("'", "").split()
-    beside = [os.path.relpath(it, TOP) for it in (PROGRAM, SOURCES, f"{PROGRAM}.cpu")]
+    with open(LIST, encoding="utf-8") as file:
+        paths = file.read().splitlines()
+    beside = [os.path.relpath(it, TOP) for it in (PROGRAM, SMALL_PROGRAM, LIST, SOURCES, f"{PROGRAM}.cpu")]
     # The program comes first, so that every source is newer.
     for path in (*beside, "gittuf", "tools/build-program", "tools/cpu", *paths):
         os.makedirs(os.path.dirname(os.path.join(top, path)), exist_ok=True)
@@ -106,21 +111,28 @@ def copy_of_the_product(repositories, name):
     # Nothing can be built there.
     tools = repositories.path(f"{name} tools")
     os.mkdir(tools)
-    for tool in ("bash", "sh", "cat", "find", "sha256sum", "touch", "readlink"):
+    for tool in ("bash", "sh", "cat", "mv", "rm", "sha256sum", "touch", "readlink"):
         os.symlink(shutil.which(tool), os.path.join(tools, tool))
-    return top, {**os.environ, "PATH": tools}
+    environment = {**os.environ, "PATH": tools}
+    environment.pop("GITTUF_PROVED_SINCE", None)
+    return top, environment
+
+
+def judged_in(top, environment):
+    """What the launcher of a copy answers of the empty stream."""
+    with open(EMPTY_STREAM, "rb") as file:
+        empty = file.read()
+    words = (os.path.join(top, "gittuf"), *VERIFY)
+    ran = subprocess.run(words, input=empty, capture_output=True, env=environment, check=False)
+    return ran.returncode, ran.stdout, ran.stderr
 
 
 def runs_in_a_copy(repositories):
     """a copied folder with a built program runs without building, and one in which a source changed does not run"""
     top, environment = copy_of_the_product(repositories, "the product")
-    with open(EMPTY_STREAM, "rb") as file:
-        empty = file.read()
 
     def judge():
-        words = (os.path.join(top, "gittuf"), *VERIFY)
-        ran = subprocess.run(words, input=empty, capture_output=True, env=environment, check=False)
-        return ran.returncode, ran.stdout, ran.stderr
+        return judged_in(top, environment)
 
     accepted = (0, ACCEPTED, b"")
     want(judge(), accepted, "what the copied program answers")
@@ -144,6 +156,96 @@ def runs_in_a_copy(repositories):
     want(judge(), accepted, "what the program answers once the source is back")
 
 
+def takes_what_was_proved(repositories):
+    """programs that the gate has just built are taken, and none that is older or of other sources"""
+    top, environment = copy_of_the_product(repositories, "the proved product")
+    with open(os.path.join(environment["PATH"], "rt"), "w", encoding="utf-8") as file:
+        file.write("#!/bin/sh\necho a kit\n")
+    os.chmod(file.name, 0o755)
+    programs = [os.path.join(top, os.path.relpath(it, TOP)) for it in (PROGRAM, SMALL_PROGRAM)]
+    listed, sources, cpu = (os.path.join(top, os.path.relpath(it, TOP)) for it in (LIST, SOURCES, f"{PROGRAM}.cpu"))
+
+    def want_taken(is_taken, since=None, **more):
+        for path in (listed, sources, cpu):
+            if os.path.exists(path):
+                os.remove(path)
+        more.update({"GITTUF_PROVED_SINCE": str(since)} if since else {})
+        wanted = (0, ACCEPTED) if is_taken else (4, b"")
+        want(judged_in(top, {**environment, **more})[:2], wanted, f"what is answered with {more}")
+        want(os.path.exists(sources), is_taken, f"whether the sum of the sources is there with {more}")
+
+    began = time.time()
+    want_taken(False, began)
+    for path in programs:
+        os.utime(path, (began + 2, began + 2))
+    want_taken(False)
+    want_taken(False, began - 60)
+    want_taken(False, began + 1, GITTUF_CPU="x86-64-v3")
+    want_taken(False, began + 3)
+    want_taken(True, began + 1)
+    want(judged_in(top, environment), (0, ACCEPTED, b""), "what is answered of what was taken")
+    for path in programs:
+        os.utime(path, (began, began))
+        want_taken(False, began + 1)
+        os.utime(path, (began + 2, began + 2))
+    os.remove(programs[1])
+    want_taken(False, began + 1)
+
+
+def builds_where_a_part_is_missing(repositories):
+    """where the program, the small one, the list of the sources or their sum is missing the launcher has it built"""
+    launcher = stand_in(repositories, "a copy in parts", "#!/bin/sh\necho ran\n")
+    top = os.path.dirname(launcher)
+    os.mkdir(os.path.join(top, "tools"))
+    with open(os.path.join(top, "tools", "build-program"), "w", encoding="utf-8") as file:
+        file.write("#!/bin/sh\necho built \"$@\"\n")
+    os.chmod(file.name, 0o755)
+    want_run((launcher, "-"), 0, b"ran\n")
+    for part in (PROGRAM, SMALL_PROGRAM, LIST, SOURCES, os.path.join(TOP, "crates.txt")):
+        path = os.path.join(top, os.path.relpath(part, TOP))
+        os.rename(path, f"{path}.away")
+        want_run((launcher, "-"), 0, b"built -\n")
+        os.rename(f"{path}.away", path)
+        want_run((launcher, "-"), 0, b"ran\n")
+
+
+def tells_each_change(repositories):
+    """the small program that the launcher asks tells to the nanosecond whether a listed file changed since"""
+    folder = repositories.path("some files")
+    os.mkdir(folder)
+    one, stamp, listed = (os.path.join(folder, it) for it in ("one", "stamp", "list"))
+    for path in (one, stamp):
+        with open(path, "wb"):
+            pass
+    os.symlink("one", os.path.join(folder, "a link"))
+
+    def want_status(status, *names, words=(folder, "list", "stamp")):
+        with open(listed, "w", encoding="utf-8") as file:
+            file.writelines(f"{it}\n" for it in names)
+        want_run((SMALL_PROGRAM, *words), status)
+
+    def set_stamp(more):
+        then = os.stat(one).st_ctime_ns + more
+        os.utime(stamp, ns=(then, then))
+
+    for more, status in ((0, 0), (1, 0), (-1, 1), (10**9, 0), (-(10**9), 1)):
+        set_stamp(more)
+        want_status(status, "one")
+    set_stamp(0)
+    # The system's clock for files goes in steps.
+    time.sleep(0.02)
+    os.chmod(one, 0o600)
+    want_status(1, "one")
+    set_stamp(60 * 10**9)
+    want_status(0, "one", one, "list", "stamp")
+    for names in ((), ("",), ("one", ""), ("one", "two"), ("two", "one"), ("one", "."), ("one", "a link")):
+        want_status(1, *names)
+    for words in ((folder, "list", "two"), (folder, "two", "stamp"), (folder, "list", "."), (one, listed, stamp)):
+        want_status(1, "one", words=words)
+    for words in ((), (folder,), (folder, "list"), (folder, "list", "stamp", "")):
+        want_status(2, "one", words=words)
+
+
 def is_quick(repositories):
     """the launcher adds little to a run"""
     taken = {LAUNCHER: [], PROGRAM: []}
@@ -165,5 +267,8 @@ CHECKS = (
     answers_alone,
     names_the_page,
     runs_in_a_copy,
+    takes_what_was_proved,
+    builds_where_a_part_is_missing,
+    tells_each_change,
     is_quick,
 )
