@@ -10,8 +10,6 @@
 pub mod laws;
 mod payloads;
 mod signers;
-#[cfg(test)]
-mod tests;
 
 pub use payloads::payload_of;
 pub use signers::env_signers;

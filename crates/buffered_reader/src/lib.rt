@@ -11,8 +11,6 @@ mod exact_reads;
 mod line_reads;
 mod lines;
 mod reader;
-#[cfg(test)]
-mod tests;
 
 pub use exact_reads::ExactFault;
 pub use line_reads::LineFault;

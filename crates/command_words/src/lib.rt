@@ -23,8 +23,6 @@ mod places;
 mod reading;
 mod references;
 mod sealing;
-#[cfg(test)]
-mod tests;
 mod verify_ref;
 mod words_fault;
 

@@ -12,8 +12,6 @@ mod base64_texts;
 mod envelope;
 mod reading;
 mod sealing;
-#[cfg(test)]
-mod tests;
 mod writing;
 
 pub use authentication::pae;

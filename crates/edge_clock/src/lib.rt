@@ -8,8 +8,6 @@
 
 mod clocks;
 mod memory_clock;
-#[cfg(test)]
-mod tests;
 
 pub use clocks::{Clock, OsClock};
 pub use memory_clock::MemClock;

@@ -15,8 +15,6 @@ mod entropies;
 mod file_disk;
 mod memory_disk;
 mod memory_entropy;
-#[cfg(test)]
-mod tests;
 
 pub use disk_calls::DiskCall;
 pub use disks::Disk;

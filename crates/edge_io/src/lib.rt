@@ -13,8 +13,6 @@ mod memory_source;
 mod sinks;
 mod sources;
 mod std_edges;
-#[cfg(test)]
-mod tests;
 
 pub use memory_sink::MemSink;
 pub use memory_source::MemSource;

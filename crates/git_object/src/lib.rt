@@ -19,12 +19,8 @@ mod names;
 mod object_faults;
 mod object_ids;
 pub mod object_laws;
-#[cfg(test)]
-mod object_tests;
 mod stored_objects;
 mod tags;
-#[cfg(test)]
-mod tests;
 mod tree_entries;
 mod trees;
 

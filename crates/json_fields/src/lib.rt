@@ -9,8 +9,6 @@
 mod fields;
 mod parsing;
 mod shapes;
-#[cfg(test)]
-mod tests;
 mod writing;
 
 pub use fields::{bool_in, list_in, number_in, text_in, text_in_or_empty, value_in};

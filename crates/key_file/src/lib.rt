@@ -11,8 +11,6 @@
 
 mod open_keys;
 mod signing;
-#[cfg(test)]
-mod tests;
 
 pub use open_keys::{OpenFault, OpenKey, open_key, use_leaf};
 pub use signing::{KeyFault, Signed, sign_message};

@@ -1,7 +1,7 @@
 //! Two signers over one key file. Once one of them signed with a leaf that the other has not marked, the other one is
 //! not to sign before it is opened again.
 
-use crate::scenes::{MESSAGE, disk_of};
+use crate::scenes::{MESSAGE, new_disk};
 use edge_disk::MemDisk;
 use leaf_journal::Signer;
 use lms_keys::verify_any;
@@ -36,7 +36,7 @@ fn leaves_beside(alloc: Global, disk: &mut MemDisk) -> Result<(u32, u32), Fail> 
 #[test]
 fn two_signers_take_turns(rt: HostRuntime) -> Result<(), Fail> {
     let alloc = rt.alloc();
-    let mut disk = disk_of(alloc, 96, 0, b'L')?;
+    let mut disk = new_disk(alloc)?;
     std::assert_eq!(rt; leaves_beside(alloc, &mut disk)?, (0, 1));
     std::assert_eq!(rt; leaves_beside(alloc, &mut disk)?, (2, 3));
     for (place, byte) in [(64usize, 1u8), (67, 1), (68, 0)] {

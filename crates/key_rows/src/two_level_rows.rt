@@ -1,14 +1,20 @@
-use crate::scenes::{I, MESSAGE, SEED};
+use crate::scenes::MESSAGE;
 use edge_disk::MemDisk;
-use leaf_journal::{CreateFault, LoadFault, SignFault, Signer, create_two};
-use lmots::OtsType;
-use lms_keys::{LmsType, verify_any};
+use leaf_journal::{SignFault, Signer};
+use lms_keys::verify_any;
 use octets::Octets;
 use std::alloc::Global;
 use std::test::Fail;
 
 // The bytes of a signature up to the one by the key below, with two trees of 5 levels and width 1.
 const LINK: usize = 8744;
+
+// The header of a key file of two levels of 5 and width 1.
+const HEADER: &[u8; 72] =
+    b"LMSKEY02\0\0\0\x05\0\0\0\x010123456789abcdefthirty-two bytes make this seed.\
+\0\0\0\x05\0\0\0\x01";
+
+const LEAVES: usize = 1024;
 
 // The first bytes of a text.
 fn front(bytes: &[u8], len: usize) -> &[u8] {
@@ -17,21 +23,8 @@ fn front(bytes: &[u8], len: usize) -> &[u8] {
 
 // A disk with a new key file of two levels, of which the first leaves are used, and of which a call fails.
 fn disk_with(alloc: Global, used: usize, call: u64) -> Result<MemDisk, Fail> {
-    let mut new = MemDisk::new(Octets::new(alloc), 1096, 8)?;
-    if create_two(
-        alloc,
-        &mut new,
-        LmsType::H5,
-        LmsType::H5,
-        OtsType::W1,
-        I,
-        SEED,
-    )
-    .is_err()
-    {
-        return Err(Fail::from("a key file"));
-    }
-    let mut file = Vec::from_slice(alloc, new.contents())?;
+    let mut file = Vec::from_slice(alloc, HEADER.as_slice())?;
+    file.extend_from_slice(&[0; LEAVES])?;
     for leaf in 0..used {
         if let Some(place) = file.as_mut_slice().get_mut(leaf.saturating_add(72)) {
             *place = 1;
@@ -116,63 +109,5 @@ fn no_leaf_signs_again_after_a_stop_between_two_keys(rt: HostRuntime) -> Result<
             assert!(rt; !leaves.contains(&leaf));
         }
     }
-    Ok(())
-}
-
-// Why a file is not loaded.
-fn refusal(alloc: Global, file: &[u8]) -> Result<Option<LoadFault>, Fail> {
-    let mut disk = MemDisk::new(Octets::from_slice(alloc, file)?, 8, 8)?;
-    match Signer::load(alloc, &mut disk) {
-        Ok(_) => Ok(None),
-        Err(fault) => Ok(Some(fault)),
-    }
-}
-
-#[test]
-fn a_file_of_two_levels_is_refused_in_order(rt: HostRuntime) -> Result<(), Fail> {
-    let alloc = rt.alloc();
-    let disk = disk_with(alloc, 0, 0)?;
-    let file = disk.contents();
-    assert_eq!(rt; file.len(), 1096);
-    assert_eq!(rt;
-        refusal(alloc, front(file, 63))?,
-        Some(LoadFault::WrongLength { len: 63 })
-    );
-    assert_eq!(rt;
-        refusal(alloc, front(file, 71))?,
-        Some(LoadFault::BadHeader)
-    );
-    assert_eq!(rt;
-        refusal(alloc, front(file, 72))?,
-        Some(LoadFault::WrongLength { len: 72 })
-    );
-    for (at, byte) in [(7usize, b'3'), (11, 7), (67, 8), (71, 0)] {
-        let mut other = Vec::from_slice(alloc, file)?;
-        if let Some(place) = other.as_mut_slice().get_mut(at) {
-            *place = byte;
-        }
-        assert_eq!(rt;
-            refusal(alloc, other.as_slice())?,
-            Some(LoadFault::BadHeader)
-        );
-    }
-    Ok(())
-}
-
-#[test]
-fn heights_past_fifteen_are_too_tall(rt: HostRuntime) -> Result<(), Fail> {
-    let alloc = rt.alloc();
-    let mut disk = MemDisk::new(Octets::new(alloc), 1096, 8)?;
-    let made = create_two(
-        alloc,
-        &mut disk,
-        LmsType::H10,
-        LmsType::H10,
-        OtsType::W1,
-        I,
-        SEED,
-    );
-    assert_eq!(rt; made.err(), Some(CreateFault::TooTall));
-    assert!(rt; disk.contents().is_empty());
     Ok(())
 }

@@ -19,8 +19,6 @@ mod one_time;
 mod ots_type;
 pub mod pieces;
 mod side_by_side;
-#[cfg(test)]
-mod tests;
 mod turns;
 
 pub use one_time::{OtsFault, candidate_key, public_of, public_of_eight, sign_ots};

@@ -19,10 +19,6 @@ mod lms_type;
 mod nodes;
 mod public_key;
 mod secret_key;
-#[cfg(test)]
-mod standard;
-#[cfg(test)]
-mod tests;
 mod verifying;
 
 pub use lms_type::LmsType;

@@ -10,8 +10,6 @@
 mod faults;
 mod metadata;
 mod same;
-#[cfg(test)]
-mod tests;
 mod texts;
 mod values;
 mod writing;

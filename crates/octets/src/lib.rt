@@ -11,8 +11,6 @@ mod failing_calls;
 mod item_list;
 mod memory;
 mod octet_list;
-#[cfg(test)]
-mod tests;
 
 pub use failing_calls::FailingCalls;
 pub use item_list::{Copied, Items};

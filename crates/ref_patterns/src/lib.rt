@@ -11,8 +11,6 @@ mod globs;
 pub mod laws;
 mod pattern;
 mod space;
-#[cfg(test)]
-mod tests;
 
 pub use pattern::{Pattern, PatternFault, is_pattern};
 pub use space::Space;

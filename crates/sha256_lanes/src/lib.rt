@@ -15,8 +15,6 @@ pub mod laws;
 mod message;
 mod rounds;
 mod schedule;
-#[cfg(test)]
-mod tests;
 mod words;
 
 pub use between::walk_between;

@@ -11,8 +11,6 @@ mod front;
 mod hexadecimal;
 pub mod laws;
 mod number;
-#[cfg(test)]
-mod tests;
 
 pub use decimal_number::read_decimal;
 pub use front::{
