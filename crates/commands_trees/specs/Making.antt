@@ -4,12 +4,13 @@ use Rattle.std.specs.List.{AllByRecursion}
 use Rattle.octets.specs.Content.{with_front}
 use Rattle.edge_io.specs.Read.{HasMore, HasRead, IsAtEnd}
 use Rattle.git_object.specs.Repository.{largest_body}
-use Rattle.git_object.specs.Objects.{Pair}
+use Rattle.git_object.specs.Objects.{Pair, pair_id}
 use Rattle.tree_paths.specs.Readings.{Trees}
 use Rattle.tree_paths.specs.States.{path_values}
 use Rattle.tree_paths.specs.Walks.{steps}
 use Rattle.tree_making.specs.Keeping.{IsTreeObject, Keeps}
 use Rattle.tree_making.specs.Listings.{values}
+use Rattle.tree_making.specs.Made.{AreOpen, tree_ids}
 use Rattle.tree_making.specs.Matching.{IsNoTree}
 use Rattle.listings.specs.Rows.{IsListingText, Row}
 use Rattle.listings.specs.Reading.{IsNoListing, blob_of, listed_of}
@@ -18,12 +19,15 @@ use Rattle.commands_trees.specs.declared.making.InputFault.TheVariants.{TooLong,
 use Rattle.commands_trees.specs.declared.making.Made.{Made}
 
 -- the objects are a blob for each row and then trees, and whatever trees keep these objects, a walk of the root meets
--- exactly the paths of the rows with their modes and blobs, in their order
+-- exactly the paths of the rows with their modes and blobs, in their order, visits just the trees that were made, and
+-- may visit each
 pub record IsMade (rows : List Row) (made : Made) : Type 0 where
   pub new_trees : List Pair
   pub objects_are : made.objects ≡ map blob_of rows ++ new_trees
   pub are_trees : AllByRecursion IsTreeObject new_trees
   pub leads : (trees : Trees) → Keeps trees made.objects → path_values (steps trees 32 [] made.root) ≡ values (map listed_of rows)
+  pub only : (trees : Trees) → Keeps trees made.objects → map pair_id new_trees ≡ tree_ids trees 32 made.root
+  pub visited : (trees : Trees) → Keeps trees made.objects → AreOpen trees (steps trees 32 [] made.root)
 
 -- at most 16 MiB
 abbrev pub IsSmall : Pair → Type 0

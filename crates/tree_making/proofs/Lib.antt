@@ -2,4 +2,5 @@ pub mod Putting
 pub mod Runs
 pub mod Refusing
 pub mod Kept
+pub mod Made
 pub mod Lawful

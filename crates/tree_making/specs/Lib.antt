@@ -2,6 +2,8 @@
 pub mod Listings
 -- Which trees keep a list of objects.
 pub mod Keeping
+-- The trees that a walk visits.
+pub mod Made
 -- Which listings are no tree's.
 pub mod Matching
 -- What the paths of trees are.

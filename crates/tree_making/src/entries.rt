@@ -1,8 +1,8 @@
 //! The entries of a tree that is made, one after the other, and the tree as an object.
 
-ghost use Rattle.std.specs.Prelude.{◌≡◌, ◌++◌, ◌∷◌, ◌-◌, ◌≤◌, [], ℕ, List, true, false, Some, IfOk};
+ghost use Rattle.std.specs.Prelude.{◌≡◌, ◌++◌, ◌∷◌, ◌-◌, ◌≤◌, [], ℕ, List, map, true, false, Some, IfOk};
 ghost use Rattle.git_object.specs.Trees.{AreWellFormed};
-ghost use Rattle.git_object.specs.Objects.{Pair};
+ghost use Rattle.git_object.specs.Objects.{Pair, pair_id};
 ghost use Rattle.tree_paths.specs.Readings.{Trees};
 ghost use Rattle.tree_paths.specs.Walks.{is_dir};
 ghost use Rattle.tree_making.specs.Keeping.{Adds, Keeps};
@@ -71,6 +71,7 @@ pub fn push_listed(
 pub fn keep_tree(alloc: Global, tree: &Tree, objects: &mut Objects) -> Result<ObjectId, Memory>
     requires { AreWellFormed tree.now.entries }
     ensures kept { Adds objects.old objects.new }
+    ensures one { IfOk result (λ id. map pair_id objects.new ≡ map pair_id objects.old ++ id ∷ []) }
     ensures made { IfOk result (λ id. (trees : Trees) → Keeps trees objects.new → trees id ≡ Some tree.now.entries) }
 {
     let body = tree.write(alloc)?;

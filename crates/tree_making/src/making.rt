@@ -1,6 +1,7 @@
 //! The trees of a listing.
 
-ghost use Rattle.std.specs.Prelude.{◌≡◌, ◌++◌, ◌∷◌, ◌-◌, ◌≤◌, ◌<◌, [], ℕ, List, length, IfNone, IfOk, IfSome};
+ghost use Rattle.std.specs.Prelude.{◌≡◌, ◌++◌, ◌∷◌, ◌-◌, ◌≤◌, ◌<◌, [], ℕ, List, length, map, IfNone, IfOk, IfSome};
+ghost use Rattle.git_object.specs.Objects.{pair_id};
 ghost use Rattle.git_object.specs.Trees.{AreWellFormed};
 ghost use Rattle.text_reader.specs.Line.{Begins, has_byte};
 ghost use Rattle.tree_paths.specs.Readings.{Trees};
@@ -8,6 +9,7 @@ ghost use Rattle.tree_paths.specs.States.{path_values};
 ghost use Rattle.tree_paths.specs.Walks.{below, steps};
 ghost use Rattle.tree_making.specs.Keeping.{Adds, Keeps};
 ghost use Rattle.tree_making.specs.Listings.{StartsAt, values};
+ghost use Rattle.tree_making.specs.Made.{AreOpen, ids_below, tree_ids};
 ghost use Rattle.tree_making.specs.Matching.{AreFormed, IsNoTree, IsPlace, Matches};
 
 use crate::entries::{keep_tree, push_entry, push_listed};
@@ -41,6 +43,11 @@ fn put_directory<'a>(
     ensures put { IfOk result (λ put. IfSome put (λ after. (front : List ℕ) → IsPlace front name.now place.now → (trees : Trees) (holder : List ℕ) → Keeps trees objects.new
         → path_values (below (steps trees (left - 1)) holder front tree.new.entries) ++ values after.now
         ≡ path_values (below (steps trees (left - 1)) holder front tree.old.entries) ++ values listing.now)) }
+    ensures ids { IfOk result (λ put. IfSome put (λ after. (trees : Trees) (before : List (List ℕ)) → Keeps trees objects.new → map pair_id objects.old ≡ before ++ ids_below (tree_ids trees (left - 1)) tree.old.entries
+        → map pair_id objects.new ≡ before ++ ids_below (tree_ids trees (left - 1)) tree.new.entries)) }
+    ensures visited { IfOk result (λ put. IfSome put (λ after. (front : List ℕ) → IsPlace front name.now place.now → (trees : Trees) (holder : List ℕ) → Keeps trees objects.new
+        → AreOpen trees (below (steps trees (left - 1)) holder front tree.old.entries) → AreOpen trees (below (steps trees (left - 1)) holder front tree.new.entries))) }
+    ensures some { IfOk result (λ put. IfSome put (λ after. 1 ≤ length tree.new.entries)) }
     ensures none { IfOk result (λ put. IfNone put ((front : List ℕ) (trees : Trees) (holder : List ℕ) → AreFormed trees → IsPlace front name.now place.now
         → Matches (steps trees (left - 1)) holder front tree.old.entries listing.now → ⊥)) }
     ensures next { IfOk result (λ put. IfSome put (λ after. (front : List ℕ) (trees : Trees) (holder : List ℕ) → AreFormed trees → IsPlace front name.now place.now
@@ -73,6 +80,8 @@ fn make_tree(
     requires level { 1 ≤ left }
     ensures kept { Adds objects.old objects.new }
     ensures made { IfOk result (λ made. IfSome made (λ id. (trees : Trees) → Keeps trees objects.new → path_values (steps trees left front.now id) ≡ values listing.now)) }
+    ensures ids { IfOk result (λ made. IfSome made (λ id. (trees : Trees) → Keeps trees objects.new → map pair_id objects.new ≡ map pair_id objects.old ++ tree_ids trees left id)) }
+    ensures visited { IfOk result (λ made. IfSome made (λ id. (trees : Trees) → Keeps trees objects.new → (length listing.now ≡ 0 → length front.now ≡ 0) → AreOpen trees (steps trees left front.now id))) }
     ensures none { IfOk result (λ made. IfNone made (IsNoTree left front.now listing.now)) }
 {
     let mut tree = Tree {
@@ -105,7 +114,8 @@ fn make_tree(
 }
 
 /// The trees of a listing whose paths rise strictly by bytes, added at the end of the objects with those of directories
-/// first, and the id of the root's tree; that of an empty listing is empty. None where there are no trees that have
+/// first, and the id of the root's tree; that of an empty listing is empty, and no other is. No tree is added but those
+/// that a walk of the root visits, each as often as it does. None where there are no trees that have
 /// exactly these paths with their modes and ids, at most 32 levels deep: `laws::listings` says of which listings there
 /// may be. Objects that were there stay; after None or a refusal some of the trees may have been added.
 pub fn make_trees(
@@ -115,6 +125,8 @@ pub fn make_trees(
 ) -> Result<Option<ObjectId>, Memory>
     ensures kept { Adds objects.old objects.new }
     ensures made { IfOk result (λ made. IfSome made (λ root. (trees : Trees) → Keeps trees objects.new → path_values (steps trees 32 [] root) ≡ values listing.now)) }
+    ensures ids { IfOk result (λ made. IfSome made (λ root. (trees : Trees) → Keeps trees objects.new → map pair_id objects.new ≡ map pair_id objects.old ++ tree_ids trees 32 root)) }
+    ensures visited { IfOk result (λ made. IfSome made (λ root. (trees : Trees) → Keeps trees objects.new → AreOpen trees (steps trees 32 [] root))) }
     ensures none { IfOk result (λ made. IfNone made (IsNoTree 32 [] listing.now)) }
 {
     make_tree(alloc, listing, b"", MOST_LEVELS, objects)
