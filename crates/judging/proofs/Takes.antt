@@ -1,5 +1,5 @@
 -- An engine that stands for a list stands for the list with the entry that it kept.
-use Rattle.std.proofs.Common.{◌≡◌, ◌↔◌, ◌==◌, ◌&&◌, ◌<◌, ◌≤◌, ◌+◌, ◌-◌, ◌++◌, ℕ, suc, Bool, true, false, cond, not, nat_lt, is_none, is_some, ⊎_elim, List, [], ◌∷◌, Option, Some, None, Result, Ok, Err, length, map, refl, ap, sym, subst, inl, inr, ◌∙◌, arith}
+use Rattle.std.proofs.Common.{◌≡◌, if◌then◌else◌, ◌↔◌, ◌==◌, ◌&&◌, ◌<◌, ◌≤◌, ◌+◌, ◌-◌, ◌++◌, ℕ, suc, Bool, true, false, cond, not, nat_lt, is_none, is_some, ⊎_elim, List, [], ◌∷◌, Option, Some, None, Result, Ok, Err, length, map, refl, ap, sym, subst, inl, inr, ◌∙◌, arith}
 use Rattle.std.specs.List.{list_any, slice_get}
 use Rattle.std.specs.Option.{option_and_then, option_map, unwrap_or}
 use Rattle.std.specs.Result.{OnErr, OnOk, result_err}
@@ -20,7 +20,7 @@ use Rattle.judging.specs.Engines.{IsTaken, KeepsNothing, KeepsReference, Stands,
 use Rattle.judging.specs.Logs.{above, attested_after, authorised, before, body_fault, body_signers, completes, entry_at, fault_at, fault_of, from, has_id, is_entry_of, keeps_tree, lane, last_signers, next_attested, next_policy, opened, ordinary_fault, ordinary_signers, pending, policy_after, prior, prior_target, rescued, signers_of, target_at}
 use Rattle.judging.specs.Standings.{standing_at, standing_of}
 use Rattle.judging.specs.Steps.{recorded}
-use Rattle.judging.specs.Reading.{body_bounded, body_reads, is_bounded, reads_of}
+use Rattle.judging.specs.Reading.{body_bounded, body_decision_reads, body_reads, decision_reads_of, is_bounded, may_rescue, reads_of}
 use Rattle.judging.specs.Tips.{IsTip}
 use Rattle.judging.specs.Verdicts.{IsJudged, answer_of, body_verdict, verdict_of}
 use Rattle.judging.specs.declared.deciding.Decision.{Decision}
@@ -40,8 +40,8 @@ on_err (Err x) q = q
 
 -- what follows of what holds where there is an answer
 pub on_ok : {T E A B : Type 0} → (r : Result T E) → OnOk r A → (A → B) → OnOk r B
-on_ok (Ok x) a then = then a
-on_ok (Err x) a then = tt
+on_ok (Ok x) a next = next a
+on_ok (Err x) a next = tt
 
 module _ {P F : Type 0} (rules : Rules P F) (log : List Taken) (t : Taken) where
   pub policy_push : policy_after rules (log ++ t ∷ []) ≡ next_policy rules (policy_after rules log) t
@@ -204,13 +204,29 @@ none_there (Some x) h = absurd (true≢false h)
 
 module _ {P F : Type 0} (rules : Rules P F) (log : List Taken) (t : Taken) (name target : List ℕ) (body : t.entry.body ≡ Reference name target) (e : Engine P F) where
   -- the reads of what is kept are those of the definitions
-  pub reads_are : Stands rules log e → reads_of rules log t ≡ decision_reads rules t.repository e.policy t.entry name (standing_of e.book name).from e.attested + rules.tree_reads t.repository (standing_of e.book name).from target
+  pub decision_reads_are : Stands rules log e → decision_reads_of rules log t ≡ decision_reads rules t.repository e.policy t.entry name (standing_of e.book name).from e.attested
+  decision_reads_are stands =
+      let here = ap (λ s. s.from) (standing_is rules log t e name stands) in
+      ap (body_decision_reads rules log t) body
+      ∙ ap (λ f. decision_reads rules t.repository (policy_after rules log) t.entry name f (attested_after log)) (sym here)
+      ∙ ap (λ p. decision_reads rules t.repository p t.entry name (standing_of e.book name).from (attested_after log)) (sym stands.policy)
+      ∙ ap (λ a. decision_reads rules t.repository e.policy t.entry name (standing_of e.book name).from a) (sym stands.attested)
+
+  rescue_is : Stands rules log e → may_rescue rules log name ≡ list_any (nat_lt (standing_of e.book name).above) (lane_of e.book.marks name).pending
+  rescue_is stands =
+      let here = ap (λ s. s.above) (standing_is rules log t e name stands) in
+      ap (λ a. list_any (nat_lt a) (lane rules log name).pending) (sym here)
+      ∙ ap (λ (l : Lane). list_any (nat_lt (standing_of e.book name).above) l.pending) (sym (stands.lanes name))
+
+  pub reads_are : Stands rules log e → reads_of rules log t ≡ decision_reads rules t.repository e.policy t.entry name (standing_of e.book name).from e.attested
+      + (if list_any (nat_lt (standing_of e.book name).above) (lane_of e.book.marks name).pending then rules.tree_reads t.repository (standing_of e.book name).from target else 0)
   reads_are stands =
       let here = ap (λ s. s.from) (standing_is rules log t e name stands) in
       ap (body_reads rules log t) body
-      ∙ ap (λ f. decision_reads rules t.repository (policy_after rules log) t.entry name f (attested_after log) + rules.tree_reads t.repository f target) (sym here)
-      ∙ ap (λ p. decision_reads rules t.repository p t.entry name (standing_of e.book name).from (attested_after log) + rules.tree_reads t.repository (standing_of e.book name).from target) (sym stands.policy)
-      ∙ ap (λ a. decision_reads rules t.repository e.policy t.entry name (standing_of e.book name).from a + rules.tree_reads t.repository (standing_of e.book name).from target) (sym stands.attested)
+      ∙ ap (λ n. n + (if may_rescue rules log name then rules.tree_reads t.repository (from rules log name) target else 0)) (sym (ap (body_decision_reads rules log t) body) ∙ decision_reads_are stands)
+      ∙ ap (λ b. decision_reads rules t.repository e.policy t.entry name (standing_of e.book name).from e.attested + (if b then rules.tree_reads t.repository (from rules log name) target else 0)) (rescue_is stands)
+      ∙ ap (λ f. decision_reads rules t.repository e.policy t.entry name (standing_of e.book name).from e.attested
+      + (if list_any (nat_lt (standing_of e.book name).above) (lane_of e.book.marks name).pending then rules.tree_reads t.repository f target else 0)) (sym here)
 
   -- and bounded where the definitions say so
   pub bounded_is : Stands rules log e → is_bounded rules log t ≡ rules.bounded t.repository (standing_of e.book name).from target

@@ -93,9 +93,8 @@ impl<P, F> Engine<P, F> {
 
 impl<P: Drop, F: Copied> Engine<P, F> {
     ghost use Rattle.std.specs.Prelude.{◌++◌, ◌∷◌, unwrap_or};
-    ghost use Rattle.judging.specs.Decisions.{decision_reads};
     ghost use Rattle.judging.specs.Engines.{IsTaken, Stands, has_taken, taken};
-    ghost use Rattle.judging.specs.Reading.{is_bounded, reads_of};
+    ghost use Rattle.judging.specs.Reading.{decision_reads_of, is_bounded, reads_of};
     ghost use Rattle.judging.specs.Verdicts.{IsJudged, verdict_of};
 
     /// Takes the next entry, of an id that no earlier one has, and answers whether it is authorised, refused for
@@ -150,7 +149,7 @@ impl<P: Drop, F: Copied> Engine<P, F> {
         ensures same { KeepsStore J.content J.tells_left J.left store.old store.new }
         ensures cause { HasCause judge_failed (J.faults store.old) (J.faults store.new) result }
         ensures reads { OnOk result ((r : Repository) (log : List Taken) → J.content store.new ≡ Some r → Stands (J.rules judge.now) log self.now → is_bounded (J.rules judge.now) log (record { entry = entry.now; repository = r }) ≡ true
-            → J.reads store.new ≤ J.reads store.old + reads_of (J.rules judge.now) log (record { entry = entry.now; repository = r })) }
+            → J.reads store.new ≤ J.reads store.old + decision_reads_of (J.rules judge.now) log (record { entry = entry.now; repository = r })) }
     {
         match &entry.body {
             EntryBody::Reference { name, target: _ } => {

@@ -1,9 +1,11 @@
 //! How an entry of a reference is judged, before it is kept.
 
-ghost use Rattle.std.specs.Prelude.{◌≡◌, ◌+◌, ◌≤◌, ℕ, Some, true, IfOk, OnOk};
+ghost use Rattle.std.specs.Prelude.{◌≡◌, ◌+◌, ◌≤◌, ℕ, Some, true, IfOk, OnOk, if◌then◌else◌, is_some, nat_lt};
+ghost use Rattle.std.specs.List.{list_any};
 ghost use Rattle.std.specs.Option.{unwrap_or};
 ghost use Rattle.octets.specs.Causes.{HasCause};
 ghost use Rattle.git_object.specs.Repository.{Repository};
+ghost use Rattle.recovery.specs.Lanes.{lane_of};
 ghost use Rattle.judging.specs.Decisions.{IsFinish};
 ghost use Rattle.judging.specs.Judges.{KeepsStore, judge_failed};
 ghost use Rattle.judging.specs.Standings.{standing_of};
@@ -53,7 +55,9 @@ pub fn finishes<P, F, S, J: Judge<P, F, S>>(
     ensures answer { IfOk result (λ finishes. (r : Repository) → J.content store.new ≡ Some r → IsFinish (J.rules judge.now) r book.now found.now name.now stands.now target.now finishes) }
     ensures same { KeepsStore J.content J.tells_left J.left store.old store.new }
     ensures cause { HasCause judge_failed (J.faults store.old) (J.faults store.new) result }
-    ensures reads { OnOk result ((r : Repository) → J.content store.new ≡ Some r → (J.rules judge.now).bounded r stands.now.from target.now ≡ true → J.reads store.new ≤ J.reads store.old + (J.rules judge.now).tree_reads r stands.now.from target.now) }
+    ensures reads { OnOk result ((r : Repository) → J.content store.new ≡ Some r → (J.rules judge.now).bounded r stands.now.from target.now ≡ true → J.reads store.new ≤ J.reads store.old
+        + (if list_any (nat_lt stands.now.above) (lane_of book.now.marks name.now).pending then (J.rules judge.now).tree_reads r stands.now.from target.now else 0)) }
+    ensures spared { is_some found.now.fault ≡ true → J.reads store.new ≡ J.reads store.old }
 {
     if found.fault.is_some() {
         return Ok(false);

@@ -1,10 +1,12 @@
 //! How an entry of a reference is taken.
 
-ghost use Rattle.std.specs.Prelude.{◌≡◌, ◌+◌, ◌≤◌, ℕ, List, Option, Some, None, true, IfOk, OnErr, OnOk};
+ghost use Rattle.std.specs.Prelude.{◌≡◌, ◌+◌, ◌≤◌, ℕ, List, Option, Some, None, true, IfOk, OnErr, OnOk, if◌then◌else◌, nat_lt};
+ghost use Rattle.std.specs.List.{list_any};
 ghost use Rattle.octets.specs.Causes.{HasCause};
 ghost use Rattle.git_object.specs.Repository.{Repository};
 ghost use Rattle.log_entries.specs.Entries.{Taken, target_of};
 ghost use Rattle.log_entries.specs.declared.entries.EntryBody.TheVariants.{Reference};
+ghost use Rattle.recovery.specs.Lanes.{lane_of};
 ghost use Rattle.judging.specs.Books.{place_of};
 ghost use Rattle.judging.specs.Decisions.{decision_reads};
 ghost use Rattle.judging.specs.Engines.{IsTaken, Stands, taken};
@@ -54,7 +56,7 @@ pub fn take_reference<P: Drop, F: Copied, S, J: Judge<P, F, S>>(
     ensures reads { OnOk result ((r : Repository) → J.content store.new ≡ Some r → entry.now.body ≡ Reference name.now target.now → (J.rules judge.now).bounded r (standing_of engine.old.book name.now).from target.now ≡ true
         → J.reads store.new ≤ J.reads store.old
         + decision_reads (J.rules judge.now) r engine.old.policy entry.now name.now (standing_of engine.old.book name.now).from engine.old.attested
-        + (J.rules judge.now).tree_reads r (standing_of engine.old.book name.now).from target.now) }
+        + (if list_any (nat_lt (standing_of engine.old.book name.now).above) (lane_of engine.old.book.marks name.now).pending then (J.rules judge.now).tree_reads r (standing_of engine.old.book name.now).from target.now else 0)) }
 {
     let stands = place_before(&engine.book, name);
     let found = decide(

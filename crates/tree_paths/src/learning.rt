@@ -1,12 +1,13 @@
 //! Learning what the walks of trees add.
 
-ghost use Rattle.std.specs.Prelude.{◌≡◌, ◌≤◌, ◌-◌, ℕ, List, Some, length, min, IfOk, IfSome};
+ghost use Rattle.std.specs.Prelude.{◌≡◌, ◌≤◌, ◌+◌, ◌-◌, ℕ, List, Some, length, min, IfOk, IfSome};
 ghost use Rattle.octets.specs.Causes.{HasCause};
 ghost use Rattle.git_object.specs.Repository.{Repository};
 ghost use Rattle.keeper_api.specs.Faults.{keeper_failed};
 ghost use Rattle.keeper_api.specs.Undisturbed.{Undisturbed};
 ghost use Rattle.tree_paths.specs.Adding.{Adds};
 ghost use Rattle.tree_paths.specs.Known.{AreKnownIn};
+ghost use Rattle.tree_paths.specs.Listings.{visits, walk_visits};
 ghost use Rattle.tree_paths.specs.Readings.{Readings, Told};
 ghost use Rattle.tree_paths.specs.Walks.{entry_steps, is_dir, steps};
 
@@ -37,6 +38,8 @@ fn learn_entry<R: Keeper>(
     requires short { len ≤ 8192 }
     ensures adds { IfOk result (λ found. IfSome found (λ adds. (readings : Readings) (holder front : List ℕ) → Told (R.content keeper.new) readings → len ≡ min (length front) 8192
         → Adds readings.trees (entry_steps (steps readings.trees (left - 1)) holder front entry.now (is_dir entry.now.mode)) adds)) }
+    ensures visited { (readings : Readings) (holder front : List ℕ) → Told (R.content keeper.new) readings
+        → R.reads keeper.new ≤ R.reads keeper.old + visits (entry_steps (steps readings.trees (left - 1)) holder front entry.now (is_dir entry.now.mode)) }
     ensures known { (r : Repository) → R.content keeper.new ≡ Some r → AreKnownIn r known.new }
     ensures same { Undisturbed R.Keeper keeper.old keeper.new }
     ensures cause { HasCause keeper_failed (R.faults keeper.old) (R.faults keeper.new) result }
@@ -66,6 +69,7 @@ fn learn_tree<R: Keeper>(
     requires short { len ≤ 8192 }
     ensures adds { IfOk result (λ found. IfSome found (λ adds. (readings : Readings) (front : List ℕ) → Told (R.content keeper.new) readings → len ≡ min (length front) 8192
         → Adds readings.trees (steps readings.trees left front id.now) adds)) }
+    ensures visited { (readings : Readings) (front : List ℕ) → Told (R.content keeper.new) readings → R.reads keeper.new ≤ R.reads keeper.old + visits (steps readings.trees left front id.now) }
     ensures known { (r : Repository) → R.content keeper.new ≡ Some r → AreKnownIn r known.new }
     ensures same { Undisturbed R.Keeper keeper.old keeper.new }
     ensures cause { HasCause keeper_failed (R.faults keeper.old) (R.faults keeper.new) result }
@@ -93,7 +97,8 @@ fn learn_tree<R: Keeper>(
 }
 
 /// Learns what the tree of a target and those below it add, for comparisons of the target with others. Trees that are
-/// known already are not read. What is kept of trees that are of no use any more is let go where it is much.
+/// known already are not read, and of the others no more than the target's walk visits, beside at most 9 reads. What is
+/// kept of trees that are of no use any more is let go where it is much.
 pub fn learn<R: Keeper>(
     alloc: Global,
     keeper: &mut R,
@@ -102,6 +107,7 @@ pub fn learn<R: Keeper>(
 ) -> Result<(), KeeperFault>
     requires known { (r : Repository) → R.content keeper.old ≡ Some r → AreKnownIn r known.old }
     ensures known { (r : Repository) → R.content keeper.new ≡ Some r → AreKnownIn r known.new }
+    ensures visited { (readings : Readings) → Told (R.content keeper.new) readings → R.reads keeper.new ≤ R.reads keeper.old + 9 + walk_visits readings target.now }
     ensures same { Undisturbed R.Keeper keeper.old keeper.new }
     ensures cause { HasCause keeper_failed (R.faults keeper.old) (R.faults keeper.new) result }
 {

@@ -1,6 +1,7 @@
 -- The entries of a log, taken one after the other: each is the next.
-use Rattle.std.proofs.Common.{◌≡◌, ◌<◌, ◌≤◌, ◌+◌, ◌-◌, ◌&&◌, ◌++◌, ℕ, true, false, List, [], ◌∷◌, Ok, Err, length, take, drop, get_or, map, Option, Some, None, refl, sym, ap, subst, ◌∙◌, append_assoc, take-append-drop, arith}
+use Rattle.std.proofs.Common.{◌≡◌, ◌≢◌, ◌<◌, ◌≤◌, ◌+◌, ◌-◌, ◌&&◌, ◌++◌, ℕ, suc, zero, true, false, List, [], ◌∷◌, Ok, Err, length, take, drop, get_or, map, Option, Some, None, refl, sym, ap, subst, ◌∙◌, append_assoc, take-append-drop, arith}
 use Rattle.std.specs.Prelude.{is_some, not, slice_get}
+use Rattle.std.specs.List.{AllByRecursion}
 use Rattle.std.specs.Option.{option_and_then, option_map}
 use Rattle.std.specs.Result.{result_ok}
 use Rattle.std.proofs.lemmas.Bool.{eq-eqb, false≢true, true≢false}
@@ -14,7 +15,7 @@ use Rattle.git_object.specs.declared.kinds.Kind.TheVariants.{Blob, Commit, Tag, 
 use Rattle.log_entries.specs.Entries.{Taken, target_of}
 use Rattle.log_entries.specs.declared.entries.Entry.{Entry}
 use Rattle.rsl_chain.specs.Chain.{head_after}
-use Rattle.rsl_chain.specs.Logs.{IsLogOf, IsUnbroken, entry_at, entry_of_pair, head_in}
+use Rattle.rsl_chain.specs.Logs.{IsLogOf, IsNamed, IsUnbroken, entry_at, entry_of_pair, head_in}
 use Rattle.rsl_chain.specs.Reading.{Reading, entry_as, reading}
 use Rattle.rsl_chain.specs.declared.heads.Head.{Head}
 use Rattle.rsl_chain.specs.declared.log_faults.LogFault.{LogFault}
@@ -27,7 +28,7 @@ use Rattle.judging.specs.Rules.{Rules}
 use Rattle.judging.specs.declared.engine.Engine.{Engine}
 use Rattle.policy_epochs.specs.declared.policies.Policy.{Policy}
 use Rattle.entry_rules.specs.declared.faults.Fault.{Fault}
-use Rattle.verify_ref.specs.Logs.{AreEntries, IsAstray, TakesNext, comes_next, taken_at}
+use Rattle.verify_ref.specs.Logs.{AreEntries, BreaksAt, ComesBehind, IsAstray, TakesNext, comes_next, taken_at}
 
 -- ---- lists
 cut : {X : Type 0} → (xs : List X) (i : ℕ) (x : X) → i < length xs → x ≡ get_or xs i x → xs ≡ take i xs ++ x ∷ drop (i + 1) xs
@@ -36,6 +37,11 @@ cut xs i x below is =
 
 one_more : (ids : List (List ℕ)) (i : ℕ) (id : List ℕ) → i < length ids → id ≡ get_or ids i id → take i ids ++ id ∷ [] ≡ take (i + 1) ids
 one_more ids i id below is = ap (λ (x : List ℕ). take i ids ++ x ∷ []) is ∙ sym (take_more ids i id below)
+
+at_index : {X : Type 0} (P : X → Type 0) (xs : List X) (k : ℕ) (x : X) → AllByRecursion P xs → slice_get xs k ≡ Some x → P x
+at_index P [] k x all is = absurd (cc is)
+at_index P (y ∷ ys) zero x all is = let same : y ≡ x = cc is in subst P same all.0
+at_index P (y ∷ ys) (suc k) x all is = at_index P ys k x all.1 is
 
 -- ---- the entry at an id
 as_own : (id : List ℕ) (read : Reading) (e : Entry) → result_ok (entry_as id read) ≡ Some e → e.id ≡ id
@@ -170,3 +176,40 @@ module _ (rules : Rules Policy Fault) (r : Repository) (ids : List (List ℕ)) (
       let t : Taken = record { entry = step.entry; repository = r } in
       let there : taken_at r id ≡ Some t = ap (option_map (λ (entry : Entry). record { entry = entry; repository = r })) step.there in
       (log ++ t ∷ [], subst (λ xs. AreEntries r xs (log ++ t ∷ [])) (one_more ids i id below at) (entries_more r (take i ids) id log t are there), step.stands log stands)
+
+  -- ---- where the next is not there
+
+  others_place : (e : Entry) → AllByRecursion (λ t. t.entry.id ≢ e.id) log → (k : ℕ) → place_of engine.book e.id ≡ Some k → ⊥
+  others_place e others k there = by_entry (slice_get log (k - 1)) refl w.2 where
+    w : (0 < k) × (k ≤ length log) × (logs.has_id (logs.entry_at log k) e.id ≡ true)
+    w = (stands.places e.id k).0 there
+
+    by_entry : (o : Option Taken) → slice_get log (k - 1) ≡ o → logs.has_id o e.id ≡ true → ⊥
+    by_entry None found h = false≢true h
+    by_entry (Some t) found h = at_index (λ (x : Taken). x.entry.id ≢ e.id) log (k - 1) t others found ((bytes_eq-Decides t.entry.id e.id).0 h)
+
+  fresh_id : (e : Entry) → AllByRecursion (λ t. t.entry.id ≢ e.id) log → has_taken engine e.id ≡ false
+  fresh_id e others = by_place (place_of engine.book e.id) refl where
+    by_place : (o : Option ℕ) → place_of engine.book e.id ≡ o → is_some o ≡ false
+    by_place None there = refl
+    by_place (Some k) there = absurd (others_place e others k there)
+
+  comes_behind : (e : Entry) → ComesBehind log e → comes_next engine e ≡ true
+  comes_behind e next =
+      let many = same_length r (take i ids) log are in
+      let long = fronts in
+      let here = taken_is in
+      let number : e.number ≡ taken engine + 1 = omega (arith, next.number) in
+      ap (λ b. b && not (has_taken engine e.id)) (eq-eqb e.number (taken engine + 1) number) ∙ ap not (fresh_id e next.other)
+
+  pub breaks : (fault : LogFault) → IsAstray r engine id fault → IsNamed id fault → BreaksAt r ids fault
+  breaks (Broken named) astray is = record {
+    front = take i ids;
+    rest = drop (i + 1) ids;
+    is = cut ids i id below at ∙ ap (λ (x : List ℕ). take i ids ++ x ∷ drop (i + 1) ids) (sym is);
+    log = log;
+    entries = are;
+    none = λ e there next. true≢false (sym (comes_behind e next) ∙ astray e (ap (entry_at r) (sym is) ∙ there));
+  }
+  breaks Failed astray is = tt
+  breaks Memory astray is = tt

@@ -1,5 +1,7 @@
 -- the entries of a log, each to be judged in one repository
 pub mod Logs
+-- the reads that taking an entry may cost
+pub mod Reading
 -- the verdict on a reference
 pub mod Verdicts
 -- the line of a verdict

@@ -1,5 +1,6 @@
 -- The entries of a repository's log, each to be judged in that repository.
-use Rattle.std.specs.Prelude.{◌≡◌, ◌+◌, ◌++◌, ◌∷◌, ◌==◌, ◌&&◌, [], ℕ, Bool, false, not, List, Option, Some, map}
+use Rattle.std.specs.Prelude.{◌≡◌, ◌≢◌, ◌+◌, ◌++◌, ◌∷◌, ◌==◌, ◌&&◌, [], ℕ, Bool, false, not, List, length, Option, Some, map}
+use Rattle.std.specs.List.{AllByRecursion}
 use Rattle.std.specs.Option.{option_map}
 use Rattle.git_object.specs.Repository.{Repository}
 use Rattle.log_entries.specs.Entries.{Taken}
@@ -38,3 +39,25 @@ abbrev pub IsAstray : Repository → Engine Policy Fault → List ℕ → LogFau
 IsAstray r engine id (Broken named) = (entry : Entry) → entry_at r id ≡ Some entry → comes_next engine entry ≡ false
 IsAstray r engine id Failed = Unit {0}
 IsAstray r engine id Memory = Unit {0}
+
+-- ---- where the entries at some ids are none of a log
+
+-- the entry would come next behind these: its number is one more than they are, and none of them has its id
+pub record ComesBehind (log : List Taken) (entry : Entry) : Type 0 where
+  pub number : entry.number ≡ length log + 1
+  pub other : AllByRecursion (λ t. t.entry.id ≢ entry.id) log
+
+-- this is the first of the ids at which no entry stands that comes behind those before it
+pub record IsFirstAstray (r : Repository) (ids : List (List ℕ)) (id : List ℕ) : Type 0 where
+  pub front : List (List ℕ)
+  pub rest : List (List ℕ)
+  pub is : ids ≡ front ++ id ∷ rest
+  pub log : List Taken
+  pub entries : AreEntries r front log
+  pub none : (entry : Entry) → entry_at r id ≡ Some entry → ComesBehind log entry → ⊥
+
+-- a break that is answered names it
+abbrev pub BreaksAt : Repository → List (List ℕ) → LogFault → Type 0
+BreaksAt r ids (Broken id) = IsFirstAstray r ids id
+BreaksAt r ids Failed = Unit {0}
+BreaksAt r ids Memory = Unit {0}

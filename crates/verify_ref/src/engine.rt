@@ -1,6 +1,6 @@
 //! The engine of judging with the rules by which it judges, for whoever takes entries as they come.
 
-ghost use Rattle.std.specs.Prelude.{◌≡◌, ◌+◌, [], List, Some, false, IfOk, OnErr, OnOk};
+ghost use Rattle.std.specs.Prelude.{◌≡◌, ◌≤◌, ◌+◌, [], List, Some, true, false, IfOk, OnErr, OnOk};
 ghost use Rattle.octets.specs.Causes.{HasCause};
 ghost use Rattle.git_object.specs.Repository.{Repository, value_of};
 ghost use Rattle.keeper_api.specs.Faults.{keeper_failed};
@@ -9,10 +9,12 @@ ghost use Rattle.log_entries.specs.Entries.{Taken};
 ghost use Rattle.tree_paths.specs.Known.{AreKnownIn};
 ghost use Rattle.judging.specs.Engines.{has_taken, taken};
 ghost use Rattle.judging.specs.Logs.{prior_target};
+ghost use Rattle.judging.specs.Reading.{is_bounded};
 ghost use Rattle.judging.specs.Verdicts.{IsJudged};
 ghost use Rattle.entry_rules.specs.RealRules.{real_rules};
 ghost use Rattle.verify_ref.specs.Following.{Follows, TakesOne};
 ghost use Rattle.verify_ref.specs.Logs.{comes_next};
+ghost use Rattle.verify_ref.specs.Reading.{extending_reads};
 
 use crate::judged_log::{LogEngine, comes_next, extend_by};
 use crate::verifying::{RefVerdict, conclude};
@@ -73,7 +75,8 @@ impl Engine {
     }
 
     /// Takes the next entry, and answers whether it is authorised, refused for a fault, or an annotation. After a refusal the
-    /// engine followed what it followed before.
+    /// engine followed what it followed before. Where neither the reference's target before nor the entry's is broken, it
+    /// makes at most 9 reads and one for each tree of the former to learn its trees, and those of judging.
     pub fn extend<R: Keeper>(
         &mut self,
         alloc: Global,
@@ -91,6 +94,9 @@ impl Engine {
         ensures known { (r : Repository) → R.content keeper.new ≡ Some r → AreKnownIn r self.new.known }
         ensures same { Undisturbed R.Keeper keeper.old keeper.new }
         ensures cause { HasCause keeper_failed (R.faults keeper.old) (R.faults keeper.new) result }
+        ensures reads { OnOk result ((r : Repository) (log : List Taken) → R.content keeper.new ≡ Some r → Follows log self.old
+            → is_bounded (real_rules self.old.rules.anchor) log (record { entry = entry.now; repository = r }) ≡ true
+            → R.reads keeper.new ≤ R.reads keeper.old + extending_reads (real_rules self.old.rules.anchor) log (record { entry = entry.now; repository = r })) }
     {
         extend_by(
             alloc,
@@ -102,7 +108,7 @@ impl Engine {
         )
     }
 
-    /// The verdict on a reference by the entries taken and by its value in the store.
+    /// The verdict on a reference by the entries taken and by its value in the store. It reads no object.
     pub fn verdict<R: Keeper>(
         &self,
         alloc: Global,
@@ -113,6 +119,7 @@ impl Engine {
             → IsJudged (real_rules self.now.rules.anchor) log name.now (value_of r name.now) verdict) }
         ensures same { Undisturbed R.Keeper keeper.old keeper.new }
         ensures cause { HasCause keeper_failed (R.faults keeper.old) (R.faults keeper.new) result }
+        ensures reads { R.reads keeper.new ≡ R.reads keeper.old }
     {
         conclude(alloc, keeper, &self.entries, name)
     }

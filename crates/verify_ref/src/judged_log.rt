@@ -1,19 +1,21 @@
 //! The engine over the entries of a log in a store.
 
-ghost use Rattle.std.specs.Prelude.{◌≡◌, ◌+◌, ◌++◌, ◌∷◌, ◌==◌, ◌&&◌, [], List, Some, false, not, IfErr, IfOk, OnErr, OnOk};
+ghost use Rattle.std.specs.Prelude.{◌≡◌, ◌≤◌, ◌+◌, ◌++◌, ◌∷◌, ◌==◌, ◌&&◌, [], List, Some, true, false, not, IfErr, IfOk, OnErr, OnOk};
 ghost use Rattle.octets.specs.Causes.{HasCause};
 ghost use Rattle.git_object.specs.Repository.{Repository};
 ghost use Rattle.keeper_api.specs.Faults.{keeper_failed};
 ghost use Rattle.keeper_api.specs.Undisturbed.{Undisturbed};
 ghost use Rattle.log_entries.specs.Entries.{Taken};
 ghost use Rattle.tree_paths.specs.Known.{AreKnownIn};
-ghost use Rattle.rsl_chain.specs.Logs.{IsLogOf, IsUnbroken, log_failed};
+ghost use Rattle.rsl_chain.specs.Logs.{IsLogOf, IsNamed, IsUnbroken, log_failed};
 ghost use Rattle.judging.specs.Engines.{IsTaken, Stands, has_taken, taken};
+ghost use Rattle.judging.specs.Reading.{is_bounded};
 ghost use Rattle.judging.specs.Rules.{Rules};
 ghost use Rattle.policy_epochs.specs.declared.policies.Policy.{Policy};
 ghost use Rattle.entry_rules.specs.declared.faults.Fault.{Fault};
 ghost use Rattle.entry_rules.specs.RealRules.{real_rules};
-ghost use Rattle.verify_ref.specs.Logs.{AreEntries, IsAstray, TakesNext, comes_next};
+ghost use Rattle.verify_ref.specs.Logs.{AreEntries, BreaksAt, IsAstray, TakesNext, comes_next};
+ghost use Rattle.verify_ref.specs.Reading.{extending_reads, learning_reads};
 
 use entry_rules::{EntryRules, Fault, KnowingRules};
 use git_object::ObjectId;
@@ -48,6 +50,7 @@ fn learn_before<R: Keeper>(
     ensures known { (r : Repository) → R.content keeper.new ≡ Some r → AreKnownIn r known.new }
     ensures same { Undisturbed R.Keeper keeper.old keeper.new }
     ensures cause { HasCause keeper_failed (R.faults keeper.old) (R.faults keeper.new) result }
+    ensures reads { (r : Repository) (rules : Rules Policy Fault) (log : List Taken) → R.content keeper.new ≡ Some r → Stands rules log engine.now → R.reads keeper.new ≤ R.reads keeper.old + learning_reads rules r log entry.now.body }
 {
     match &entry.body {
         EntryBody::Reference { name, target: _ } => match engine.prior_target(name) {
@@ -82,6 +85,9 @@ pub(crate) fn extend_by<R: Keeper>(
     ensures known { (r : Repository) → R.content keeper.new ≡ Some r → AreKnownIn r known.new }
     ensures same { Undisturbed R.Keeper keeper.old keeper.new }
     ensures cause { HasCause keeper_failed (R.faults keeper.old) (R.faults keeper.new) result }
+    ensures reads { OnOk result ((r : Repository) (log : List Taken) → R.content keeper.new ≡ Some r → Stands (real_rules rules.now.anchor) log engine.old
+        → is_bounded (real_rules rules.now.anchor) log (record { entry = entry.now; repository = r }) ≡ true
+        → R.reads keeper.new ≤ R.reads keeper.old + extending_reads (real_rules rules.now.anchor) log (record { entry = entry.now; repository = r })) }
 {
     match learn_before(alloc, keeper, known, engine, entry) {
         Ok(()) => {}
@@ -107,6 +113,7 @@ fn take<R: Keeper>(
     requires known { (r : Repository) → R.content keeper.old ≡ Some r → AreKnownIn r known.old }
     ensures taken { OnOk result ((r : Repository) → R.content keeper.new ≡ Some r → TakesNext (real_rules rules.now.anchor) r id.now engine.old engine.new) }
     ensures broken { IfErr result (λ fault. (r : Repository) → R.content keeper.new ≡ Some r → IsAstray r engine.old id.now fault) }
+    ensures named { IfErr result (IsNamed id.now) }
     ensures known { (r : Repository) → R.content keeper.new ≡ Some r → AreKnownIn r known.new }
     ensures same { Undisturbed R.Keeper keeper.old keeper.new }
     ensures cause { HasCause log_failed (R.faults keeper.old) (R.faults keeper.new) result }
@@ -133,6 +140,7 @@ fn take_all<R: Keeper>(
     requires { Stands (real_rules rules.now.anchor) [] engine.old }
     ensures stands { OnOk result ((r : Repository) → R.content keeper.new ≡ Some r → (log : List Taken) × AreEntries r ids.now log × Stands (real_rules rules.now.anchor) log engine.new) }
     ensures unbroken { IfErr result (λ fault. (r : Repository) → R.content keeper.new ≡ Some r → IsLogOf r ids.now → IsUnbroken fault) }
+    ensures broken { IfErr result (λ fault. (r : Repository) → R.content keeper.new ≡ Some r → BreaksAt r ids.now fault) }
     ensures same { Undisturbed R.Keeper keeper.old keeper.new }
     ensures cause { HasCause log_failed (R.faults keeper.old) (R.faults keeper.new) result }
 {
@@ -146,8 +154,8 @@ fn take_all<R: Keeper>(
     Ok(())
 }
 
-/// The engine that took the entries at these ids, one after the other. Where the ids are the store's log, `Broken` does not
-/// come.
+/// The engine that took the entries at these ids, one after the other. `Broken` names the first of the ids at which no entry
+/// stands that comes next, by its number and with an id of its own. Where the ids are the store's log, it does not come.
 pub fn judge_entries<R: Keeper>(
     alloc: Global,
     keeper: &mut R,
@@ -156,6 +164,7 @@ pub fn judge_entries<R: Keeper>(
 ) -> Result<LogEngine, LogFault>
     ensures stands { IfOk result (λ engine. (r : Repository) → R.content keeper.new ≡ Some r → (log : List Taken) × AreEntries r ids.now log × Stands (real_rules rules.now.anchor) log engine) }
     ensures unbroken { IfErr result (λ fault. (r : Repository) → R.content keeper.new ≡ Some r → IsLogOf r ids.now → IsUnbroken fault) }
+    ensures broken { IfErr result (λ fault. (r : Repository) → R.content keeper.new ≡ Some r → BreaksAt r ids.now fault) }
     ensures same { Undisturbed R.Keeper keeper.old keeper.new }
     ensures cause { HasCause log_failed (R.faults keeper.old) (R.faults keeper.new) result }
 {

@@ -31,6 +31,7 @@ fn value<R: Keeper>(alloc: Global, keeper: &mut R, name: &RefName) -> Result<Obj
     ensures answer { IfOk result (λ id. (r : Repository) → R.content keeper.new ≡ Some r → id ≡ value_of r name.now) }
     ensures same { Undisturbed R.Keeper keeper.old keeper.new }
     ensures cause { HasCause keeper_failed (R.faults keeper.old) (R.faults keeper.new) result }
+    ensures reads { R.reads keeper.new ≡ R.reads keeper.old }
 {
     match keeper.read_ref(alloc, name) {
         Ok(found) => Ok(found.unwrap_or(ObjectId::zeros())),
@@ -48,6 +49,7 @@ pub(crate) fn conclude<R: Keeper>(
     ensures judged { IfOk result (λ verdict. (r : Repository) → R.content keeper.new ≡ Some r → (rules : Rules Policy Fault) (log : List Taken) → Stands rules log engine.now → IsJudged rules log name.now (value_of r name.now) verdict) }
     ensures same { Undisturbed R.Keeper keeper.old keeper.new }
     ensures cause { HasCause keeper_failed (R.faults keeper.old) (R.faults keeper.new) result }
+    ensures reads { R.reads keeper.new ≡ R.reads keeper.old }
 {
     let kept = value(alloc, keeper, name)?;
     let verdict = engine.verdict(name, &kept)?;

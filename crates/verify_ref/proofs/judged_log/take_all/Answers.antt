@@ -2,7 +2,7 @@ use Rattle.std.proofs.Common.{refl, rules, [], subst}
 use Rattle.std.proofs.lemmas.List.{take_all}
 use Rattle.entry_rules.specs.RealRules.{real_rules}
 use Rattle.verify_ref.specs.Logs.{AreEntries}
-use Rattle.verify_ref.proofs.Walking.{taken_more, unbroken}
+use Rattle.verify_ref.proofs.Walking.{breaks, taken_more, unbroken}
 use Rattle.verify_ref.proofs.judged_log.take_all.Goals as goal
 
 pub ids-init : goal.ids-init
@@ -27,6 +27,11 @@ pub returns-in-Err-clause-unbroken : goal.returns-in-Err-clause-unbroken
 returns-in-Err-clause-unbroken g c = λ r told is_log.
     let was = c.ids.invariant.so r (c.take.ensures.same.content r told) in
     unbroken (real_rules c.args.rules.now.anchor) r c.args.ids.now c.ids.id-index c.id-item.result c.ids-test.true c.id-item.is c.ids.engine was.0 was.1 was.2 c.in-Err.fault (c.in-Err.ensures.broken r told) is_log
+
+pub returns-in-Err-clause-broken : goal.returns-in-Err-clause-broken
+returns-in-Err-clause-broken g c = λ r told.
+    let was = c.ids.invariant.so r (c.take.ensures.same.content r told) in
+    breaks (real_rules c.args.rules.now.anchor) r c.args.ids.now c.ids.id-index c.id-item.result c.ids-test.true c.id-item.is c.ids.engine was.0 was.1 was.2 c.in-Err.fault (c.in-Err.ensures.broken r told) c.in-Err.ensures.named
 
 pub returns-clause-stands : goal.returns-clause-stands
 returns-clause-stands g c = λ r told.

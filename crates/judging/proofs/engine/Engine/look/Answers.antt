@@ -1,7 +1,7 @@
 use Rattle.std.proofs.Common.{ap, sym, ◌∙◌, arith}
 use Rattle.log_entries.specs.Entries.{Taken, target_of}
 use Rattle.judging.specs.Standings.{standing_of}
-use Rattle.judging.proofs.Takes.{bounded_is, on_ok, reads_are}
+use Rattle.judging.proofs.Takes.{bounded_is, decision_reads_are, on_ok}
 use Rattle.judging.proofs.engine.Engine.look.Goals as goal
 
 pub returns-in-Reference-clause-reads : goal.returns-in-Reference-clause-reads
@@ -12,5 +12,5 @@ returns-in-Reference-clause-reads g c = on_ok c.look_reference.result c.look_ref
     let bounded = bounded_is rules log t c.in-Reference.name c.in-Reference.target c.in-Reference.is c.args.self.now stands in
     let here = ap (λ body. rules.bounded r from (target_of body)) c.in-Reference.is in
     let bound = reads r told (here ∙ sym bounded ∙ few) in
-    let same = reads_are rules log t c.in-Reference.name c.in-Reference.target c.in-Reference.is c.args.self.now stands in
+    let same = decision_reads_are rules log t c.in-Reference.name c.in-Reference.target c.in-Reference.is c.args.self.now stands in
     omega arith)
