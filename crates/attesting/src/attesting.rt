@@ -1,6 +1,6 @@
 //! The change that puts an approval into the attestations.
 
-ghost use Rattle.std.specs.Prelude.{◌≡◌, ◌≤◌, ◌∷◌, [], ℕ, List, length, Ok, Some, IfOk, IfErr, OnOk};
+ghost use Rattle.std.specs.Prelude.{◌≡◌, ◌≤◌, ◌+◌, ◌∷◌, [], ℕ, List, length, Ok, Some, IfOk, IfErr, OnOk};
 ghost use Rattle.std.specs.Option.{option_copied};
 ghost use Rattle.octets.specs.Causes.{HasCause};
 ghost use Rattle.git_object.specs.Repository.{Repository};
@@ -137,8 +137,8 @@ pub fn attest_at(
 /// target is peeled to, if there is one; the one reference change sets `refs/gittuf/attestations` to it. All else in
 /// the tree stays. `Unreadable` names the first object on the way to the approval's place that is no commit, tag or
 /// tree where one is wanted, that is no directory, or is one in the approval's place, or the old tree that would grow
-/// past 16 MiB. It asks for an approval of at most 1 MiB as it is written, which `is_approval` tells, and for an author
-/// of at most 1 MiB.
+/// past 16 MiB. It makes at most 27 reads. It asks for an approval of at most 1 MiB as it is written, which `is_approval`
+/// tells, and for an author of at most 1 MiB.
 pub fn attest<R: Keeper>(
     alloc: Global,
     keeper: &mut R,
@@ -153,10 +153,12 @@ pub fn attest<R: Keeper>(
     requires author { length author.now ≤ 1048576 }
     ensures attested { IfOk result (λ a. (r : Repository) → R.content keeper.new ≡ Some r → attested r (target_in (option_copied attestations.entry)) name.now from.now tree.now envelope.now author.now ≡ Ok a) }
     ensures change { IfOk result (IsChange (approval_pair envelope.now) author.now) }
+    ensures reads_back { OnOk result (reading (text_of envelope.now) ≡ Ok envelope.now) }
     ensures unreadable { IfErr result (λ e. IfUnreadable e (λ id. (r : Repository) → R.content keeper.new ≡ Some r
         → attested r (target_in (option_copied attestations.entry)) name.now from.now tree.now envelope.now author.now ≡ Err id)) }
     ensures same { Undisturbed R.Keeper keeper.old keeper.new }
     ensures cause { HasCause attest_failed (R.faults keeper.old) (R.faults keeper.new) result }
+    ensures reads { R.reads keeper.new ≤ R.reads keeper.old + 27 }
 {
     let site = match find_site(alloc, keeper, attestations, name, from, tree) {
         Ok(site) => site,

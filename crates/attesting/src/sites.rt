@@ -1,6 +1,6 @@
 //! Where an approval is put among the attestations: all that has to be read for it.
 
-ghost use Rattle.std.specs.Prelude.{◌≡◌, ◌≤◌, ℕ, List, length, Err, Ok, Some, Option, IfErr, IfNone, IfOk, IfSome, OnOk};
+ghost use Rattle.std.specs.Prelude.{◌≡◌, ◌≤◌, ◌+◌, ℕ, List, length, Err, Ok, Some, Option, IfErr, IfNone, IfOk, IfSome, OnOk};
 ghost use Rattle.std.specs.List.{AllByRecursion};
 ghost use Rattle.std.specs.Option.{option_copied};
 ghost use Rattle.octets.specs.Causes.{HasCause};
@@ -81,6 +81,7 @@ fn site_after<R: Keeper>(
         → (blob : List ℕ) → length blob ≡ 32 → put_file readings.trees blob (components path) old ≡ Err id)) }
     ensures same { Undisturbed R.Keeper keeper.old keeper.new }
     ensures cause { HasCause keeper_failed (R.faults keeper.old) (R.faults keeper.new) result }
+    ensures reads { R.reads keeper.new ≤ R.reads keeper.old + 18 }
 {
     let mut levels = Levels::new(alloc);
     if let Some(id) = survey(alloc, keeper, path.as_slice(), &old, &mut levels)? {
@@ -112,6 +113,7 @@ fn site_at<R: Keeper>(
         → RefusesAfter readings.trees (components path) (root_of readings.heads target.now) id)) }
     ensures same { Undisturbed R.Keeper keeper.old keeper.new }
     ensures cause { HasCause keeper_failed (R.faults keeper.old) (R.faults keeper.new) result }
+    ensures reads { R.reads keeper.new ≤ R.reads keeper.old + 27 }
 {
     match root_of(alloc, keeper, target)? {
         Peeled::Bad(id) => Ok(Err(id)),
@@ -140,6 +142,7 @@ fn site_of<R: Keeper>(
     ensures in_way { IfOk result (λ found. IfErr found (λ id. (r : Repository) → R.content keeper.new ≡ Some r → IsInWayOf r target.now name.now from.now tree.now id)) }
     ensures same { Undisturbed R.Keeper keeper.old keeper.new }
     ensures cause { HasCause keeper_failed (R.faults keeper.old) (R.faults keeper.new) result }
+    ensures reads { R.reads keeper.new ≤ R.reads keeper.old + 27 }
 {
     let path = path_of(alloc, name, from, tree)?;
     let found = site_at(alloc, keeper, target, path)?;
@@ -148,7 +151,7 @@ fn site_of<R: Keeper>(
 
 /// Reads where an approval for a reference, the target that it goes from and the tree that it goes to is put among the
 /// attestations, whose reference stands at a target or is not there (zeros are nothing): whatever approval is put there
-/// afterwards, nothing more is read. `Unreadable` names the first object on the way to the approval's place that is no
+/// afterwards, nothing more is read. It makes at most 27 reads. `Unreadable` names the first object on the way to the approval's place that is no
 /// commit, tag or tree where one is wanted, that is no directory, or is one in the approval's place, or the old tree that
 /// would grow past 16 MiB.
 pub fn find_site<R: Keeper>(
@@ -164,6 +167,7 @@ pub fn find_site<R: Keeper>(
     ensures unreadable { IfErr result (λ e. IfUnreadable e (λ id. (r : Repository) → R.content keeper.new ≡ Some r → IsInWayOf r (target_in (option_copied attestations.entry)) name.now from.now tree.now id)) }
     ensures same { Undisturbed R.Keeper keeper.old keeper.new }
     ensures cause { HasCause attest_failed (R.faults keeper.old) (R.faults keeper.new) result }
+    ensures reads { R.reads keeper.new ≤ R.reads keeper.old + 27 }
 {
     let target = target_in(attestations);
     match site_of(alloc, keeper, &target, name, from, tree) {

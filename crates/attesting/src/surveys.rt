@@ -1,6 +1,6 @@
 //! The directories on the way to a file, as they are read of old trees.
 
-ghost use Rattle.std.specs.Prelude.{◌≡◌, ◌≤◌, ℕ, List, length, Err, IfOk, IfNone, IfSome};
+ghost use Rattle.std.specs.Prelude.{◌≡◌, ◌≤◌, ◌+◌, ℕ, List, length, Err, IfOk, IfNone, IfSome};
 ghost use Rattle.octets.specs.Causes.{HasCause};
 ghost use Rattle.git_object.specs.Names.{components};
 ghost use Rattle.git_object.specs.Trees.{AreWellFormed};
@@ -37,6 +37,7 @@ fn load_old<R: Keeper>(
     ensures formed { IfOk result (λ found. IfOk found AreWellFormed) }
     ensures same { Undisturbed R.Keeper keeper.old keeper.new }
     ensures cause { HasCause keeper_failed (R.faults keeper.old) (R.faults keeper.new) result }
+    ensures reads { R.reads keeper.new ≤ R.reads keeper.old + 1 }
 {
     let Some(id) = old else {
         return Ok(Ok(TreeEntries::new(alloc)));
@@ -48,7 +49,8 @@ fn load_old<R: Keeper>(
 }
 
 /// Reads the directories on the way to a file from an old tree, and adds them to the levels; or answers the first object
-/// on the way that is no tree or no directory. It is as many calls deep as the path has names.
+/// on the way that is no tree or no directory. It reads at most one tree for each name of the path, and is as many calls
+/// deep as the path has names.
 pub fn survey<R: Keeper>(
     alloc: Global,
     keeper: &mut R,
@@ -62,6 +64,7 @@ pub fn survey<R: Keeper>(
         → (blob : List ℕ) → put_file readings.trees blob (components path.now) old.now ≡ Err id)) }
     ensures same { Undisturbed R.Keeper keeper.old keeper.new }
     ensures cause { HasCause keeper_failed (R.faults keeper.old) (R.faults keeper.new) result }
+    ensures reads { R.reads keeper.new ≤ R.reads keeper.old + length (components path.now) }
 {
     let entries = match load_old(alloc, keeper, old)? {
         Ok(entries) => entries,

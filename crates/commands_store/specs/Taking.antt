@@ -3,9 +3,9 @@ use Rattle.std.specs.Prelude.{◌≡◌, ◌≢◌, ◌⊎◌, ℕ, List, Option
 use Rattle.git_object.specs.Repository.{Repository, empty_repository}
 use Rattle.keeper_api.specs.Undisturbed.{Undisturbed}
 use Rattle.keeper_api.specs.declared.keepers.Keeper as keeper
-use Rattle.clone_stream.specs.Deciding.{Decides}
+use Rattle.clone_stream.specs.Deciding.{Decides, FailsUnbroken}
 use Rattle.clone_stream.specs.Faults.{fault_number}
-use Rattle.clone_stream.specs.Taking.{MayTake, TakesInto}
+use Rattle.clone_stream.specs.Taking.{MayLack, MayTake, TakesInto}
 use Rattle.clone_stream.specs.declared.stream_faults.StreamFault.{StreamFault}
 use Rattle.clone_stream.specs.declared.stream_faults.StreamFault.TheVariants as stream
 use Rattle.endings.specs.declared.ending.Ending.{Ending}
@@ -54,6 +54,16 @@ module _ {R : Type 0} (keeper_of : keeper.Ghosts R) (left left_now : Option (Lis
     pub same : Undisturbed keeper_of old new
     pub empty : (r : Repository) → keeper_of.content new ≡ Some r → r ≡ empty_repository
 
+  -- the source failed, and what it gave until then is refused by nothing
+  pub record FailsReading : Type 0 where
+    pub same : Undisturbed keeper_of old new
+    pub unbroken : (input : List ℕ) → left ≡ Some input → FailsUnbroken input left_now
+
+  -- memory was wanting, and not where the bytes are refused without any
+  pub record LacksMemory : Type 0 where
+    pub same : Undisturbed keeper_of old new
+    pub lacks : (input : List ℕ) → left ≡ Some input → MayLack input left_now
+
   -- no stream was taken
   abbrev pub RefusesStream : ℕ → Type 0
   RefusesStream number = ((number ≡ 8) × FindsFull) ⊎ FindsBroken number
@@ -61,9 +71,9 @@ module _ {R : Type 0} (keeper_of : keeper.Ghosts R) (left left_now : Option (Lis
   -- what each refusal means: the store is as before but where it failed itself
   abbrev pub DeclinesTaking : TakeFault → Type 0
   DeclinesTaking (Stream number) = RefusesStream number
-  DeclinesTaking SourceFailed = Undisturbed keeper_of old new
+  DeclinesTaking SourceFailed = FailsReading
   DeclinesTaking KeeperFailed = MayTake keeper_of left left_now old new
-  DeclinesTaking Memory = Undisturbed keeper_of old new
+  DeclinesTaking Memory = LacksMemory
 
 -- the repository is open: where a stream was asked for, it was taken, and else nothing was read
 abbrev pub Opens : Bool → {R : Type 0} → keeper.Ghosts R → Option (List ℕ) → Option (List ℕ) → R → R → Type 0

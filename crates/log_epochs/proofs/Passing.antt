@@ -1,15 +1,15 @@
 -- What one more entry makes of what stands for a log.
-use Rattle.std.proofs.Common.{◌≡◌, ◌<◌, ◌≤◌, ◌+◌, ◌-◌, ◌++◌, ◌∙◌, ℕ, suc, zero, List, [], ◌∷◌, length, get_or, take, drop, Option, Some, None, Result, ap, refl, subst, sym, add-one, arith, append_assoc, take-append-drop}
+use Rattle.std.proofs.Common.{◌≡◌, ◌<◌, ◌≤◌, ◌+◌, ◌-◌, ◌++◌, ◌∙◌, ℕ, suc, zero, List, [], ◌∷◌, length, map, get_or, take, drop, Option, Some, None, Result, ap, refl, subst, sym, add-one, arith, append_assoc, take-append-drop}
 use Rattle.std.specs.List.{slice_get}
 use Rattle.std.specs.Prelude.{Bool, true, if◌then◌else◌}
 use Rattle.std.specs.Str.{bytes_eq}
-use Rattle.std.proofs.lemmas.List.{take_more}
+use Rattle.std.proofs.lemmas.List.{map-append, take_all, take_more}
 use Rattle.git_object.specs.Repository.{Repository}
 use Rattle.log_entries.specs.Entries.{is_of, policy_name, target_of}
 use Rattle.log_entries.specs.declared.entries.Entry.{Entry}
 use Rattle.log_entries.specs.declared.entries.EntryBody.{EntryBody}
 use Rattle.log_entries.specs.declared.entries.EntryBody.TheVariants.{Reference}
-use Rattle.rsl_chain.specs.Logs.{IsBrokenAs, IsLogOf, IsNoEntryAs, entry_at}
+use Rattle.rsl_chain.specs.Logs.{IsBrokenAs, IsLogOf, IsNamed, IsNoEntryAs, entry_at}
 use Rattle.rsl_chain.specs.declared.log_faults.LogFault.{LogFault}
 use Rattle.rsl_chain.specs.declared.log_faults.LogFault.TheVariants as log
 use Rattle.commands_history.proofs.Entered.{entries_from, never_misses}
@@ -21,7 +21,7 @@ use Rattle.policy_epochs.specs.declared.epochs.Epochs.{Epochs}
 use Rattle.policy_epochs.specs.declared.faults.PolicyFault.{PolicyFault}
 use Rattle.policy_epochs.specs.declared.policies.Policy.{Policy}
 use Rattle.policy_reading.specs.Policies.{policy_of}
-use Rattle.log_epochs.specs.InForce.{HasEpochs, MissesEntry, StandsAt, StandsFor, Takes, TakesAt, epoch_fault, found_in, found_of}
+use Rattle.log_epochs.specs.InForce.{HasEntries, HasEpochs, MissesEntry, StandsAt, StandsFor, Takes, TakesAt, epoch_fault, found_in, found_of}
 
 -- the next entry is for the policy
 pub next_is : (checked : Found) (n : ℕ) (found : Result Policy PolicyFault) → checked (n + 1) ≡ Some found → IsNext checked n (n + 1) found
@@ -49,11 +49,12 @@ takes_policy r entry found before after is stands = record { stands = λ checked
 
 -- the epochs stand for the first of the entries at these ids
 pub record StandsUpTo (r : Repository) (ids : List (List ℕ)) (i : ℕ) (epochs : Epochs) : Type 0 where
+  pub there : HasEntries r (take i ids)
   pub are : (entries : List Entry) → AreEntriesAt r ids entries → Stands epochs (found_of r entries) i
 
 -- none of them
 pub none_taken : (r : Repository) (ids : List (List ℕ)) (epochs : Epochs) → ((checked : Found) → Stands epochs checked 0) → StandsUpTo r ids 0 epochs
-none_taken r ids epochs start = record { are = λ entries are. start (found_of r entries) }
+none_taken r ids epochs start = record { there = record { entries = []; are = refl }; are = λ entries are. start (found_of r entries) }
 
 -- the entry at a place of these ids is that of the next number
 at_place : (r : Repository) (ids : List (List ℕ)) (entries : List Entry) (i : ℕ) (id : List ℕ) (entry : Entry) → i < length ids → id ≡ get_or ids i id
@@ -77,10 +78,19 @@ as_many r [] (e ∷ entries) are = let never : ⊥ = cc are in absurd never
 as_many r (x ∷ ids) [] are = let never : ⊥ = cc are in absurd never
 as_many r (x ∷ ids) (e ∷ entries) are = let rest : AreEntriesAt r ids entries = cc are in ap suc (as_many r ids entries rest)
 
+-- an entry stands at each id up to the next
+has_more : (r : Repository) (ids : List (List ℕ)) (i : ℕ) (id : List ℕ) (entry : Entry) → i < length ids → id ≡ get_or ids i id → entry_at r id ≡ Some entry → HasEntries r (take i ids) → HasEntries r (take (i + 1) ids)
+has_more r ids i id entry below at read has = record {
+  entries = has.entries ++ entry ∷ [];
+  are = ap (map (entry_at r)) (take_more ids i id below ∙ ap (λ (x : List ℕ). take i ids ++ x ∷ []) (sym at))
+      ∙ map-append (entry_at r) (take i ids) (id ∷ []) ∙ (λ j. has.are j ++ read j ∷ []) ∙ sym (map-append (λ (e : Entry). Some e) has.entries (entry ∷ []));
+}
+
 -- one entry more
 pub one_more : (r : Repository) (ids : List (List ℕ)) (i : ℕ) (id : List ℕ) (before after : Epochs) → i < length ids → id ≡ get_or ids i id
     → TakesAt r id before after → StandsUpTo r ids i before → StandsUpTo r ids (i + 1) after
 one_more r ids i id before after below at taken so = record {
+  there = has_more r ids i id taken.entry below at taken.read so.there;
   are = λ entries are.
       let takes = taken.takes in
       takes.stands (found_of r entries) i (found_next r ids entries i id taken.entry below at are taken.read) (so.are entries are);
@@ -89,6 +99,7 @@ one_more r ids i id before after below at taken so = record {
 -- all of them
 pub all_taken : (r : Repository) (ids : List (List ℕ)) (i : ℕ) (epochs : Epochs) → length ids ≤ i → i ≤ length ids → StandsUpTo r ids i epochs → StandsAt r ids epochs
 all_taken r ids i epochs past within so = record {
+  there = subst (HasEntries r) (take_all i ids past) so.there;
   for = λ entries are.
       let whole : i ≡ length entries = omega (arith, as_many r ids entries are) in
       record { is = subst (λ (n : ℕ). Stands epochs (found_of r entries) n) whole (so.are entries are) };
@@ -96,20 +107,20 @@ all_taken r ids i epochs past within so = record {
 
 -- ---- where no entry stands
 
-pub misses : (r : Repository) (ids : List (List ℕ)) (i : ℕ) (id : List ℕ) (fault : LogFault) → i < length ids → id ≡ get_or ids i id → IsNoEntryAs r id fault → MissesEntry r ids fault
-misses r ids i id (log.Broken named) below at none = (
-  take i ids,
-  id,
-  drop (i + 1) ids,
-  sym (take-append-drop (i + 1) ids) ∙ ap (λ (t : List (List ℕ)). t ++ drop (i + 1) ids) (take_more ids i id below ∙ ap (λ (x : List ℕ). take i ids ++ x ∷ []) (sym at)) ∙ append_assoc (take i ids) (id ∷ []) (drop (i + 1) ids),
-  none,
-)
-misses r ids i id log.Failed below at none = tt
-misses r ids i id log.Memory below at none = tt
+pub misses : (r : Repository) (ids : List (List ℕ)) (i : ℕ) (id : List ℕ) (epochs : Epochs) (fault : LogFault) → i < length ids → id ≡ get_or ids i id → StandsUpTo r ids i epochs → IsNoEntryAs r id fault → IsNamed id fault → MissesEntry r ids fault
+misses r ids i id epochs (log.Broken named) below at so none is = record {
+  front = take i ids;
+  rest = drop (i + 1) ids;
+  is = sym (take-append-drop (i + 1) ids) ∙ ap (λ (t : List (List ℕ)). t ++ drop (i + 1) ids) (take_more ids i id below ∙ ap (λ (x : List ℕ). take i ids ++ x ∷ []) (sym at ∙ sym is)) ∙ append_assoc (take i ids) (named ∷ []) (drop (i + 1) ids);
+  there = so.there;
+  none = ap (entry_at r) is ∙ none;
+}
+misses r ids i id epochs log.Failed below at so none is = tt
+misses r ids i id epochs log.Memory below at so none is = tt
 
 -- an id of a log never is
 pub unmissed : (r : Repository) (ids : List (List ℕ)) (fault : LogFault) → IsLogOf r ids → MissesEntry r ids fault → IsBrokenAs r fault
-unmissed r ids (log.Broken id) is missed = absurd (never_misses r ids missed.0 missed.1 missed.2 is missed.3 missed.4)
+unmissed r ids (log.Broken id) is missed = absurd (never_misses r ids missed.front id missed.rest is missed.is missed.none)
 unmissed r ids log.Failed is missed = tt
 unmissed r ids log.Memory is missed = tt
 

@@ -50,8 +50,14 @@ pub record TakesAt (r : Repository) (id : List ℕ) (before after : Epochs) : Ty
   pub read : entry_at r id ≡ Some entry
   pub takes : Takes r entry before after
 
--- the epochs stand for the entries at these ids
+-- an entry stands at each of these ids
+pub record HasEntries (r : Repository) (ids : List (List ℕ)) : Type 0 where
+  pub entries : List Entry
+  pub are : AreEntriesAt r ids entries
+
+-- the epochs stand for the entries at these ids, and one stands at each
 pub record StandsAt (r : Repository) (ids : List (List ℕ)) (epochs : Epochs) : Type 0 where
+  pub there : HasEntries r ids
   pub for : (entries : List Entry) → AreEntriesAt r ids entries → StandsFor r entries epochs
 
 -- the epochs stand for the entries of the repository's log
@@ -60,8 +66,16 @@ pub record HasEpochs (r : Repository) (epochs : Epochs) : Type 0 where
   pub history : IsHistory r entries
   pub stands : StandsFor r entries epochs
 
--- where a break is answered, no entry stands at one of the ids
+-- no entry stands at this one of the ids, and one stands at each before it
+pub record IsFirstMissing (r : Repository) (ids : List (List ℕ)) (id : List ℕ) : Type 0 where
+  pub front : List (List ℕ)
+  pub rest : List (List ℕ)
+  pub is : ids ≡ front ++ id ∷ rest
+  pub there : HasEntries r front
+  pub none : entry_at r id ≡ None
+
+-- a break that is answered names the first of the ids at which no entry stands
 abbrev pub MissesEntry : Repository → List (List ℕ) → LogFault → Type 0
-MissesEntry r ids (Broken id) = (front : List (List ℕ)) × (at : List ℕ) × (rest : List (List ℕ)) × (ids ≡ front ++ at ∷ rest) × (entry_at r at ≡ None)
+MissesEntry r ids (Broken id) = IsFirstMissing r ids id
 MissesEntry r ids Failed = Unit {0}
 MissesEntry r ids Memory = Unit {0}

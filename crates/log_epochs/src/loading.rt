@@ -8,10 +8,10 @@ ghost use Rattle.keeper_api.specs.Faults.{keeper_failed};
 ghost use Rattle.keeper_api.specs.Undisturbed.{Undisturbed};
 ghost use Rattle.log_entries.specs.Entries.{policy_name};
 ghost use Rattle.log_entries.specs.declared.entries.Entry.{Entry};
-ghost use Rattle.rsl_chain.specs.Logs.{IsBrokenAs, IsNoEntryAs, log_failed};
+ghost use Rattle.rsl_chain.specs.Logs.{IsBrokenAs, IsNamed, IsNoEntryAs, log_failed};
 ghost use Rattle.commands_history.specs.Histories.{AreEntriesAt};
 ghost use Rattle.policy_epochs.specs.Standing.{Found, Stands};
-ghost use Rattle.log_epochs.specs.InForce.{HasEpochs, MissesEntry, StandsAt, Takes, TakesAt, epoch_fault};
+ghost use Rattle.log_epochs.specs.InForce.{HasEntries, HasEpochs, MissesEntry, StandsAt, Takes, TakesAt, epoch_fault};
 
 use git_object::{ObjectId, RefName};
 use keeper_api::{Keeper, KeeperFault};
@@ -71,6 +71,7 @@ fn take_id<R: Keeper>(
     ensures anchor { epochs.new.anchor ≡ epochs.old.anchor }
     ensures takes { OnOk result ((r : Repository) → R.content keeper.new ≡ Some r → TakesAt r id.now epochs.old epochs.new) }
     ensures broken { IfErr result (λ fault. (r : Repository) → R.content keeper.new ≡ Some r → IsNoEntryAs r id.now fault) }
+    ensures named { IfErr result (IsNamed id.now) }
     ensures same { Undisturbed R.Keeper keeper.old keeper.new }
     ensures cause { HasCause log_failed (R.faults keeper.old) (R.faults keeper.new) result }
 {
@@ -109,7 +110,7 @@ fn take_ids<R: Keeper>(
 }
 
 /// The epochs of the entries at these ids, oldest first; where ids of keys are given, the first policy's root role must have
-/// exactly these. `Broken` comes only where no entry stands at one of the ids.
+/// exactly these. `Broken` comes exactly where no entry stands at one of the ids, and names the first such.
 pub fn epochs_at<R: Keeper>(
     alloc: Global,
     keeper: &mut R,
@@ -156,7 +157,7 @@ pub fn load_epochs<R: Keeper>(
 }
 
 /// What keeps an entry for the policy, of this target, from being an epoch behind the entries at these ids. `Broken` comes
-/// only where no entry stands at one of the ids.
+/// exactly where no entry stands at one of the ids, and names the first such.
 pub fn epoch_fault<R: Keeper>(
     alloc: Global,
     keeper: &mut R,
@@ -165,6 +166,7 @@ pub fn epoch_fault<R: Keeper>(
     target: &ObjectId,
 ) -> Result<Option<PolicyFault>, LogFault>
     ensures fault { IfOk result (λ fault. (r : Repository) → R.content keeper.new ≡ Some r → (entries : List Entry) → AreEntriesAt r ids.now entries → fault ≡ epoch_fault anchor r entries target.now) }
+    ensures there { OnOk result ((r : Repository) → R.content keeper.new ≡ Some r → HasEntries r ids.now) }
     ensures broken { IfErr result (λ fault. (r : Repository) → R.content keeper.new ≡ Some r → MissesEntry r ids.now fault) }
     ensures same { Undisturbed R.Keeper keeper.old keeper.new }
     ensures cause { HasCause log_failed (R.faults keeper.old) (R.faults keeper.new) result }

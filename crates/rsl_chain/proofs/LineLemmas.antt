@@ -37,10 +37,11 @@ pub record IsOn (body : List ℕ) (keep : Bool) (place : Place) (kept : Parts) (
   pub parts : Parts
   pub reads : reading body ≡ judge (lines rest).1 (lines rest).0 place parts n
   pub kept_are : keep ≡ true → kept ≡ parts
+  pub none_kept : keep ≡ false → kept ≡ no_parts
   pub few : n + length rest ≤ length body + 1
 
 pub on_start : (body : List ℕ) (keep : Bool) → IsOn body keep start no_parts body 1
-on_start body keep = record { parts = no_parts; reads = refl; kept_are = λ _. refl; few = omega arith }
+on_start body keep = record { parts = no_parts; reads = refl; kept_are = λ _. refl; none_kept = λ _. refl; few = omega arith }
 
 on_line : (line more : List ℕ) (place : Place) (parts : Parts) (n : ℕ) (rest : List ℕ) → rest ≡ line ++ 10 ∷ more → has_byte 10 line ≡ false
     → judge (lines rest).1 (lines rest).0 place parts n ≡ goes_on (step place line) n (λ s. judge (lines more).1 (lines more).0 s.place (put s.part line parts) (n + 1))
@@ -50,12 +51,13 @@ on_line line more place parts n rest is none =
 
 pub on_next : (body : List ℕ) (keep : Bool) (place : Place) (kept : Parts) (rest : List ℕ) (n : ℕ) (line more : List ℕ) (next : Step) (now : Parts)
     → IsOn body keep place kept rest n → rest ≡ line ++ 10 ∷ more → has_byte 10 line ≡ false → step place line ≡ Some next
-    → (keep ≡ true → now ≡ put next.part line kept) → IsOn body keep next.place now more (n + 1)
-on_next body keep place kept rest n line more next now on is none steps puts = record {
+    → (keep ≡ true → now ≡ put next.part line kept) → (keep ≡ false → now ≡ kept) → IsOn body keep next.place now more (n + 1)
+on_next body keep place kept rest n line more next now on is none steps puts spares = record {
   parts = put next.part line on.parts;
   reads = on.reads ∙ on_line line more place on.parts n rest is none
       ∙ ap (λ (o : Option Step). goes_on o n (λ s. judge (lines more).1 (lines more).0 s.place (put s.part line on.parts) (n + 1))) steps;
   kept_are = λ keeps. puts keeps ∙ ap (put next.part line) (on.kept_are keeps);
+  none_kept = λ no. spares no ∙ on.none_kept no;
   few = few_more on.few (ap length is);
 }
   where
@@ -76,7 +78,7 @@ on_tail place parts n rest b none test =
 pub on_end : (body : List ℕ) (keep : Bool) (place : Place) (kept : Parts) (rest : List ℕ) (n : ℕ)
     → IsOn body keep place kept rest n → has_byte 10 rest ≡ false → (may_end place.want && length rest == 0) ≡ true → IsReadTo (reading body) keep place kept
 on_end body keep place kept rest n on none test =
-    record { parts = on.parts; read_is = on.reads ∙ on_tail place on.parts n rest true none test; kept_are = on.kept_are }
+    record { parts = on.parts; read_is = on.reads ∙ on_tail place on.parts n rest true none test; kept_are = on.kept_are; none_kept = on.none_kept }
 
 pub on_short : (body : List ℕ) (keep : Bool) (place : Place) (kept : Parts) (rest : List ℕ) (n : ℕ)
     → IsOn body keep place kept rest n → has_byte 10 rest ≡ false → (may_end place.want && length rest == 0) ≡ false → reading body ≡ Err n

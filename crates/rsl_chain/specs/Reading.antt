@@ -105,8 +105,9 @@ abbrev pub IsBadAs : {A : Type 0} → Result A ℕ → EntryFault → Type 0
 IsBadAs read (BadEntry line) = read ≡ Err line
 IsBadAs read Memory = Unit {0}
 
--- the body was read to this place, and where the parts are kept they are these
+-- the body was read to this place, and where the parts are kept they are these, and else none
 pub record IsReadTo (read : Reading) (keep : Bool) (place : Place) (kept : Parts) : Type 0 where
   pub parts : Parts
   pub read_is : read ≡ Ok (place, parts)
   pub kept_are : keep ≡ true → kept ≡ parts
+  pub none_kept : keep ≡ false → kept ≡ no_parts

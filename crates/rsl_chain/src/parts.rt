@@ -1,6 +1,6 @@
 //! The parts of an entry, as they come line by line.
 
-ghost use Rattle.std.specs.Prelude.{◌≡◌, true, OnOk};
+ghost use Rattle.std.specs.Prelude.{◌≡◌, true, false, OnOk};
 ghost use Rattle.rsl_chain.specs.Reading;
 
 use crate::places::Part;
@@ -74,7 +74,8 @@ fn keep_part(parts: &mut Parts, part: Part) -> Result<(), Memory>
 
 /// Keeps a line and what it says, where the parts are kept at all.
 pub(crate) fn put(parts: &mut Parts, keep: bool, part: Part, line: &[u8]) -> Result<(), Memory>
-    ensures { keep ≡ true → OnOk result (parts.new ≡ Reading.put part line.now parts.old) }
+    ensures kept { keep ≡ true → OnOk result (parts.new ≡ Reading.put part line.now parts.old) }
+    ensures spared { keep ≡ false → parts.new ≡ parts.old }
 {
     if !keep {
         return Ok(());

@@ -1,7 +1,7 @@
 use Rattle.std.proofs.Common.{◌<◌, ◌∷◌, arith, length, length-append, rules, sym, ap, ◌∙◌}
 use Rattle.std.specs.Prelude.{Ok}
 use Rattle.git_object.specs.Names.{components}
-use Rattle.tree_paths.proofs.PathNames.{one_more_part}
+use Rattle.tree_paths.proofs.PathNames.{one_more_part, one_part}
 use Rattle.attesting.specs.Files.{put_file}
 use Rattle.attesting.proofs.Puts.{below_refused, old_refused}
 use Rattle.attesting.proofs.Surveyed.{formed_in, if_more, if_refused, last_level}
@@ -44,3 +44,31 @@ returns-clause-in_way g t c =
     (formed_in c.in_ok-entries.field-0 c.in-Ok.entries c.in-Ok.is c.in_ok-entries.ensures.formed) (λ readings told. sym (c.in_ok-entries.ensures.found readings told) ∙ c.in-Ok.is)
     c.in-Some.name.now c.in-Some.rest.now c.in-Some.ensures.found c.in-Some.ensures.first c.as_slice.result.now c.as_slice.ensures c.in-Ok-dir_named.dir c.in-Ok-dir_named.ensures.found
     c.in_ok-in_way.in_way c.in_ok-in_way.ensures.in_way
+
+pub returns-in_err-entries-clause-reads : goal.returns-in_err-entries-clause-reads
+returns-in_err-entries-clause-reads g t c = omega (arith, one_part c.args.path.now, c.load_old.ensures.reads)
+
+pub returns-in-Err-clause-reads : goal.returns-in-Err-clause-reads
+returns-in-Err-clause-reads g t c = omega (arith, one_part c.args.path.now, c.load_old.ensures.reads)
+
+pub returns-in_err-push-clause-reads : goal.returns-in_err-push-clause-reads
+returns-in_err-push-clause-reads g t c = omega (arith, one_part c.args.path.now, c.load_old.ensures.reads)
+
+pub returns-in_default-clause-reads : goal.returns-in_default-clause-reads
+returns-in_default-clause-reads g t c = omega (arith, one_part c.args.path.now, c.load_old.ensures.reads)
+
+pub returns-in-Err-dir_named-clause-reads : goal.returns-in-Err-dir_named-clause-reads
+returns-in-Err-dir_named-clause-reads g t c = omega (arith, one_part c.args.path.now, c.load_old.ensures.reads)
+
+pub returns-in_err-push-2-clause-reads : goal.returns-in_err-push-2-clause-reads
+returns-in_err-push-2-clause-reads g t c = omega (arith, one_part c.args.path.now, c.load_old.ensures.reads)
+
+pub returns-in_err-in_way-clause-reads : goal.returns-in_err-in_way-clause-reads
+returns-in_err-in_way-clause-reads g t c =
+    let more = one_more_part c.args.path.now c.in-Some.name.now c.in-Some.rest.now c.in-Some.ensures.found c.in-Some.ensures.first in
+    omega (arith, more, c.load_old.ensures.reads, c.survey.ensures.reads)
+
+pub returns-clause-reads : goal.returns-clause-reads
+returns-clause-reads g t c =
+    let more = one_more_part c.args.path.now c.in-Some.name.now c.in-Some.rest.now c.in-Some.ensures.found c.in-Some.ensures.first in
+    omega (arith, more, c.load_old.ensures.reads, c.survey.ensures.reads)

@@ -12,3 +12,9 @@ pub returns-in-Ok-Refused-clause-fault : goal.returns-in-Ok-Refused-clause-fault
 returns-in-Ok-Refused-clause-fault g c = λ r told entries are.
     let stands = c.in-Ok.ensures.stands r (c.in-Ok-Refused.ensures.same.content r told) in
     fault_behind c.args.anchor r entries c.in-Ok.epochs c.args.target.now (Some c.in-Ok-Refused.fault) c.in-Ok.ensures.anchor (stands.for entries are) (sym c.in-Ok-Refused.field-0-is ∙ c.in-Ok-Refused.ensures.verdict r told)
+
+pub returns-in-Ok-Opened-clause-there : goal.returns-in-Ok-Opened-clause-there
+returns-in-Ok-Opened-clause-there g c = λ r told. let stands = c.in-Ok.ensures.stands r (c.in-Ok-Opened.ensures.same.content r told) in stands.there
+
+pub returns-in-Ok-Refused-clause-there : goal.returns-in-Ok-Refused-clause-there
+returns-in-Ok-Refused-clause-there g c = λ r told. let stands = c.in-Ok.ensures.stands r (c.in-Ok-Refused.ensures.same.content r told) in stands.there

@@ -11,7 +11,9 @@ ids-init g c = record {
 }
 
 pub returns-in-Err-clause-broken : goal.returns-in-Err-clause-broken
-returns-in-Err-clause-broken g c = λ r told. misses r c.args.ids.now c.ids.id-index c.id-item.result c.in-Err.fault c.ids-test.true c.id-item.is (c.in-Err.ensures.broken r told)
+returns-in-Err-clause-broken g c = λ r told.
+    misses r c.args.ids.now c.ids.id-index c.id-item.result c.ids.epochs c.in-Err.fault c.ids-test.true c.id-item.is (c.ids.invariant.stands r (c.in-Err.ensures.same.content r told)) (c.in-Err.ensures.broken r told)
+    c.in-Err.ensures.named
 
 pub ids-preserved : goal.ids-preserved
 ids-preserved g c = record {
