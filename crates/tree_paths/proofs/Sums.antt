@@ -1,10 +1,10 @@
 -- What steps add, put together.
-use Rattle.std.proofs.Common.{◌≡◌, ℕ, ◌≤◌, ◌+◌, ◌-◌, ◌==◌, min, Bool, true, false, cond, List, [], ◌∷◌, ◌++◌, length, Option, Some, None, refl, sym, ap, subst, ◌∙◌, arith}
+use Rattle.std.proofs.Common.{◌≡◌, ℕ, ◌≤◌, ◌+◌, ◌-◌, ◌==◌, min, Bool, true, false, cond, List, [], ◌∷◌, length, Some, sym, ap, ◌∙◌, arith}
 use Rattle.std.proofs.lemmas.Bool.Decides.{nat_tests}
 use Rattle.git_object.specs.declared.trees.TreeEntry.{TreeEntry}
 use Rattle.tree_paths.specs.Adding.{Adds, AddsBefore, IsSum, plus}
 use Rattle.tree_paths.specs.Readings.{Trees}
-use Rattle.tree_paths.specs.Walks.{Leaf, Step, below, entry_steps, goes_on, has_room, is_dir, judge, leaf, no_counts, one_dir, one_path, opened, place_of, steps}
+use Rattle.tree_paths.specs.Walks.{Step, below, entry_steps, goes_on, has_room, is_dir, judge, no_counts, one_dir, one_path, opened, place_of, steps}
 use Rattle.tree_paths.specs.declared.counts.Counts.{Counts}
 use Rattle.tree_paths.specs.declared.counts.Walked.{Walked}
 use Rattle.tree_paths.specs.declared.counts.Walked.TheVariants.{Broken, Counted}

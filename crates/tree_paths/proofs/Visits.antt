@@ -1,8 +1,7 @@
 -- How many trees the steps of a tree and of its entries visit.
-use Rattle.std.proofs.Common.{◌≡◌, ℕ, ◌≤◌, ◌-◌, ◌+◌, List, [], ◌∷◌, ◌++◌, Bool, Option, Some, None, refl, sym, ap, ◌∙◌, arith}
+use Rattle.std.proofs.Common.{◌≡◌, ℕ, ◌≤◌, ◌-◌, ◌+◌, List, [], ◌∷◌, ◌++◌, Bool, Option, Some, ap, ◌∙◌, arith}
 use Rattle.git_object.specs.declared.trees.TreeEntry.{TreeEntry}
 use Rattle.tree_paths.specs.Listings.{visits}
-use Rattle.tree_paths.specs.Pairings.{visits_in}
 use Rattle.tree_paths.specs.Readings.{Trees}
 use Rattle.tree_paths.specs.Walks.{Step, below, listed, opened, steps}
 use Rattle.tree_paths.proofs.Judging.{is_opened, piece_of, steps_at, steps_first}

@@ -1,5 +1,5 @@
 -- What steps add to the counts of a walk, whatever it counted before.
-use Rattle.std.specs.Prelude.{◌≡◌, ◌≤◌, ◌+◌, ℕ, List}
+use Rattle.std.specs.Prelude.{◌≡◌, ◌≤◌, ◌+◌, List}
 use Rattle.tree_paths.specs.Readings.{Trees}
 use Rattle.tree_paths.specs.Walks.{Step, judge}
 use Rattle.tree_paths.specs.declared.counts.Counts.{Counts}

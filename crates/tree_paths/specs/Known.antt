@@ -1,6 +1,7 @@
 -- What is known of trees: what the walk of each adds, wherever the limits have room for it.
-use Rattle.std.specs.Prelude.{◌≡◌, ◌≤◌, ◌+◌, ℕ, List, Some, length, min}
+use Rattle.std.specs.Prelude.{◌≡◌, ◌≤◌, ℕ, List, Some, IsSome, length, min}
 use Rattle.std.specs.BTreeMap as tree
+use Rattle.std.specs.BTreeMap.{btree_map_len}
 use Rattle.octets.specs.BytesMap.{by_bytes}
 use Rattle.git_object.specs.Repository.{Repository}
 use Rattle.tree_paths.specs.Adding.{Adds}
@@ -20,3 +21,22 @@ AreKnown trees known = (id : List ℕ) (row : KnownTree) → tree.get by_bytes k
 -- what is known is so in this repository
 abbrev pub AreKnownIn : Repository → KnownTrees → Type 0
 AreKnownIn r known = (readings : Readings) → AreReadings r readings → AreKnown readings.trees known
+
+-- something is kept of at most 65,536 trees
+abbrev pub AreFewKnown : KnownTrees → Type 0
+AreFewKnown known = btree_map_len known.rows ≤ 65536
+
+-- nothing is let go before more than 4,096 trees are known
+abbrev pub HasRoom : KnownTrees → Type 0
+HasRoom known = 4096 ≤ known.most
+
+-- each tree of which something was kept is one of which something is kept
+abbrev pub StayKnown : KnownTrees → KnownTrees → Type 0
+StayKnown was now = (id : List ℕ) → IsSome (tree.get by_bytes was.rows id) → IsSome (tree.get by_bytes now.rows id)
+
+-- what the tree of this id adds is kept, with so many levels left, at a place of so many bytes
+pub record IsAt (known : KnownTrees) (id : List ℕ) (left len : ℕ) : Type 0 where
+  pub row : KnownTree
+  pub there : tree.get by_bytes known.rows id ≡ Some row
+  pub left_is : row.left ≡ left
+  pub len_is : row.len ≡ len

@@ -1,12 +1,13 @@
 //! What is known of the trees of a repository.
 
-ghost use Rattle.std.specs.Prelude.{◌≡◌, ◌≤◌, ◌*◌, ℕ, List, Some, if◌then◌else◌, length, min, IfSome, OnErr, OnOk};
+ghost use Rattle.std.specs.Prelude.{◌≡◌, ◌≤◌, ◌+◌, ◌*◌, ℕ, List, None, Some, if◌then◌else◌, length, min, IfSome, OnErr, OnOk};
 ghost use Rattle.std.specs.BTreeMap as tree;
+ghost use Rattle.std.specs.BTreeMap.{btree_map_len};
 ghost use Rattle.std.specs.Ordering.{is_eq};
 ghost use Rattle.octets.specs.BytesMap.{by_bytes};
 ghost use Rattle.git_object.specs.Repository.{Repository};
 ghost use Rattle.tree_paths.specs.Adding.{Adds, IsSum};
-ghost use Rattle.tree_paths.specs.Known.{AreKnown, AreKnownIn};
+ghost use Rattle.tree_paths.specs.Known.{AreFewKnown, AreKnown, AreKnownIn, HasRoom, IsAt, StayKnown};
 ghost use Rattle.tree_paths.specs.Pairings.{AreFew, IsPaired};
 ghost use Rattle.tree_paths.specs.Readings.{Trees};
 ghost use Rattle.tree_paths.specs.Walks.{steps};
@@ -59,6 +60,7 @@ fn add_row(
     row: KnownTree,
 ) -> Result<(), Memory>
     ensures put { OnOk result ((q : List ℕ) → tree.get by_bytes rows.new q ≡ (if is_eq (by_bytes id.now q) then Some row else tree.get by_bytes rows.old q)) }
+    ensures one { OnOk result (btree_map_len rows.new ≤ btree_map_len rows.old + 1) }
     ensures same { OnErr result (rows.new.entries ≡ rows.old.entries) }
 {
     let _had = rows.insert(*id, row)?;
@@ -68,7 +70,9 @@ fn add_row(
 impl KnownTrees {
     /// Nothing is known. It takes no memory.
     pub fn new(alloc: Global) -> KnownTrees
-        ensures { (r : Repository) → AreKnownIn r result }
+        ensures known { (r : Repository) → AreKnownIn r result }
+        ensures few { AreFewKnown result }
+        ensures room { HasRoom result }
     {
         KnownTrees {
             rows: BTreeMap::new(alloc),
@@ -78,7 +82,8 @@ impl KnownTrees {
 
     /// What is known of a tree with so many levels left at a place of so many bytes.
     pub(crate) fn adds_at(&self, id: &ObjectId, left: u32, len: usize) -> Option<Counts>
-        ensures { IfSome result (λ adds. (trees : Trees) (front : List ℕ) → AreKnown trees self.now → len ≡ min (length front) 8192 → Adds trees (steps trees left front id.now) adds) }
+        ensures adds { IfSome result (λ adds. (trees : Trees) (front : List ℕ) → AreKnown trees self.now → len ≡ min (length front) 8192 → Adds trees (steps trees left front id.now) adds) }
+        ensures none { result ≡ None → IsAt self.now id.now left len → ⊥ }
     {
         let row = self.rows.get(id)?;
         if row.left != left || row.len != len {
@@ -109,7 +114,10 @@ impl KnownTrees {
 
     /// Keeps what a tree adds, unless too many are kept already or there is no memory for it.
     pub(crate) fn keep(&mut self, id: &ObjectId, left: u32, len: usize, adds: Counts)
-        ensures { (trees : Trees) → AreKnown trees self.old → ((front : List ℕ) → len ≡ min (length front) 8192 → Adds trees (steps trees left front id.now) adds) → AreKnown trees self.new }
+        ensures known { (trees : Trees) → AreKnown trees self.old → ((front : List ℕ) → len ≡ min (length front) 8192 → Adds trees (steps trees left front id.now) adds) → AreKnown trees self.new }
+        ensures few { AreFewKnown self.old → AreFewKnown self.new }
+        ensures room { HasRoom self.old → HasRoom self.new }
+        ensures stay { StayKnown self.old self.new }
     {
         if self.rows.len() < MOST_TREES {
             match add_row(&mut self.rows, id, KnownTree { left, len, adds }) {
@@ -121,7 +129,10 @@ impl KnownTrees {
 
     /// Lets all go where it is more than what is of use.
     pub(crate) fn make_room(&mut self)
-        ensures { (trees : Trees) → AreKnown trees self.old → AreKnown trees self.new }
+        ensures known { (trees : Trees) → AreKnown trees self.old → AreKnown trees self.new }
+        ensures few { AreFewKnown self.old → AreFewKnown self.new }
+        ensures room { HasRoom self.old → HasRoom self.new }
+        ensures same { btree_map_len self.old.rows ≤ self.old.most → self.new ≡ self.old }
     {
         if self.rows.len() > self.most {
             self.rows.clear();
@@ -130,7 +141,10 @@ impl KnownTrees {
 
     /// Makes room for the trees of a state that has so many. Where they are more than are ever kept, nothing is let go.
     pub(crate) fn set_room(&mut self, dirs: u32)
-        ensures { (trees : Trees) → AreKnown trees self.old → AreKnown trees self.new }
+        ensures known { (trees : Trees) → AreKnown trees self.old → AreKnown trees self.new }
+        ensures few { AreFewKnown self.old → AreFewKnown self.new }
+        ensures room { HasRoom self.new }
+        ensures stay { StayKnown self.old self.new }
     {
         let dirs = dirs as usize;
         self.most = if dirs > MOST_TREES {

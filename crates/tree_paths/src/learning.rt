@@ -1,15 +1,18 @@
 //! Learning what the walks of trees add.
 
 ghost use Rattle.std.specs.Prelude.{◌≡◌, ◌≤◌, ◌+◌, ◌-◌, ℕ, List, Some, length, min, IfOk, IfSome};
+ghost use Rattle.std.specs.BTreeMap.{btree_map_len};
 ghost use Rattle.octets.specs.Causes.{HasCause};
 ghost use Rattle.git_object.specs.Repository.{Repository};
 ghost use Rattle.keeper_api.specs.Faults.{keeper_failed};
 ghost use Rattle.keeper_api.specs.Undisturbed.{Undisturbed};
 ghost use Rattle.tree_paths.specs.Adding.{Adds};
-ghost use Rattle.tree_paths.specs.Known.{AreKnownIn};
+ghost use Rattle.tree_paths.specs.Known.{AreFewKnown, AreKnownIn, HasRoom, IsAt, StayKnown};
 ghost use Rattle.tree_paths.specs.Listings.{visits, walk_visits};
 ghost use Rattle.tree_paths.specs.Readings.{Readings, Told};
+ghost use Rattle.tree_paths.specs.States.{root_of};
 ghost use Rattle.tree_paths.specs.Walks.{entry_steps, is_dir, steps};
+ghost use Rattle.tree_paths.specs.declared.heads.Peeled.TheVariants as peeled;
 
 use crate::counts::{
     Counts, MOST_LEVELS, add_counts, count_dir, is_dir, longer, no_counts, one_path,
@@ -41,6 +44,9 @@ fn learn_entry<R: Keeper>(
     ensures visited { (readings : Readings) (holder front : List ℕ) → Told (R.content keeper.new) readings
         → R.reads keeper.new ≤ R.reads keeper.old + visits (entry_steps (steps readings.trees (left - 1)) holder front entry.now (is_dir entry.now.mode)) }
     ensures known { (r : Repository) → R.content keeper.new ≡ Some r → AreKnownIn r known.new }
+    ensures few { AreFewKnown known.old → AreFewKnown known.new }
+    ensures room { HasRoom known.old → HasRoom known.new }
+    ensures stay { StayKnown known.old known.new }
     ensures same { Undisturbed R.Keeper keeper.old keeper.new }
     ensures cause { HasCause keeper_failed (R.faults keeper.old) (R.faults keeper.new) result }
 {
@@ -71,6 +77,10 @@ fn learn_tree<R: Keeper>(
         → Adds readings.trees (steps readings.trees left front id.now) adds)) }
     ensures visited { (readings : Readings) (front : List ℕ) → Told (R.content keeper.new) readings → R.reads keeper.new ≤ R.reads keeper.old + visits (steps readings.trees left front id.now) }
     ensures known { (r : Repository) → R.content keeper.new ≡ Some r → AreKnownIn r known.new }
+    ensures few { AreFewKnown known.old → AreFewKnown known.new }
+    ensures room { HasRoom known.old → HasRoom known.new }
+    ensures stay { StayKnown known.old known.new }
+    ensures spared { IsAt known.old id.now left len → R.reads keeper.new ≡ R.reads keeper.old }
     ensures same { Undisturbed R.Keeper keeper.old keeper.new }
     ensures cause { HasCause keeper_failed (R.faults keeper.old) (R.faults keeper.new) result }
 {
@@ -97,8 +107,8 @@ fn learn_tree<R: Keeper>(
 }
 
 /// Learns what the tree of a target and those below it add, for comparisons of the target with others. Trees that are
-/// known already are not read, and of the others no more than the target's walk visits, beside at most 9 reads. What is
-/// kept of trees that are of no use any more is let go where it is much.
+/// known already are not read, and of the others no more than the target's walk visits, beside at most 9 reads. Before that
+/// all is let go that was known, where that is much, and never while at most 4,096 trees are known.
 pub fn learn<R: Keeper>(
     alloc: Global,
     keeper: &mut R,
@@ -107,6 +117,11 @@ pub fn learn<R: Keeper>(
 ) -> Result<(), KeeperFault>
     requires known { (r : Repository) → R.content keeper.old ≡ Some r → AreKnownIn r known.old }
     ensures known { (r : Repository) → R.content keeper.new ≡ Some r → AreKnownIn r known.new }
+    ensures few { AreFewKnown known.old → AreFewKnown known.new }
+    ensures room { HasRoom known.old → HasRoom known.new }
+    ensures stay { btree_map_len known.old.rows ≤ known.old.most → StayKnown known.old known.new }
+    ensures spared { (readings : Readings) (commit tree : List ℕ) → Told (R.content keeper.new) readings → root_of readings.heads target.now ≡ peeled.At commit tree
+        → btree_map_len known.old.rows ≤ known.old.most → IsAt known.old tree 32 0 → R.reads keeper.new ≤ R.reads keeper.old + 9 }
     ensures visited { (readings : Readings) → Told (R.content keeper.new) readings → R.reads keeper.new ≤ R.reads keeper.old + 9 + walk_visits readings target.now }
     ensures same { Undisturbed R.Keeper keeper.old keeper.new }
     ensures cause { HasCause keeper_failed (R.faults keeper.old) (R.faults keeper.new) result }

@@ -1,4 +1,4 @@
-use Rattle.std.proofs.Common.{rules, ap, ◌≡◌, ◌∙◌, ◌≤◌, ◌==◌, ◌+◌, ◌-◌, ℕ, List, arith, length, min, sym}
+use Rattle.std.proofs.Common.{rules, ap, ◌≡◌, ◌∙◌, ◌≤◌, ◌==◌, ◌-◌, ℕ, List, arith, length, min, sym}
 use Rattle.git_object.specs.declared.trees.TreeEntry.{TreeEntry}
 use Rattle.tree_paths.specs.Adding.{Adds}
 use Rattle.tree_paths.specs.Listings.{visits}
@@ -25,6 +25,9 @@ learn_tree-entries-init g t c =
           let rest = ap (λ (es : List TreeEntry). visits (below (steps readings.trees (c.args.left - 1)) c.args.id.now front es)) c.as_slice-rest.ensures in
           omega (arith, whole, rest, c.in_ok-entries.ensures.reads);
       same = search rules;
+      few = λ few. few;
+      room = λ room. room;
+      stay = λ id there. there;
       quiet = search rules;
     }
 
@@ -46,12 +49,15 @@ learn_tree-entries-preserved g t c =
           let parts = visits_entry (steps readings.trees (c.args.left - 1)) c.args.id.now front c.entries.rest.now c.in-Some-split_first.more.now entry c.in-Some-split_first.ensures.cases.0 in
           omega (arith, before, one, parts);
       same = search rules;
+      few = λ few. c.in_ok-next.ensures.few (c.entries.invariant.few few);
+      room = λ room. c.in_ok-next.ensures.room (c.entries.invariant.room room);
+      stay = λ id there. c.in_ok-next.ensures.stay id (c.entries.invariant.stay id there);
       quiet = search rules;
     }
 
 pub learn_tree-returns-clause-known : goal.learn_tree-returns-clause-known
 learn_tree-returns-clause-known g t c = λ r told readings are.
-    c.keep.ensures readings.trees (c.entries.invariant.known r told readings are)
+    c.keep.ensures.known readings.trees (c.entries.invariant.known r told readings are)
     (λ front is. adds_done readings.trees (steps readings.trees c.args.left front c.args.id.now) (steps readings.trees (c.args.left - 1)) c.args.id.now front c.entries.rest.now c.entries.adds
     (c.entries.invariant.adds readings front (record { repository = r; told = told; are = are }) is) c.in_default-split_first.ensures.cases)
 

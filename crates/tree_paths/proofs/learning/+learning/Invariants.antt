@@ -2,7 +2,7 @@ use Rattle.std.proofs.Common.{◌≡◌, ◌≤◌, ◌+◌, ◌-◌, ◌*◌, �
 use Rattle.git_object.specs.Repository.{Repository}
 use Rattle.keeper_api.specs.Undisturbed.{Undisturbed}
 use Rattle.tree_paths.specs.Adding.{AddsBefore}
-use Rattle.tree_paths.specs.Known.{AreKnownIn}
+use Rattle.tree_paths.specs.Known.{AreFewKnown, AreKnownIn, HasRoom, StayKnown}
 use Rattle.tree_paths.specs.Listings.{visits}
 use Rattle.tree_paths.specs.Readings.{Readings, Told}
 use Rattle.tree_paths.specs.Walks.{below, steps}
@@ -22,6 +22,9 @@ invariant-learn_tree-entries g l = record {
   visited : (readings : Readings) (front : List ℕ) → Told (g.R.Keeper.content l.keeper) readings
       → g.R.Keeper.reads l.keeper + visits (below (steps readings.trees (l.left - 1)) l.id front l.rest) ≤ g.R.Keeper.reads l.fn.keeper + visits (steps readings.trees l.left front l.id);
   same : Undisturbed g.R.Keeper l.fn.keeper l.keeper;
+  few : AreFewKnown l.fn.known → AreFewKnown l.known;
+  room : HasRoom l.fn.known → HasRoom l.known;
+  stay : StayKnown l.fn.known l.known;
   quiet : g.R.Keeper.faults l.keeper ≡ g.R.Keeper.faults l.fn.keeper;
 }
 

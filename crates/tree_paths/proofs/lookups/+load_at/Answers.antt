@@ -1,6 +1,4 @@
-use Rattle.std.proofs.Common.{sym, subst, ◌∙◌, ◌≤◌, ◌+◌, ◌≡◌, length, Option, Some, None, arith}
-use Rattle.git_object.specs.Names.{components}
-use Rattle.tree_paths.specs.States.{PathValue}
+use Rattle.std.proofs.Common.{sym, ◌∙◌, arith}
 use Rattle.tree_paths.proofs.ObjectsRead.{kept_told}
 use Rattle.tree_paths.proofs.PathNames.{at_last, at_next, at_none, at_other, one_more_part, one_part}
 use Rattle.tree_paths.proofs.lookups.+load_at.Goals as goal
