@@ -1,6 +1,6 @@
 //! The command `key-gen`.
 
-ghost use Rattle.std.specs.Prelude.{◌≡◌, ◌≤◌, ◌+◌, [], IfErr, None, OnOk, Some};
+ghost use Rattle.std.specs.Prelude.{◌≡◌, ◌≤◌, ◌+◌, [], IfErr, None, OnErr, OnOk, Some};
 ghost use Rattle.std.specs.Vec.{vec_capacity};
 ghost use Rattle.octets.specs.Causes.{HasCause, each};
 ghost use Rattle.octets.specs.Content.{with_front};
@@ -9,7 +9,7 @@ ghost use Rattle.lms_keys.specs.LmsType.{height};
 ghost use Rattle.hss_keys.specs.Secret.{public_bytes};
 ghost use Rattle.leaf_journal.specs.Faults.{create_failed};
 ghost use Rattle.commands_keys.specs.KeyLines.{key_line};
-ghost use Rattle.commands_keys.specs.MakingKeys.{IsFiled, IsLow, KeyGenEnds, WhyUnmade, key_gen_ending, secret_of};
+ghost use Rattle.commands_keys.specs.MakingKeys.{DrewPart, IsFiled, IsLow, KeyGenEnds, WhyUnmade, key_gen_ending, secret_of};
 
 use crate::key_lines::{KEY_LINE, write_key_line};
 use edge_disk::{Disk, Entropy};
@@ -52,6 +52,7 @@ pub fn key_gen_ending(outcome: &Result<(), KeyGenFault>) -> Ending
 // Draws an identifier, and then a seed.
 fn draw<E: Entropy>(entropy: &mut E, i: &mut [u8; 16], seed: &mut [u8; 32]) -> Result<(), Failed>
     ensures drawn { OnOk result (E.left entropy.old ≡ with_front i.new (with_front seed.new (E.left entropy.new))) }
+    ensures part { OnErr result (DrewPart (E.left entropy.old) (E.left entropy.new)) }
     ensures cause { HasCause each (E.faults entropy.old) (E.faults entropy.new) result }
 {
     entropy.fill(i)?;
@@ -74,7 +75,7 @@ fn make_one<D: Disk>(
     requires room { 190 ≤ vec_capacity line.old }
     ensures filed { OnOk result (IsFiled D.Disk disk.old disk.new (secret_of lms ots None i seed)) }
     ensures told { OnOk result (line.new.items ≡ key_line (public_bytes (secret_of lms ots None i seed))) }
-    ensures unmade { IfErr result (WhyUnmade D.Disk disk.old disk.new) }
+    ensures unmade { IfErr result (WhyUnmade D.Disk disk.old disk.new (secret_of lms ots None i seed)) }
     ensures cause { HasCause create_failed (D.faults disk.old) (D.faults disk.new) result }
 {
     match create(alloc, disk, lms, ots, i, seed) {
@@ -102,7 +103,7 @@ fn make_two<D: Disk>(
     requires room { 190 ≤ vec_capacity line.old }
     ensures filed { OnOk result (IsFiled D.Disk disk.old disk.new (secret_of lms ots (Some bottom) i seed)) }
     ensures told { OnOk result (line.new.items ≡ key_line (public_bytes (secret_of lms ots (Some bottom) i seed))) }
-    ensures unmade { IfErr result (WhyUnmade D.Disk disk.old disk.new) }
+    ensures unmade { IfErr result (WhyUnmade D.Disk disk.old disk.new (secret_of lms ots (Some bottom) i seed)) }
     ensures cause { HasCause create_failed (D.faults disk.old) (D.faults disk.new) result }
 {
     match create_two(alloc, disk, lms, bottom, ots, i, seed) {
@@ -130,7 +131,7 @@ fn make<D: Disk>(
     requires room { 190 ≤ vec_capacity line.old }
     ensures filed { OnOk result (IsFiled D.Disk disk.old disk.new (secret_of lms ots bottom i seed)) }
     ensures told { OnOk result (line.new.items ≡ key_line (public_bytes (secret_of lms ots bottom i seed))) }
-    ensures unmade { IfErr result (WhyUnmade D.Disk disk.old disk.new) }
+    ensures unmade { IfErr result (WhyUnmade D.Disk disk.old disk.new (secret_of lms ots bottom i seed)) }
     ensures cause { HasCause create_failed (D.faults disk.old) (D.faults disk.new) result }
 {
     match bottom {
@@ -141,8 +142,8 @@ fn make<D: Disk>(
 
 /// Makes the key of these types, from an identifier and a seed that are drawn in this order, on a disk that holds
 /// nothing, and prints its id and its public key. With `bottom` the key has two levels, and that is the type of the
-/// trees below. `NotEmpty` comes exactly where the disk holds something. The memory for the line is taken before the
-/// key is made.
+/// trees below. `NotEmpty` comes exactly where the disk holds something, which it keeps, also where it fails. The memory
+/// for the line is taken before anything is drawn, and 48 bytes are drawn at most.
 pub fn key_gen<K: Sink, D: Disk, E: Entropy>(
     alloc: Global,
     lms: LmsType,

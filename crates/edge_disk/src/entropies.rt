@@ -1,6 +1,6 @@
 //! Where random bytes come from.
 
-ghost use Rattle.std.specs.Prelude.{◌≡◌, ℕ, List, None, OnOk};
+ghost use Rattle.std.specs.Prelude.{◌≡◌, ℕ, List, None, OnErr, OnOk};
 ghost use Rattle.std.specs.declared.option.Option.{Option};
 ghost use Rattle.octets.specs.Causes.{HasCause, each};
 ghost use Rattle.octets.specs.Content.{with_front};
@@ -16,9 +16,10 @@ pub trait Entropy {
     /// How many calls failed. It never falls, and stands still at 2^64 - 1.
     ghost faults: { Self → ℕ };
 
-    /// Fills a buffer with the next bytes.
+    /// Fills a buffer with the next bytes. Where it fails, none were drawn.
     fn fill(&mut self, out: &mut [u8]) -> Result<(), Failed>
         ensures bytes { OnOk result (left self.old ≡ with_front out.new (left self.new)) }
+        ensures failed { OnErr result (left self.new ≡ left self.old) }
         ensures cause { HasCause each (faults self.old) (faults self.new) result };
 }
 

@@ -1,5 +1,5 @@
 -- Files that begin with the same bytes have the same header.
-use Rattle.std.proofs.Common.{◌≡◌, ◌<◌, ◌≤◌, ◌+◌, ◌-◌, ℕ, Bool, true, false, List, ◌++◌, length, take, drop, get_or, inl, inr, refl, sym, ap, ◌∙◌, subst, arith, length-take, cond}
+use Rattle.std.proofs.Common.{◌≡◌, ◌<◌, ◌≤◌, ◌+◌, ℕ, List, length, take, drop, get_or, refl, sym, ap, ◌∙◌, arith, length-take, cond}
 use Rattle.std.specs.Prelude.{◌==◌, Option, None, Some, codes, if◌then◌else◌}
 use Rattle.std.specs.Int.{w32, from_be_bytes}
 use Rattle.std.specs.Str.{bytes_eq}

@@ -6,7 +6,7 @@ use Rattle.std.proofs.lemmas.List.{ext_get_or, get_or-drop, get_or-set_other, ge
 use Rattle.octets.specs.Content.{Told}
 use Rattle.edge_disk.specs.Disk.{Only, Torn, Written}
 use Rattle.hss_keys.specs.Secret.{Secret, height_of}
-use Rattle.leaf_journal.specs.KeyFile.{IsHeader, IsKeyFile, IsUsedFrom, KeepsUsed, Used, UsedFrom, UsedInAll, start_in, start_of}
+use Rattle.leaf_journal.specs.KeyFile.{IsHeader, IsKeyFile, IsUsedFrom, KeepsUsed, Used, UsedInAll, start_in, start_of}
 use Rattle.leaf_journal.specs.Runs.{Marks, Opens}
 use Rattle.leaf_journal.specs.Signing.{Covers, IsLeast, IsLoaded, IsMarked, IsTornImage, Signing, marking}
 use Rattle.leaf_journal.proofs.Fronts.{header_moves, start_is, start_least, start_same}

@@ -1,10 +1,10 @@
 -- What the first bytes of a file tell of its header.
-use Rattle.std.proofs.Common.{◌≡◌, ◌<◌, ◌≤◌, ◌+◌, ◌^◌, ℕ, Bool, true, false, List, ◌++◌, length, take, drop, sym, ap, ◌∙◌, subst, arith, length-take}
+use Rattle.std.proofs.Common.{◌≡◌, ◌<◌, ◌≤◌, ◌+◌, ℕ, Bool, true, false, List, ◌++◌, length, take, drop, sym, ap, ◌∙◌, subst, arith, length-take}
 use Rattle.std.specs.Prelude.{Option, None, Some, Result, Ok, Err, IfOk, codes}
 use Rattle.std.proofs.lemmas.List.{take_all, take_at}
 use Rattle.lms_keys.specs.LmsType.{height}
 use Rattle.lms_keys.specs.Secret as one
-use Rattle.hss_keys.specs.Secret.{Secret, height_below, height_of}
+use Rattle.hss_keys.specs.Secret.{height_below}
 use Rattle.hss_keys.specs.declared.below.Below.{Below}
 use Rattle.leaf_journal.specs.KeyFile.{HasBelow, HasNoHeader, HasTop, IsHeader, magic_of, start_of}
 use Rattle.leaf_journal.specs.Loading.{Begins, magic_for, secret_with}

@@ -1,5 +1,6 @@
 pub mod KeyFile
 pub mod Faults
+pub mod Making
 pub mod Loading
 pub mod Signing
 pub mod Runs

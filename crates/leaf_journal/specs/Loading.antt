@@ -1,7 +1,7 @@
 -- What a key file says of its key, and why a file is not loaded.
-use Rattle.std.specs.Prelude.{◌≡◌, ◌+◌, ◌≤◌, ◌<◌, ◌⊎◌, ◌^◌, ℕ, Bool, true, false, List, length, take, codes, None, Option, Some}
-use Rattle.hss_keys.specs.Secret.{Secret, height_of}
-use Rattle.leaf_journal.specs.KeyFile.{HasNoHeader, HasOtherLength, start_of}
+use Rattle.std.specs.Prelude.{◌≡◌, ◌≤◌, ◌<◌, ◌⊎◌, ℕ, Bool, true, false, List, length, take, codes}
+use Rattle.hss_keys.specs.Secret.{Secret}
+use Rattle.leaf_journal.specs.KeyFile.{HasNoHeader, HasOtherLength}
 use Rattle.leaf_journal.specs.declared.faults.LoadFault.{LoadFault}
 use Rattle.leaf_journal.specs.declared.faults.LoadFault.TheVariants.{WrongLength, BadHeader, Disk, Memory}
 use Rattle.leaf_journal.specs.declared.headers.Header.{Header}

@@ -10,6 +10,7 @@ ghost use Rattle.hss_keys.specs.declared.below.Below.{Below};
 ghost use Rattle.leaf_journal.specs.Faults.{create_failed};
 ghost use Rattle.leaf_journal.specs.KeyFile.{IsNewKeyFile};
 ghost use Rattle.leaf_journal.specs.Loading.{secret_with};
+ghost use Rattle.leaf_journal.specs.Making.{IsCutShort, IsSpared, size_of};
 ghost use Rattle.leaf_journal.specs.declared.faults.CreateFault.TheVariants as fault;
 
 use crate::CreateFault;
@@ -43,6 +44,7 @@ fn write_whole<D: Disk>(disk: &mut D, bytes: &[u8]) -> Result<(), Failed>
     requires { (file : List ℕ) → D.seen disk.old ≡ Some file → file ≡ [] }
     ensures only { OnOk result ((c : List ℕ) → D.may_leave disk.new c → c ≡ bytes.now) }
     ensures file { OnOk result ((c : List ℕ) → D.seen disk.new ≡ Some c → (c ≡ bytes.now) × (D.seen disk.old ≡ Some [])) }
+    ensures cut { OnErr result (IsCutShort D.Disk disk.old disk.new (length bytes.now)) }
     ensures cause { HasCause each (D.faults disk.old) (D.faults disk.new) result }
 {
     disk.write_at(0, bytes)?;
@@ -70,8 +72,8 @@ fn expect_empty<D: Disk>(disk: &mut D) -> Result<(), CreateFault>
 /// key's public part. The key is drawn from an identifier, which RFC 8554 calls I, and a seed.
 ///
 /// `TooTall` comes exactly for more than 15 levels, and `NotEmpty` exactly where the disk holds something; then, and
-/// at `Memory`, the disk is as it was. After `Disk` it may hold a part of the file. After Ok a crash leaves the file
-/// and nothing else.
+/// at `Memory`, the disk is as it was. After `Disk` it is so too, or it held nothing and may hold a part of the file, with
+/// any bytes. After Ok a crash leaves the file and nothing else.
 pub fn create<D: Disk>(
     alloc: Global,
     disk: &mut D,
@@ -89,6 +91,7 @@ pub fn create<D: Disk>(
     ensures not_empty { (len : ℕ) → IsErrOf result (fault.NotEmpty len) → (file : List ℕ) → D.seen disk.new ≡ Some file → (len ≡ length file) × (0 < len) }
     ensures memory { IsErrOf result fault.Memory → (file : List ℕ) → D.seen disk.new ≡ Some file → file ≡ [] }
     ensures untouched { OnErr result ((IsErrOf result fault.Disk → ⊥) → IsKept (D.seen disk.old) (D.seen disk.new) (D.may_leave disk.old) (D.may_leave disk.new)) }
+    ensures spared { IsErrOf result fault.Disk → IsSpared D.Disk disk.old disk.new (size_of (record { top = record { lms = lms; ots = ots; i = i; seed = seed }; below = None })) }
     ensures cause { HasCause create_failed (D.faults disk.old) (D.faults disk.new) result }
 {
     if lms.height() > 15 {
@@ -155,6 +158,7 @@ pub fn create_two<D: Disk>(
     ensures not_empty { (len : ℕ) → IsErrOf result (fault.NotEmpty len) → (file : List ℕ) → D.seen disk.new ≡ Some file → (len ≡ length file) × (0 < len) }
     ensures memory { IsErrOf result fault.Memory → (file : List ℕ) → D.seen disk.new ≡ Some file → file ≡ [] }
     ensures untouched { OnErr result ((IsErrOf result fault.Disk → ⊥) → IsKept (D.seen disk.old) (D.seen disk.new) (D.may_leave disk.old) (D.may_leave disk.new)) }
+    ensures spared { IsErrOf result fault.Disk → IsSpared D.Disk disk.old disk.new (size_of (record { top = record { lms = top; ots = ots; i = i; seed = seed }; below = Some (record { lms = bottom; ots = ots }) })) }
     ensures cause { HasCause create_failed (D.faults disk.old) (D.faults disk.new) result }
 {
     if top.height() + bottom.height() > 15 {

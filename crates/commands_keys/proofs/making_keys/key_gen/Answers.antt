@@ -13,9 +13,7 @@ returns-in-Ok-write_all-clause-ends g c =
       i = c.draw.new.i;
       seed = c.draw.new.seed;
       is = refl;
-      i_long = c.draw.array_long;
-      seed_long = c.draw.array_long2;
-      drawn = c.in-Ok-draw.ensures.drawn;
+      draws = record { i_long = c.draw.array_long; seed_long = c.draw.array_long2; drawn = c.in-Ok-draw.ensures.drawn };
       filed = c.in-Ok-make.ensures.filed;
     } in
     (key, made, c.in-Ok-write_all.ensures.whole ∙ ap (with_end (g.K.Sink.contents c.args.sink.now)) line)
@@ -28,9 +26,7 @@ returns-clause-ends g c =
       i = c.draw.new.i;
       seed = c.draw.new.seed;
       is = refl;
-      i_long = c.draw.array_long;
-      seed_long = c.draw.array_long2;
-      drawn = c.in-Ok-draw.ensures.drawn;
+      draws = record { i_long = c.draw.array_long; seed_long = c.draw.array_long2; drawn = c.in-Ok-draw.ensures.drawn };
       filed = c.in-Ok-make.ensures.filed;
     } in
     (key, made, subst (GainsPart (g.K.Sink.contents c.args.sink.now) (g.K.Sink.contents c.write_all.new.sink)) line c.in-Err-write_all.ensures.part)

@@ -1,4 +1,4 @@
-use Rattle.std.proofs.Common.{◌≡◌, ◌≤◌, ◌<◌, ◌+◌, ◌^◌, ℕ, List, length, inr, sym, ap, ◌∙◌, arith}
+use Rattle.std.proofs.Common.{◌≡◌, ◌≤◌, ◌+◌, ◌^◌, ℕ, length, inr, sym, ap, arith}
 use Rattle.lms_keys.specs.LmsType.{height}
 use Rattle.hss_keys.specs.Secret.{height_below}
 use Rattle.leaf_journal.specs.KeyFile.{IsHeader, start_of}

@@ -1,4 +1,4 @@
-use Rattle.std.proofs.Common.{◌≡◌, ◌≤◌, ◌+◌, ◌++◌, ℕ, List, sym, subst}
+use Rattle.std.proofs.Common.{◌≤◌, ◌+◌, ◌++◌, sym, subst}
 use Rattle.std.specs.Prelude.{Option, Some}
 use Rattle.lms_keys.specs.LmsType.{height}
 use Rattle.lms_keys.specs.Secret as one

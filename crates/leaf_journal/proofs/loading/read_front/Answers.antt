@@ -1,4 +1,4 @@
-use Rattle.std.proofs.Common.{rules, ◌≡◌, ℕ, length, arith}
+use Rattle.std.proofs.Common.{rules, ◌≡◌, length, arith}
 use Rattle.leaf_journal.proofs.Reading.{begins_long, begins_short}
 use Rattle.leaf_journal.proofs.loading.read_front.Goals as goal
 

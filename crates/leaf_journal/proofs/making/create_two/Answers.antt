@@ -1,5 +1,7 @@
-use Rattle.std.proofs.Common.{◌≡◌, ap, Err}
+use Rattle.std.proofs.Common.{◌≡◌, ◌∙◌, ℕ, ap, inr, length, subst, Err}
 use Rattle.leaf_journal.specs.declared.faults.CreateFault.TheVariants as fault
+use Rattle.leaf_journal.specs.Making.{IsCutShort}
+use Rattle.leaf_journal.proofs.Cutting.{cut_after}
 use Rattle.leaf_journal.proofs.making.create_two.Goals as goal
 
 pub returns-in-Err-clause-not_empty : goal.returns-in-Err-clause-not_empty
@@ -9,3 +11,8 @@ returns-in-Err-clause-not_empty g c = λ len is file told.
 
 pub returns-clause-key : goal.returns-clause-key
 returns-clause-key g c = c.in_ok-public.ensures.key (record { lms = c.args.bottom; ots = c.args.ots })
+
+pub returns-in_err-write_whole-clause-spared : goal.returns-in_err-write_whole-clause-spared
+returns-in_err-write_whole-clause-spared g c = λ failed.
+    inr (subst (λ (n : ℕ). IsCutShort g.D.Disk c.args.disk.now c.write_whole.new.disk n) (ap length c.as_slice.ensures.value ∙ c.in_ok-file.ensures.is.size)
+    (cut_after g.D.Disk _ c.args.disk.now c.expect_empty.new.disk c.write_whole.new.disk c.expect_empty.ensures.kept c.in_err-write_whole.ensures.cut))
