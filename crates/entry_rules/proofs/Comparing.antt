@@ -1,12 +1,11 @@
 -- What a comparison says of two states.
-use Rattle.std.proofs.Common.{◌≡◌, ◌⊎◌, ◌&&◌, ℕ, Bool, true, false, List, Option, Some, None, refl, ap, sym, ◌∙◌, inl, inr}
-use Rattle.std.proofs.lemmas.Bool.{and_parts, false≢true, true≢false}
+use Rattle.std.proofs.Common.{◌≡◌, ◌&&◌, ℕ, Bool, true, false, List, Option, Some, None, refl, ap, sym, ◌∙◌, inl, inr}
+use Rattle.std.proofs.lemmas.Bool.{false≢true}
 use Rattle.rule_files.specs.declared.rules.RuleFile.{RuleFile}
-use Rattle.tree_paths.specs.Changes.{IfChanged, IsChange, IsComparison}
+use Rattle.tree_paths.specs.Changes.{IfChanged, IsComparison}
 use Rattle.tree_paths.specs.States.{Ended, Faulty, Gone, Sound, is_sound, tree_at}
 use Rattle.tree_paths.specs.declared.states.Comparison.{Comparison}
 use Rattle.tree_paths.specs.declared.states.Comparison.TheVariants as comparison
-use Rattle.entry_rules.specs.declared.faults.Fault.{Fault}
 use Rattle.entry_rules.specs.declared.faults.Fault.TheVariants.{Broken}
 use Rattle.entry_rules.specs.Faults.{change_fault, rules_fault}
 use Rattle.entry_rules.specs.RealRules.{has_one_tree}

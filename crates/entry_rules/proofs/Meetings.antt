@@ -1,9 +1,9 @@
 -- That a name is met, that a key may act, and which rule is reached first, by the relations over chains.
-use Rattle.std.proofs.Common.{◌≡◌, ◌⊎◌, ◌||◌, ℕ, Bool, true, false, List, [], ◌∷◌, Option, Some, None, map, refl, ap, sym, ◌∙◌, subst, inl, inr}
+use Rattle.std.proofs.Common.{◌≡◌, ◌||◌, ℕ, Bool, true, false, List, [], ◌∷◌, Option, Some, None, map, refl, ap, sym, ◌∙◌, inl, inr}
 use Rattle.std.specs.Prelude.{IsTrue, ◌↔◌}
 use Rattle.std.specs.List.{list_any}
 use Rattle.std.specs.Option.{option_map}
-use Rattle.std.proofs.lemmas.Bool.{false≢true, true≢false}
+use Rattle.std.proofs.lemmas.Bool.{false≢true}
 use Rattle.rule_files.specs.declared.rules.Rule.{Rule}
 use Rattle.rule_files.specs.declared.rules.RuleFile.{RuleFile}
 use Rattle.rule_delegations.specs.declared.places.RuleRef.{RuleRef}
@@ -11,11 +11,11 @@ use Rattle.rule_delegations.specs.declared.places.Short.{Short}
 use Rattle.rule_delegations.specs.Chains.{Before, last_place}
 use Rattle.rule_delegations.specs.Forests.{IsPolicy}
 use Rattle.rule_delegations.specs.Reached.{Holds, InOrder, IsFirstReached, IsShort, MayAct, Meets, Name, Reached, is_listed}
-use Rattle.rule_delegations.specs.Walks.{is_enough, passes_at, walk}
+use Rattle.rule_delegations.specs.Walks.{is_enough, passes_at}
 use Rattle.rule_delegations.proofs.Orders.{Chain, held_all}
 use Rattle.rule_delegations.proofs.Reaching.{walk_reaches}
 use Rattle.rule_delegations.proofs.Tellings.{Either, either_listed, either_met, listed_either, met_either, passes_some, some_passes}
-use Rattle.entry_rules.specs.Meeting.{first_place, git_name, is_none_of, may_act, meets, passes, reached}
+use Rattle.entry_rules.specs.Meeting.{first_place, is_none_of, meets, passes, reached}
 
 or_true : (b : Bool) → (b || true) ≡ true
 or_true true = refl

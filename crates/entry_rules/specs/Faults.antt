@@ -7,7 +7,6 @@ use Rattle.log_entries.specs.declared.entries.EntryBody.{EntryBody}
 use Rattle.log_entries.specs.declared.entries.EntryBody.TheVariants.{Reference, Annotation}
 use Rattle.root_metadata.specs.Judged.{or_next}
 use Rattle.root_metadata.specs.Persons.{count_in}
-use Rattle.rule_files.specs.declared.rules.Rule.{Rule}
 use Rattle.rule_files.specs.declared.rules.RuleFile.{RuleFile}
 use Rattle.rule_delegations.specs.declared.places.RuleRef.{RuleRef}
 use Rattle.rule_delegations.specs.Chains.{rule_at}

@@ -1,5 +1,5 @@
 -- The rules of an entry, read aloud: each as a reader would say it, without tests and lists.
-use Rattle.std.specs.Prelude.{◌≡◌, ◌≢◌, ℕ, Bool, true, false, List, Option, Some, None}
+use Rattle.std.specs.Prelude.{◌≡◌, ◌≢◌, ℕ, false, List, Option, Some, None}
 use Rattle.std.specs.FinMap.{get}
 use Rattle.std.specs.Ordering.{is_gt}
 use Rattle.octets.specs.BytesMap.{by_bytes}

@@ -1,9 +1,7 @@
 -- The rules of judging over policies: which policy an entry opens, which fault another one has, who may skip.
 use Rattle.std.specs.Prelude.{◌+◌, ◌&&◌, ℕ, Bool, false, List, Option, Some, None, Result, Ok, Err}
 use Rattle.std.specs.Str.{bytes_eq}
-use Rattle.git_object.specs.Repository.{Repository}
 use Rattle.log_entries.specs.Entries.{target_of}
-use Rattle.log_entries.specs.declared.entries.Entry.{Entry}
 use Rattle.judging.specs.Rules.{Rules}
 use Rattle.tree_paths.specs.Changes.{shared_reads}
 use Rattle.tree_paths.specs.Readings.{Readings}
@@ -38,6 +36,11 @@ both_sound readings from to = is_sound (walk_of readings from) && is_sound (walk
 abbrev pub comparison_reads : Readings → List ℕ → List ℕ → ℕ
 comparison_reads readings from to = 18 + shared_reads (walk_of readings from) (walk_of readings to)
 
+-- the reads of looking an approval up: 28, where there are attestations
+abbrev pub approval_reads : Option (List ℕ) → ℕ
+approval_reads None = 0
+approval_reads (Some attestations) = 28
+
 -- two states that were compared have one tree
 abbrev pub has_one_tree : Comparison → Bool
 has_one_tree (comparison.Broken id) = false
@@ -55,6 +58,6 @@ real_rules anchor = record {
   may_skip = λ policy key name. may_act policy.rules (git_name name) key;
   epoch_reads = λ r current entry. policy_reads r (target_of entry.body);
   bounded = λ r from to. both_sound (readings_of r) from to;
-  fault_reads = λ r policy entry from attested. comparison_reads (readings_of r) from (target_of entry.body) + 28;
+  fault_reads = λ r policy entry from attested. comparison_reads (readings_of r) from (target_of entry.body) + approval_reads attested;
   tree_reads = λ r from to. comparison_reads (readings_of r) from to;
 }

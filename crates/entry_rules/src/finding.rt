@@ -14,7 +14,7 @@ ghost use Rattle.tree_paths.specs.Repositories.{readings_of};
 ghost use Rattle.tree_paths.specs.States.{walk_of};
 ghost use Rattle.tree_paths.specs.declared.states.Comparison.TheVariants as comparison;
 ghost use Rattle.entry_rules.specs.Faults.{body_fault, body_signers, entry_fault, entry_signers};
-ghost use Rattle.entry_rules.specs.RealRules.{both_sound, comparison_reads};
+ghost use Rattle.entry_rules.specs.RealRules.{approval_reads, both_sound, comparison_reads};
 ghost use Rattle.entry_rules.specs.Signing.{approved, joined, signer_among, tree_in};
 
 use crate::Fault;
@@ -81,7 +81,7 @@ fn signers_for<R: Keeper>(
     ensures signers { IfOk result (λ ids. (r : Repository) → R.content keeper.new ≡ Some r → ids ≡ joined (signer_among policy.now.keys entry.now) (approved r policy.now.keys name.now from.now (option_copied attested.entry) tree)) }
     ensures same { Undisturbed R.Keeper keeper.old keeper.new }
     ensures cause { HasCause keeper_failed (R.faults keeper.old) (R.faults keeper.new) result }
-    ensures reads { R.reads keeper.new ≤ R.reads keeper.old + 28 }
+    ensures reads { R.reads keeper.new ≤ R.reads keeper.old + approval_reads (option_copied attested.entry) }
 {
     let approvers = approved(alloc, keeper, &policy.keys, name, from, attested, tree)?;
     let signer = signer_among(&policy.keys, entry);
@@ -132,7 +132,7 @@ fn find_change<R: Keeper>(
     ensures signers { IfOk result (λ found. (r : Repository) → R.content keeper.new ≡ Some r → found.signers ≡ body_signers r policy.now entry.now from.now (option_copied attested.entry) (Reference name.now target.now)) }
     ensures same { Undisturbed R.Keeper keeper.old keeper.new }
     ensures cause { HasCause keeper_failed (R.faults keeper.old) (R.faults keeper.new) result }
-    ensures reads { OnOk result ((r : Repository) → R.content keeper.new ≡ Some r → both_sound (readings_of r) from.now target.now ≡ true → R.reads keeper.new ≤ R.reads keeper.old + comparison_reads (readings_of r) from.now target.now + 28) }
+    ensures reads { OnOk result ((r : Repository) → R.content keeper.new ≡ Some r → both_sound (readings_of r) from.now target.now ≡ true → R.reads keeper.new ≤ R.reads keeper.old + comparison_reads (readings_of r) from.now target.now + approval_reads (option_copied attested.entry)) }
 {
     match compared(alloc, keeper, known, from, target)? {
         Comparison::Broken { id } => {
@@ -175,7 +175,7 @@ pub fn find<R: Keeper>(
     ensures same { Undisturbed R.Keeper keeper.old keeper.new }
     ensures cause { HasCause keeper_failed (R.faults keeper.old) (R.faults keeper.new) result }
     ensures reads { OnOk result ((r : Repository) → R.content keeper.new ≡ Some r → both_sound (readings_of r) from.now (target_of entry.now.body) ≡ true
-        → R.reads keeper.new ≤ R.reads keeper.old + (comparison_reads (readings_of r) from.now (target_of entry.now.body) + 28)) }
+        → R.reads keeper.new ≤ R.reads keeper.old + (comparison_reads (readings_of r) from.now (target_of entry.now.body) + approval_reads (option_copied attested.entry))) }
 {
     match &entry.body {
         EntryBody::Reference { name, target } => {

@@ -1,12 +1,13 @@
 //! Who signed for an entry.
 
-ghost use Rattle.std.specs.Prelude.{◌≡◌, ◌≤◌, ◌+◌, ◌++◌, Some, IfOk, OnOk};
+ghost use Rattle.std.specs.Prelude.{◌≡◌, ◌≤◌, ◌+◌, ◌++◌, None, Some, IfOk, OnOk};
 ghost use Rattle.std.specs.List.{list_any};
 ghost use Rattle.std.specs.Option.{option_copied};
 ghost use Rattle.octets.specs.Causes.{HasCause};
 ghost use Rattle.git_object.specs.Repository.{Repository};
 ghost use Rattle.keeper_api.specs.Faults.{keeper_failed};
 ghost use Rattle.keeper_api.specs.Undisturbed.{Undisturbed};
+ghost use Rattle.entry_rules.specs.RealRules.{approval_reads};
 ghost use Rattle.entry_rules.specs.Signing.{approved, is_signed_by, joined, listed, signer_among};
 
 use approval_lookup::approvers;
@@ -90,7 +91,7 @@ pub fn joined(alloc: Global, signer: Option<KeyId>, approvers: &KeyIds) -> Resul
 }
 
 /// Those of the keys that approved a change of a reference from a target to a tree, by the attestations' target: none
-/// where one of the two is not there. It makes at most 28 reads.
+/// where one of the two is not there, which is answered without a read. It makes at most 28 reads.
 pub fn approved<R: Keeper>(
     alloc: Global,
     keeper: &mut R,
@@ -103,7 +104,8 @@ pub fn approved<R: Keeper>(
     ensures found { IfOk result (λ ids. (r : Repository) → R.content keeper.new ≡ Some r → ids ≡ approved r keys.now name.now from.now (option_copied attestations.entry) tree) }
     ensures same { Undisturbed R.Keeper keeper.old keeper.new }
     ensures cause { HasCause keeper_failed (R.faults keeper.old) (R.faults keeper.new) result }
-    ensures reads { R.reads keeper.new ≤ R.reads keeper.old + 28 }
+    ensures reads { R.reads keeper.new ≤ R.reads keeper.old + approval_reads (option_copied attestations.entry) }
+    ensures none { tree ≡ None → R.reads keeper.new ≡ R.reads keeper.old }
 {
     let Some(attestations) = attestations else {
         return Ok(id_set(alloc, &[])?);

@@ -264,6 +264,16 @@ module _ {P F : Type 0} (rules : Rules P F) (log : List Taken) (e : Engine P F) 
     by_last None = refl
     by_last (Some i) = refl
 
+  standing_above : (name : List ℕ) → (standing_of e.book name).above ≡ above rules log name
+  standing_above name = by_last (last_of (lane_of e.book.marks name).unskipped) ∙ ap (λ (l : Lane). unwrap_or (last_of l.unskipped) 0) (stands.lanes name) where
+    by_last : (o : Option ℕ) → (standing_at e.book o).above ≡ unwrap_or o 0
+    by_last None = refl
+    by_last (Some i) = refl
+
+  pub may_rescue_is : (name : List ℕ) → list_any (nat_lt (standing_of e.book name).above) (lane_of e.book.marks name).pending ≡ may_rescue rules log name
+  may_rescue_is name =
+      ap (λ a. list_any (nat_lt a) (lane_of e.book.marks name).pending) (standing_above name) ∙ ap (λ (l : Lane). list_any (nat_lt (above rules log name)) l.pending) (stands.lanes name)
+
   pub violation_is : (name kept : List ℕ) (number : ℕ) (fault : F) → first_of (lane_of e.book.marks name).pending ≡ Some number → kept_fault e.book number ≡ Some fault → IsJudged rules log name kept (Violation number fault)
   violation_is name kept number fault first is =
       let here : first_of (lane rules log name).pending ≡ Some number = ap (λ (l : Lane). first_of l.pending) (sym (stands.lanes name)) ∙ first in

@@ -12,6 +12,7 @@ ghost use Rattle.judging.specs.Logs.{is_entry_of, entry_at, last_signers, policy
 use crate::book::Book;
 use crate::judged::{tip, violation};
 use crate::noting::take_note;
+use crate::references::place_before;
 use crate::taking::{look_reference, take_reference};
 use crate::{EntryVerdict, Judge, JudgeFault, KeyIds, Verdict};
 use git_object::{ObjectId, RefName};
@@ -32,6 +33,7 @@ pub struct Engine<P, F> {
 
 impl<P, F> Engine<P, F> {
     ghost use Rattle.judging.specs.Engines.{Stands, has_taken, taken};
+    ghost use Rattle.judging.specs.Reading.{may_rescue};
 
     /// An engine that took no entry. It takes no memory.
     pub fn new(alloc: Global) -> Engine<P, F>
@@ -65,6 +67,15 @@ impl<P, F> Engine<P, F> {
     {
         let prior = self.book.prior(name)?;
         self.book.target(prior)
+    }
+
+    /// Whether an entry of a reference that is neither authorised nor rescued comes after its last one that is not skipped, so
+    /// that the reference's next entry may rescue it.
+    pub fn may_rescue(&self, name: &RefName) -> bool
+        ensures { (rules : Rules P F) (log : List Taken) → Stands rules log self.now → result ≡ may_rescue rules log name.now }
+    {
+        let stands = place_before(&self.book, name);
+        self.book.is_pending_after(name, stands.above)
     }
 
     /// Whether the entry of a number is a reference's and is skipped.

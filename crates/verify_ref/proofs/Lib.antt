@@ -1,2 +1,4 @@
 pub mod Walking
 pub mod OneVerdict
+pub mod Growing
+pub mod FewReads

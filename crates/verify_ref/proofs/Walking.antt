@@ -35,7 +35,7 @@ cut : {X : Type 0} → (xs : List X) (i : ℕ) (x : X) → i < length xs → x �
 cut xs i x below is =
     sym (take-append-drop (i + 1) xs) ∙ ap (λ t. t ++ drop (i + 1) xs) (take_more xs i x below ∙ ap (λ y. take i xs ++ y ∷ []) (sym is)) ∙ append_assoc (take i xs) (x ∷ []) (drop (i + 1) xs)
 
-one_more : (ids : List (List ℕ)) (i : ℕ) (id : List ℕ) → i < length ids → id ≡ get_or ids i id → take i ids ++ id ∷ [] ≡ take (i + 1) ids
+pub one_more : (ids : List (List ℕ)) (i : ℕ) (id : List ℕ) → i < length ids → id ≡ get_or ids i id → take i ids ++ id ∷ [] ≡ take (i + 1) ids
 one_more ids i id below is = ap (λ (x : List ℕ). take i ids ++ x ∷ []) is ∙ sym (take_more ids i id below)
 
 at_index : {X : Type 0} (P : X → Type 0) (xs : List X) (k : ℕ) (x : X) → AllByRecursion P xs → slice_get xs k ≡ Some x → P x

@@ -76,7 +76,7 @@ impl Engine {
 
     /// Takes the next entry, and answers whether it is authorised, refused for a fault, or an annotation. After a refusal the
     /// engine followed what it followed before. Where neither the reference's target before nor the entry's is broken, it
-    /// makes at most 9 reads and one for each tree of the former to learn its trees, and those of judging.
+    /// makes at most 64 reads, two for each tree of both, and one for each rule file of a policy (`laws::few_reads`).
     pub fn extend<R: Keeper>(
         &mut self,
         alloc: Global,

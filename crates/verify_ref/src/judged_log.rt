@@ -6,8 +6,9 @@ ghost use Rattle.git_object.specs.Repository.{Repository};
 ghost use Rattle.keeper_api.specs.Faults.{keeper_failed};
 ghost use Rattle.keeper_api.specs.Undisturbed.{Undisturbed};
 ghost use Rattle.log_entries.specs.Entries.{Taken};
+ghost use Rattle.log_entries.specs.declared.entries.Entry.{Entry};
 ghost use Rattle.tree_paths.specs.Known.{AreKnownIn};
-ghost use Rattle.rsl_chain.specs.Logs.{IsLogOf, IsNamed, IsUnbroken, log_failed};
+ghost use Rattle.rsl_chain.specs.Logs.{IsLogOf, IsNamed, IsUnbroken, entry_at, log_failed};
 ghost use Rattle.judging.specs.Engines.{IsTaken, Stands, has_taken, taken};
 ghost use Rattle.judging.specs.Reading.{is_bounded};
 ghost use Rattle.judging.specs.Rules.{Rules};
@@ -15,7 +16,7 @@ ghost use Rattle.policy_epochs.specs.declared.policies.Policy.{Policy};
 ghost use Rattle.entry_rules.specs.declared.faults.Fault.{Fault};
 ghost use Rattle.entry_rules.specs.RealRules.{real_rules};
 ghost use Rattle.verify_ref.specs.Logs.{AreEntries, BreaksAt, IsAstray, TakesNext, comes_next};
-ghost use Rattle.verify_ref.specs.Reading.{extending_reads, learning_reads};
+ghost use Rattle.verify_ref.specs.Reading.{AreBounded, extending_reads, judging_reads, learning_reads};
 
 use entry_rules::{EntryRules, Fault, KnowingRules};
 use git_object::ObjectId;
@@ -38,7 +39,8 @@ pub(crate) fn comes_next(engine: &LogEngine, entry: &Entry) -> bool
     entry.number > len && entry.number - len == 1 && !engine.has(&entry.id)
 }
 
-// Learns the trees of where the reference of an entry stands, with which the entry's are compared then.
+// Learns the trees of where the reference of an entry stands, with which the entry's are compared then. Where the entry may
+// rescue others the two are compared twice, and nothing is learned for that.
 fn learn_before<R: Keeper>(
     alloc: Global,
     keeper: &mut R,
@@ -53,10 +55,15 @@ fn learn_before<R: Keeper>(
     ensures reads { (r : Repository) (rules : Rules Policy Fault) (log : List Taken) → R.content keeper.new ≡ Some r → Stands rules log engine.now → R.reads keeper.new ≤ R.reads keeper.old + learning_reads rules r log entry.now.body }
 {
     match &entry.body {
-        EntryBody::Reference { name, target: _ } => match engine.prior_target(name) {
-            Some(from) => learn(alloc, keeper, known, &from),
-            None => Ok(()),
-        },
+        EntryBody::Reference { name, target: _ } => {
+            if engine.may_rescue(name) {
+                return Ok(());
+            }
+            match engine.prior_target(name) {
+                Some(from) => learn(alloc, keeper, known, &from),
+                None => Ok(()),
+            }
+        }
         EntryBody::Annotation {
             ids: _,
             skip: _,
@@ -117,6 +124,9 @@ fn take<R: Keeper>(
     ensures known { (r : Repository) → R.content keeper.new ≡ Some r → AreKnownIn r known.new }
     ensures same { Undisturbed R.Keeper keeper.old keeper.new }
     ensures cause { HasCause log_failed (R.faults keeper.old) (R.faults keeper.new) result }
+    ensures reads { OnOk result ((r : Repository) (log : List Taken) (entry : Entry) → R.content keeper.new ≡ Some r → Stands (real_rules rules.now.anchor) log engine.old → entry_at r id.now ≡ Some entry
+        → is_bounded (real_rules rules.now.anchor) log (record { entry = entry; repository = r }) ≡ true
+        → R.reads keeper.new ≤ R.reads keeper.old + (1 + extending_reads (real_rules rules.now.anchor) log (record { entry = entry; repository = r }))) }
 {
     let entry = read_entry(alloc, keeper, id)?;
     if !comes_next(engine, &entry) {
@@ -143,6 +153,8 @@ fn take_all<R: Keeper>(
     ensures broken { IfErr result (λ fault. (r : Repository) → R.content keeper.new ≡ Some r → BreaksAt r ids.now fault) }
     ensures same { Undisturbed R.Keeper keeper.old keeper.new }
     ensures cause { HasCause log_failed (R.faults keeper.old) (R.faults keeper.new) result }
+    ensures reads { OnOk result ((r : Repository) (log : List Taken) → R.content keeper.new ≡ Some r → AreEntries r ids.now log → AreBounded (real_rules rules.now.anchor) log
+        → R.reads keeper.new ≤ R.reads keeper.old + judging_reads (real_rules rules.now.anchor) log) }
 {
     let mut known = KnownTrees::new(alloc);
     'ids: for id in ids {
@@ -155,7 +167,8 @@ fn take_all<R: Keeper>(
 }
 
 /// The engine that took the entries at these ids, one after the other. `Broken` names the first of the ids at which no entry
-/// stands that comes next, by its number and with an id of its own. Where the ids are the store's log, it does not come.
+/// stands that comes next, by its number and with an id of its own. Where the ids are the store's log, it does not come. Each
+/// entry is read once; where no target of one is broken, nothing more is read than what takes and judges them.
 pub fn judge_entries<R: Keeper>(
     alloc: Global,
     keeper: &mut R,
@@ -167,6 +180,8 @@ pub fn judge_entries<R: Keeper>(
     ensures broken { IfErr result (λ fault. (r : Repository) → R.content keeper.new ≡ Some r → BreaksAt r ids.now fault) }
     ensures same { Undisturbed R.Keeper keeper.old keeper.new }
     ensures cause { HasCause log_failed (R.faults keeper.old) (R.faults keeper.new) result }
+    ensures reads { OnOk result ((r : Repository) (log : List Taken) → R.content keeper.new ≡ Some r → AreEntries r ids.now log → AreBounded (real_rules rules.now.anchor) log
+        → R.reads keeper.new ≤ R.reads keeper.old + judging_reads (real_rules rules.now.anchor) log) }
 {
     let mut engine = LogEngine::new(alloc);
     match take_all(alloc, keeper, rules, &mut engine, ids) {

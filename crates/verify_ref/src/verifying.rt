@@ -1,6 +1,6 @@
 //! The verdict on a reference.
 
-ghost use Rattle.std.specs.Prelude.{◌≡◌, List, Some, IfOk};
+ghost use Rattle.std.specs.Prelude.{◌≡◌, ◌≤◌, ◌+◌, List, Some, IfOk, OnOk};
 ghost use Rattle.octets.specs.Causes.{HasCause};
 ghost use Rattle.git_object.specs.Repository.{Repository, value_of};
 ghost use Rattle.keeper_api.specs.Faults.{keeper_failed};
@@ -12,6 +12,9 @@ ghost use Rattle.judging.specs.Verdicts.{IsJudged};
 ghost use Rattle.policy_epochs.specs.declared.policies.Policy.{Policy};
 ghost use Rattle.entry_rules.specs.declared.faults.Fault.{Fault};
 ghost use Rattle.rsl_chain.specs.Logs.{IsLogOf, log_failed};
+ghost use Rattle.entry_rules.specs.RealRules.{real_rules};
+ghost use Rattle.verify_ref.specs.Logs.{AreEntries};
+ghost use Rattle.verify_ref.specs.Reading.{AreBounded, ReadsVerdict, judging_reads};
 ghost use Rattle.verify_ref.specs.Verdicts.{Answers};
 
 use crate::judged_log::{LogEngine, judge_entries};
@@ -67,6 +70,8 @@ fn judge_ids<R: Keeper>(
     ensures answers { (r : Repository) → R.content keeper.new ≡ Some r → IsLogOf r ids.now → Answers r name.now rules.now.anchor result }
     ensures same { Undisturbed R.Keeper keeper.old keeper.new }
     ensures cause { HasCause log_failed (R.faults keeper.old) (R.faults keeper.new) result }
+    ensures reads { OnOk result ((r : Repository) (log : List Taken) → R.content keeper.new ≡ Some r → AreEntries r ids.now log → AreBounded (real_rules rules.now.anchor) log
+        → R.reads keeper.new ≤ R.reads keeper.old + judging_reads (real_rules rules.now.anchor) log) }
 {
     let engine = match judge_entries(alloc, keeper, rules, ids) {
         Ok(engine) => engine,
@@ -82,7 +87,8 @@ fn judge_ids<R: Keeper>(
 /// The verdict on a reference of the repository that the store holds: each entry of the log is judged in it, under the
 /// policy in force at its number, and the verdict is that of the reference's entries and of its value. Where ids are given,
 /// the first policy must have exactly their keys. `Broken` comes exactly where the log is no chain, and names the commit at
-/// which it breaks. The store is as before.
+/// which it breaks. The store is as before. Each entry is read twice, once to find the log and once to take it; where no target
+/// of an entry is broken, nothing more is read than what takes and judges them.
 pub fn verify<R: Keeper>(
     alloc: Global,
     keeper: &mut R,
@@ -92,6 +98,7 @@ pub fn verify<R: Keeper>(
     ensures answers { (r : Repository) → R.content keeper.new ≡ Some r → Answers r name.now anchor result }
     ensures same { Undisturbed R.Keeper keeper.old keeper.new }
     ensures cause { HasCause log_failed (R.faults keeper.old) (R.faults keeper.new) result }
+    ensures reads { OnOk result ((r : Repository) → R.content keeper.new ≡ Some r → ReadsVerdict anchor r (R.reads keeper.old) (R.reads keeper.new)) }
 {
     let rules = EntryRules::new(anchor);
     match Log::load(alloc, keeper) {

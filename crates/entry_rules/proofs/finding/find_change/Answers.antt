@@ -1,10 +1,9 @@
 use Rattle.std.proofs.Common.{◌≡◌, Some, ap, sym, subst, ◌∙◌}
 use Rattle.std.specs.Option.{option_copied}
-use Rattle.git_object.specs.Repository.{Repository}
 use Rattle.tree_paths.specs.Changes.{AreChanged, IsChange, IsComparison}
 use Rattle.tree_paths.specs.Repositories.{readings_of}
 use Rattle.tree_paths.specs.States.{map_at, walk_of}
-use Rattle.entry_rules.specs.Faults.{change_fault, rules_fault, signers_for}
+use Rattle.entry_rules.specs.Faults.{rules_fault, signers_for}
 use Rattle.entry_rules.specs.Signing.{approved, joined, signer_among, tree_in}
 use Rattle.entry_rules.proofs.Comparing.{sound_fault, sound_tree}
 use Rattle.entry_rules.proofs.finding.find_change.Goals as goal

@@ -1,4 +1,4 @@
-use Rattle.std.proofs.Common.{sym, ◌∙◌}
+use Rattle.std.proofs.Common.{◌∙◌}
 use Rattle.tree_paths.specs.Repositories.{readings_of}
 use Rattle.tree_paths.specs.States.{walk_of}
 use Rattle.entry_rules.proofs.Comparing.{one_tree}
