@@ -12,6 +12,5 @@ mod files;
 mod lookups;
 mod payload_fields;
 
-pub use files::load_file;
 pub use lookups::{approvers, load_approval, path_of};
 pub use payload_fields::{APPROVAL_TYPE, is_approval};
