@@ -1,7 +1,6 @@
 -- Reading, then signing, then the commit: what came of a step is what came of the whole.
-use Rattle.std.proofs.Common.{◌≡◌, ℕ, List, [], ◌∷◌, refl, subst}
+use Rattle.std.proofs.Common.{◌≡◌, ℕ, List}
 use Rattle.std.specs.Prelude.{Option, Some, Result, Ok, Err}
-use Rattle.octets.specs.Content.{Told, with_front}
 use Rattle.git_object.specs.Repository.{Repository, value_of}
 use Rattle.keeper_api.specs.Undisturbed.{Undisturbed}
 use Rattle.keeper_api.specs.declared.keepers.Keeper as keeper
@@ -20,7 +19,7 @@ use Rattle.commands_log.proofs.Moved.{kept_same, kept_twice, same, same_twice, u
 use Rattle.commands_log.specs.Untouched.{Untouched}
 use Rattle.commands_log.specs.declared.appending.AppendFault.{AppendFault}
 use Rattle.commands_log.specs.declared.appending.AppendFault.TheVariants.{ClockFailed, Exhausted, DiskFailed, CommitFailed, Memory, MemoryAfter}
-use Rattle.commands_approvals.specs.Storing.{IsOf, Keeps, KeepingEnds, RefusesKeeping, SignEnds, SignsChange, StoreEnds, Timed}
+use Rattle.commands_approvals.specs.Storing.{Keeps, RefusesKeeping, SignEnds, SignsChange, StoreEnds, Timed}
 use Rattle.commands_approvals.specs.declared.ends.Ends.{Ends}
 
 module _ {R D : Type 0} (keeper_of : keeper.Ghosts R) (disk_of : disk.Ghosts D) (name : List ℕ) (ends : Ends) (envelope : Envelope) (secret : Secret) where

@@ -1,7 +1,7 @@
 -- `approve` comes to one outcome at most.
-use Rattle.std.proofs.Common.{◌≡◌, ◌≤◌, ◌<◌, ◌∙◌, ℕ, List, [], length, true, false, ap, arith, refl, subst, sym, ⊎_elim}
+use Rattle.std.proofs.Common.{◌≡◌, ◌∙◌, ℕ, List, [], ap, arith, refl, subst, sym, ⊎_elim}
 use Rattle.std.proofs.lemmas.Bool.{true≢false}
-use Rattle.std.specs.Prelude.{None, Option, Some, Result, Ok, Err, replicate, slice_index}
+use Rattle.std.specs.Prelude.{None, Result, Ok, Err, replicate, slice_index}
 use Rattle.std.specs.FinMap.{get}
 use Rattle.std.proofs.lemmas.List.{length-replicate, places}
 use Rattle.git_object.specs.Names.{log_name}
@@ -17,10 +17,8 @@ use Rattle.rsl_chain.specs.Chain.{NeverBoth, OneBreak, OneLog}
 use Rattle.rsl_chain.specs.Logs.{IsLogOf, heads_of}
 use Rattle.entry_rules.specs.RealRules.{real_rules}
 use Rattle.verify_ref.proofs.OneVerdict.{same_entries}
-use Rattle.verify_ref.specs.Logs.{AreEntries}
 use Rattle.dsse_envelope.specs.declared.envelope.Envelope.{Envelope}
 use Rattle.key_file.proofs.OneKeyFile.{not_both, not_spent, one_key}
-use Rattle.key_seals.specs.Seals.{id_text}
 use Rattle.commands_log.specs.declared.appending.AppendFault.TheVariants as append
 use Rattle.commands_log.specs.declared.opening.ReadingFault.TheVariants as reading
 use Rattle.commands_log.specs.declared.recording.RecordFault.TheVariants.{Unread, BreakUntold, Unappended, SinkFailed}
@@ -29,7 +27,7 @@ use Rattle.approval_lookup.specs.Lookups.{approval_at}
 use Rattle.attesting.specs.Attesting.{attestations_name}
 use Rattle.attesting.specs.Sites.{IsInWayOf}
 use Rattle.commands_approvals.specs.Ends.{ComesFrom, IsBrokenAt, TreeIs, state_in}
-use Rattle.commands_approvals.specs.Outcomes.{ApproveComes, BehindKey, BehindLog, IsOpen}
+use Rattle.commands_approvals.specs.Outcomes.{ApproveComes, BehindLog, IsOpen}
 use Rattle.commands_approvals.specs.Wanted.{HasNoPlace, HasRoom, HasWanted, IsFree, IsFull, IsInWay, IsOverlong, IsTooLong, IsUnreadable, IsWanted, approval_or}
 use Rattle.commands_approvals.specs.declared.approving.ApproveFault.{ApproveFault}
 use Rattle.commands_approvals.specs.declared.approving.ApproveFault.TheVariants.{Unrecorded, Unreadable, Full, TooLong}

@@ -1,6 +1,6 @@
 -- Why no approval is kept, and how that is told.
 use Rattle.std.proofs.Common.{◌≡◌, ℕ, List, ap, refl, subst, sym}
-use Rattle.std.specs.Prelude.{Option, Some, Result, Ok, Err, Bool}
+use Rattle.std.specs.Prelude.{Option, Some, Result, Err}
 use Rattle.git_object.specs.Repository.{Repository}
 use Rattle.keeper_api.specs.Undisturbed.{Undisturbed}
 use Rattle.keeper_api.specs.declared.keepers.Keeper as keeper
@@ -12,7 +12,7 @@ use Rattle.rsl_chain.specs.declared.log_faults.LogFault.{LogFault}
 use Rattle.rsl_chain.specs.declared.log_faults.LogFault.TheVariants as log
 use Rattle.dsse_envelope.specs.declared.envelope.Envelope.{Envelope}
 use Rattle.commands_log.proofs.Moved.{same_twice}
-use Rattle.commands_log.specs.Opening.{HoldsKey, IsAnyLength, WhyUnread, log_fault, unread_disk, unread_keeper}
+use Rattle.commands_log.specs.Opening.{IsAnyLength, WhyUnread, log_fault, unread_disk, unread_keeper}
 use Rattle.commands_log.specs.Recording as recording
 use Rattle.commands_log.specs.Untouched.{Untouched}
 use Rattle.commands_log.specs.declared.appending.AppendFault.{AppendFault}
@@ -23,7 +23,7 @@ use Rattle.commands_approvals.specs.Approving.{ApproveEnds, KeptEnds, TellsRefus
 use Rattle.commands_approvals.specs.Storing.{StoreEnds}
 use Rattle.commands_approvals.specs.Wanted.{HasRoom, IsFree, IsWanted, WhyNotWanted}
 use Rattle.commands_approvals.specs.declared.approving.ApproveFault.{ApproveFault}
-use Rattle.commands_approvals.specs.declared.approving.ApproveFault.TheVariants.{Unrecorded, Unreadable, Full, TooLong}
+use Rattle.commands_approvals.specs.declared.approving.ApproveFault.TheVariants.{Unrecorded}
 use Rattle.commands_approvals.specs.declared.ends.Ends.{Ends}
 use Rattle.commands_approvals.specs.declared.ends.NotWanted.{NotWanted}
 use Rattle.commands_approvals.specs.declared.ends.NotWanted.TheVariants as want

@@ -10,3 +10,5 @@ pub mod Lines
 pub mod Approving
 -- how it ends the program
 pub mod Outcomes
+-- the reads that it may cost
+pub mod Reading

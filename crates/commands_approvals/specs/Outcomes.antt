@@ -16,7 +16,6 @@ use Rattle.commands_log.specs.declared.appending.AppendFault.{AppendFault}
 use Rattle.commands_log.specs.declared.appending.AppendFault.TheVariants as append
 use Rattle.commands_log.specs.declared.opening.ReadingFault.{ReadingFault}
 use Rattle.commands_log.specs.declared.opening.ReadingFault.TheVariants as reading
-use Rattle.commands_log.specs.declared.recording.RecordFault.{RecordFault}
 use Rattle.commands_log.specs.declared.recording.RecordFault.TheVariants.{Unread, BreakUntold, Unappended, SinkFailed}
 use Rattle.commands_approvals.specs.Approving.{ApproveEnds}
 use Rattle.commands_approvals.specs.Wanted.{HasRoom, HasWanted, IsFree, IsFull, IsOverlong, IsUnreadable}

@@ -1,11 +1,13 @@
 //! The command `approve`.
 
-ghost use Rattle.std.specs.Prelude.{◌≡◌, ◌≤◌, []};
+ghost use Rattle.std.specs.Prelude.{◌≡◌, ◌≤◌, [], OnOk};
 ghost use Rattle.std.specs.Vec.{vec_capacity};
 ghost use Rattle.octets.specs.Causes.{HasCause};
+ghost use Rattle.octets.specs.Content.{Told};
 ghost use Rattle.edge_disk.specs.Moments.{LeavesOnly};
 ghost use Rattle.leaf_journal.specs.KeyFile.{KeepsUsed};
 ghost use Rattle.commands_approvals.specs.Approving.{ApproveEnds, TellsRefusal, clock_failed, disk_failed, keeper_failed, sink_failed, untold};
+ghost use Rattle.commands_approvals.specs.Reading.{ReadsFew};
 
 use crate::keeping::{NotApproved, keep_approval};
 use crate::lines::{LONGEST_LINE, write_approval_line};
@@ -57,7 +59,8 @@ fn tell_refusal<K: Sink>(why: NotApproved, line: Vec<u8>, sink: &mut K) -> Appro
 /// signature stands in place of the key's old one, or else last; all other files of the attestations stay. It reads the key
 /// file, then the log, then the target, the policies, and the approval under the attestations' value, asks the clock, signs
 /// with the first unused leaf, commits once and prints; the first refusal decides. The memory for the line is taken before
-/// anything is read.
+/// anything is read. Each entry of the log is read twice and judged; the target's state, the approval and its place are read
+/// once.
 pub fn approve<K: Sink, R: Keeper, D: Disk, C: Clock>(
     alloc: Global,
     name: &RefName,
@@ -73,6 +76,7 @@ pub fn approve<K: Sink, R: Keeper, D: Disk, C: Clock>(
     ensures keeper { HasCause keeper_failed (R.faults keeper.old) (R.faults keeper.new) result }
     ensures disk { HasCause disk_failed (D.faults disk.old) (D.faults disk.new) result }
     ensures clock { HasCause clock_failed (C.faults clock.old) (C.faults clock.new) result }
+    ensures reads { OnOk result (Told (λ r now. ReadsFew r target.now (R.reads keeper.old) (R.reads keeper.new)) (R.content keeper.old) (R.content keeper.new)) }
 {
     let Ok(mut line) = Vec::with_capacity(alloc, LONGEST_LINE) else {
         return Err(unrecorded(RecordFault::Unread {

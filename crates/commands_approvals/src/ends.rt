@@ -1,6 +1,6 @@
 //! What an approval goes from, and to.
 
-ghost use Rattle.std.specs.Prelude.{◌≡◌, List, Some, IfErr, IfOk};
+ghost use Rattle.std.specs.Prelude.{◌≡◌, ◌≤◌, ◌+◌, List, Some, IfErr, IfOk, OnOk};
 ghost use Rattle.octets.specs.Causes.{HasCause};
 ghost use Rattle.git_object.specs.Repository.{Repository};
 ghost use Rattle.keeper_api.specs.Faults.{keeper_failed};
@@ -13,6 +13,7 @@ ghost use Rattle.policy_epochs.specs.declared.policies.Policy.{Policy};
 ghost use Rattle.entry_rules.specs.declared.faults.Fault.{Fault};
 ghost use Rattle.rsl_chain.specs.Logs.{IsLogOf, IsUnbroken, fault_of_keeper, log_failed};
 ghost use Rattle.commands_approvals.specs.Ends.{ComesFrom, HasTree, IsBrokenAt, WhyNoEnds, not_failed};
+ghost use Rattle.commands_approvals.specs.Reading.{ReadsEntries, state_reads};
 
 use entry_rules::EntryRules;
 use git_object::{Ids, ObjectId, RefName};
@@ -60,6 +61,7 @@ fn read_from<R: Keeper>(
     ensures unbroken { IfErr result (λ fault. (r : Repository) → R.content keeper.new ≡ Some r → IsLogOf r ids.now → IsUnbroken fault) }
     ensures same { Undisturbed R.Keeper keeper.old keeper.new }
     ensures cause { HasCause log_failed (R.faults keeper.old) (R.faults keeper.new) result }
+    ensures reads { OnOk result ((r : Repository) → R.content keeper.new ≡ Some r → ReadsEntries r ids.now 0 (R.reads keeper.old) (R.reads keeper.new)) }
 {
     let rules = EntryRules::new(None);
     match judge_entries(alloc, keeper, &rules, ids.as_slice()) {
@@ -78,6 +80,7 @@ fn read_tree<R: Keeper>(
     ensures broken { IfOk result (λ found. IfErr found (λ id. (r : Repository) → R.content keeper.new ≡ Some r → IsBrokenAt r target.now id)) }
     ensures same { Undisturbed R.Keeper keeper.old keeper.new }
     ensures cause { HasCause keeper_failed (R.faults keeper.old) (R.faults keeper.new) result }
+    ensures reads { (r : Repository) → R.content keeper.new ≡ Some r → R.reads keeper.new ≤ R.reads keeper.old + state_reads r target.now }
 {
     match state_of(alloc, keeper, target)? {
         State::Absent => Ok(Ok(ObjectId::zeros())),
@@ -111,6 +114,7 @@ pub fn read_ends<R: Keeper>(
     ensures why { IfErr result (λ why. (r : Repository) → R.content keeper.new ≡ Some r → IsLogOf r ids.now → WhyNoEnds r target.now why) }
     ensures same { Undisturbed R.Keeper keeper.old keeper.new }
     ensures cause { HasCause not_failed (R.faults keeper.old) (R.faults keeper.new) result }
+    ensures reads { OnOk result ((r : Repository) → R.content keeper.new ≡ Some r → ReadsEntries r ids.now (state_reads r target.now) (R.reads keeper.old) (R.reads keeper.new)) }
 {
     let from = match read_from(alloc, name, ids, keeper) {
         Ok(from) => from,

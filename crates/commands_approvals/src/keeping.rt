@@ -1,10 +1,12 @@
 //! Reading, signing and keeping an approval, before anything is printed.
 
-ghost use Rattle.std.specs.Prelude.{◌≡◌};
+ghost use Rattle.std.specs.Prelude.{◌≡◌, OnOk};
 ghost use Rattle.octets.specs.Causes.{HasCause};
+ghost use Rattle.octets.specs.Content.{Told};
 ghost use Rattle.edge_disk.specs.Moments.{LeavesOnly};
 ghost use Rattle.leaf_journal.specs.KeyFile.{KeepsUsed};
 ghost use Rattle.commands_approvals.specs.Approving.{KeptEnds, no_clock, no_disk, no_keeper, not_kept};
+ghost use Rattle.commands_approvals.specs.Reading.{ReadsFew};
 
 use crate::ends::{Ends, NotWanted};
 use crate::preparing::prepare;
@@ -58,6 +60,7 @@ pub fn keep_approval<R: Keeper, D: Disk, C: Clock>(
     ensures keeper { HasCause no_keeper (R.faults keeper.old) (R.faults keeper.new) result }
     ensures disk { HasCause no_disk (D.faults disk.old) (D.faults disk.new) result }
     ensures clock { HasCause no_clock (C.faults clock.old) (C.faults clock.new) result }
+    ensures reads { OnOk result (Told (λ r now. ReadsFew r target.now (R.reads keeper.old) (R.reads keeper.new)) (R.content keeper.old) (R.content keeper.new)) }
 {
     let opened = match open_whole_log(alloc, keeper, disk) {
         Ok(opened) => opened,

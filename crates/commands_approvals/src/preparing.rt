@@ -1,6 +1,6 @@
 //! The approval that is to be signed, and its place: all that `approve` reads of a store behind the log.
 
-ghost use Rattle.std.specs.Prelude.{◌≡◌, Some, None, true, IfErr, IfOk, IsUtf8};
+ghost use Rattle.std.specs.Prelude.{◌≡◌, ◌≤◌, ◌+◌, Some, None, true, IfErr, IfOk, IsUtf8, OnOk};
 ghost use Rattle.octets.specs.Causes.{HasCause};
 ghost use Rattle.git_object.specs.Repository.{Repository, value_of};
 ghost use Rattle.keeper_api.specs.Faults.{keeper_failed};
@@ -13,6 +13,7 @@ ghost use Rattle.attesting.specs.Attesting.{attestations_name};
 ghost use Rattle.attesting.specs.Sites.{IsFitSite, IsSiteOf};
 ghost use Rattle.key_seals.specs.Seals.{IsSealable, id_text};
 ghost use Rattle.commands_approvals.specs.Ends.{ComesFrom, HasTree, not_failed};
+ghost use Rattle.commands_approvals.specs.Reading.{ReadsEntries, state_reads};
 ghost use Rattle.commands_approvals.specs.Wanted.{HasRoom, IsApprovalOf, IsPrepared, IsWanted, WhyNoPlace, WhyNoRoom, WhyNotWanted, WhyUnprepared, approval_or, no_place};
 
 use crate::ends::{Ends, NotWanted, read_ends};
@@ -73,6 +74,7 @@ fn read_attestations<R: Keeper>(alloc: Global, keeper: &mut R) -> Result<ObjectI
     ensures value { IfOk result (λ id. (r : Repository) → R.content keeper.new ≡ Some r → id ≡ value_of r attestations_name) }
     ensures same { Undisturbed R.Keeper keeper.old keeper.new }
     ensures cause { HasCause keeper_failed (R.faults keeper.old) (R.faults keeper.new) result }
+    ensures reads { R.reads keeper.new ≡ R.reads keeper.old }
 {
     let name = attestations_ref(alloc)?;
     match keeper.read_ref(alloc, &name) {
@@ -108,6 +110,7 @@ fn read_envelope<R: Keeper>(
     ensures sealable { IfOk result IsSealable }
     ensures same { Undisturbed R.Keeper keeper.old keeper.new }
     ensures cause { HasCause keeper_failed (R.faults keeper.old) (R.faults keeper.new) result }
+    ensures reads { R.reads keeper.new ≤ R.reads keeper.old + 28 }
 {
     match load_approval(alloc, keeper, attestations, name, &ends.from, &ends.tree)? {
         Some(envelope) => Ok(envelope),
@@ -131,6 +134,7 @@ fn read_found<R: Keeper>(
     ensures sealable { IfOk result (λ found. IsSealable found.envelope) }
     ensures same { Undisturbed R.Keeper keeper.old keeper.new }
     ensures cause { HasCause keeper_failed (R.faults keeper.old) (R.faults keeper.new) result }
+    ensures reads { R.reads keeper.new ≤ R.reads keeper.old + 28 }
 {
     let attestations = read_attestations(alloc, keeper)?;
     let envelope = read_envelope(alloc, &attestations, name, ends, keeper)?;
@@ -186,6 +190,7 @@ fn find_place<R: Keeper>(
     ensures why { IfErr result (λ why. (r : Repository) → R.content keeper.new ≡ Some r → WhyNoPlace r attestations.now name.now ends.now why) }
     ensures same { Undisturbed R.Keeper keeper.old keeper.new }
     ensures cause { HasCause not_failed (R.faults keeper.old) (R.faults keeper.new) result }
+    ensures reads { R.reads keeper.new ≤ R.reads keeper.old + 27 }
 {
     match find_site(
         alloc,
@@ -215,6 +220,7 @@ fn prepare_between<R: Keeper>(
     ensures why { IfErr result (λ why. (r : Repository) → R.content keeper.new ≡ Some r → WhyUnprepared r name.now ends key.now.signer.secret why) }
     ensures same { Undisturbed R.Keeper keeper.old keeper.new }
     ensures cause { HasCause not_failed (R.faults keeper.old) (R.faults keeper.new) result }
+    ensures reads { R.reads keeper.new ≤ R.reads keeper.old + 55 }
 {
     let found = match read_found(alloc, name, &ends, keeper) {
         Ok(found) => found,
@@ -257,6 +263,7 @@ pub fn prepare<R: Keeper>(
         → WhyNotWanted name.now target.now r opened.now.log.ids opened.now.key.signer.secret why) }
     ensures same { Undisturbed R.Keeper keeper.old keeper.new }
     ensures cause { HasCause not_failed (R.faults keeper.old) (R.faults keeper.new) result }
+    ensures reads { OnOk result ((r : Repository) → R.content keeper.new ≡ Some r → ReadsEntries r opened.now.log.ids (state_reads r target.now + 55) (R.reads keeper.old) (R.reads keeper.new)) }
 {
     let ends = match read_ends(alloc, name, target, &opened.log.ids, keeper) {
         Ok(ends) => ends,

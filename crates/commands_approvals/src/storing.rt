@@ -118,6 +118,7 @@ fn keep_prepared<R: Keeper, D: Disk>(
     ensures any_moment { LeavesOnly D.moment D.left_since disk.old disk.new (KeepsUsed (D.may_leave disk.old)) }
     ensures keeper { HasCause commit_failed (R.faults keeper.old) (R.faults keeper.new) result }
     ensures disk { HasCause disk_failed (D.faults disk.old) (D.faults disk.new) result }
+    ensures reads { R.reads keeper.new ≡ R.reads keeper.old }
 {
     let ends = prepared.ends;
     let attested = match sign_prepared(alloc, key, name, prepared, seconds, disk) {
@@ -154,6 +155,7 @@ pub fn store_approval<R: Keeper, D: Disk, C: Clock>(
     ensures keeper { HasCause commit_failed (R.faults keeper.old) (R.faults keeper.new) result }
     ensures disk { HasCause disk_failed (D.faults disk.old) (D.faults disk.new) result }
     ensures clock { HasCause clock_failed (C.faults clock.old) (C.faults clock.new) result }
+    ensures reads { R.reads keeper.new ≡ R.reads keeper.old }
 {
     let seconds = match clock.seconds() {
         Ok(seconds) => seconds,

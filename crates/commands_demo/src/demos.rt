@@ -1,8 +1,10 @@
 //! The command `demo`.
 
-ghost use Rattle.std.specs.Prelude.{◌≡◌, ◌≤◌};
+ghost use Rattle.std.specs.Prelude.{◌≡◌, ◌≤◌, None, OnOk, Some};
 ghost use Rattle.octets.specs.Causes.{HasCause};
+ghost use Rattle.git_object.specs.Repository.{Repository};
 ghost use Rattle.endings.specs.Counts.{Faults, IsCounted};
+ghost use Rattle.verify_ref.specs.Reading.{ReadsVerdict};
 ghost use Rattle.demo_making.specs.Histories.{main_name};
 ghost use Rattle.commands_demo.specs.Demos.{DemoEnds, JudgeEnds, demo_ending, fill_ending, judge_fault, keeper_failed};
 
@@ -104,6 +106,7 @@ fn fill_and_judge<R: Keeper>(
     requires name { name.now ≡ main_name }
     ensures ends { JudgeEnds count R.Keeper keeper.old keeper.new result }
     ensures cause { HasCause keeper_failed (R.faults keeper.old) (R.faults keeper.new) result }
+    ensures reads { OnOk result ((r : Repository) → R.content keeper.new ≡ Some r → ReadsVerdict None r (R.reads keeper.old) (R.reads keeper.new)) }
 {
     match fill(alloc, count, keeper) {
         Ok(()) => {}
@@ -126,6 +129,7 @@ pub fn demo<K: Sink, R: Keeper>(
 ) -> Result<RefVerdict, DemoFault>
     requires { count ≤ 500 }
     ensures ends { DemoEnds count R.Keeper keeper.old keeper.new (K.contents sink.old) (K.contents sink.new) result }
+    ensures reads { OnOk result ((r : Repository) → R.content keeper.new ≡ Some r → ReadsVerdict None r (R.reads keeper.old) (R.reads keeper.new)) }
     ensures counted { (rest : Faults) → IsCounted (demo_ending result)
         (record rest { sink = K.faults sink.old; keeper = R.faults keeper.old })
         (record rest { sink = K.faults sink.new; keeper = R.faults keeper.new }) }

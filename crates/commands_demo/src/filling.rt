@@ -1,6 +1,6 @@
 //! Filling an empty store with a demonstration.
 
-ghost use Rattle.std.specs.Prelude.{◌≤◌};
+ghost use Rattle.std.specs.Prelude.{◌≡◌, ◌≤◌};
 ghost use Rattle.octets.specs.Causes.{HasCause};
 ghost use Rattle.commands_demo.specs.Filling.{FillEnds, fill_failed};
 
@@ -23,11 +23,12 @@ pub enum FillFault {
 }
 
 /// Fills a store that holds nothing with a demonstration of so many changes, by one commit. `NotEmpty` comes exactly where it
-/// holds something, before anything is made.
+/// holds something, before anything is made. It reads no object.
 pub fn fill<R: Keeper>(alloc: Global, count: u32, keeper: &mut R) -> Result<(), FillFault>
     requires { count ≤ 500 }
     ensures ends { FillEnds count R.Keeper keeper.old keeper.new result }
     ensures cause { HasCause fill_failed (R.faults keeper.old) (R.faults keeper.new) result }
+    ensures reads { R.reads keeper.new ≡ R.reads keeper.old }
 {
     match is_empty(alloc, keeper) {
         Ok(true) => {}

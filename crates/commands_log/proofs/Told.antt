@@ -19,7 +19,7 @@ use Rattle.commands_log.specs.declared.appending.Appended.{Appended}
 
 module _ {R D : Type 0} (keeper_of : keeper.Ghosts R) (disk_of : disk.Ghosts D) (secret : Secret) (old new : R) (file file_now : D) (ids : List (List ℕ)) (body : EntryBody) (left left_now : Option (List ℕ)) where
   -- what is told afterwards was told before
-  told_before : (result : Result Appended AppendFault) → AppendEnds keeper_of disk_of secret old new file file_now ids body left left_now result
+  pub told_before : (result : Result Appended AppendFault) → AppendEnds keeper_of disk_of secret old new file file_now ids body left left_now result
       → (now : Repository) → keeper_of.content new ≡ Some now → (was : Repository) × (keeper_of.content old ≡ Some was)
   told_before (Ok appended) ends now held = (let was = ends.0.is.gains.held now held in (was.0, was.1))
   told_before (Err ClockFailed) ends now held = (now, ends.0.store.content now held)

@@ -80,6 +80,7 @@ pub fn open_whole_log<R: Keeper, D: Disk>(
     ensures keeper { HasCause unread_keeper (R.faults keeper.old) (R.faults keeper.new) result }
     ensures disk { HasCause unread_disk (D.faults disk.old) (D.faults disk.new) result }
     ensures reads { R.reads keeper.new ≤ R.reads keeper.old + 1000000 }
+    ensures each { IfOk result (λ opened. R.reads keeper.new ≤ R.reads keeper.old + length opened.log.ids) }
 {
     let key = match open_key(alloc, disk) {
         Ok(key) => key,
@@ -111,6 +112,7 @@ pub fn open_log<R: Keeper, D: Disk>(
     ensures keeper { HasCause unread_keeper (R.faults keeper.old) (R.faults keeper.new) result }
     ensures disk { HasCause unread_disk (D.faults disk.old) (D.faults disk.new) result }
     ensures reads { R.reads keeper.new ≤ R.reads keeper.old + 1000000 }
+    ensures each { IfOk result (λ opened. R.reads keeper.new ≤ R.reads keeper.old + length opened.log.ids) }
 {
     let opened = match open_whole_log(alloc, keeper, disk) {
         Ok(opened) => opened,

@@ -1,10 +1,15 @@
 //! The command `policy-apply`.
 
-ghost use Rattle.std.specs.Prelude.{◌≡◌};
+ghost use Rattle.std.specs.Prelude.{◌≡◌, ℕ, List, IsErrOf, OnOk, Some};
 ghost use Rattle.octets.specs.Causes.{HasCause};
+ghost use Rattle.octets.specs.Content.{Told};
 ghost use Rattle.edge_disk.specs.Moments.{LeavesOnly};
+ghost use Rattle.git_object.specs.Repository.{Repository};
 ghost use Rattle.leaf_journal.specs.KeyFile.{KeepsUsed};
+ghost use Rattle.policy_epochs.specs.declared.faults.PolicyFault.{PolicyFault};
 ghost use Rattle.commands_policy.specs.Applying.{ApplyEnds, clock_failed, disk_failed, keeper_failed, sink_failed};
+ghost use Rattle.commands_policy.specs.Reading.{ReadsPolicies};
+ghost use Rattle.commands_policy.specs.declared.applying.ApplyFault.TheVariants as apply;
 
 use crate::policies::{NotApplied, append_policy};
 use commands_log::{
@@ -36,7 +41,7 @@ fn unrecorded(fault: RecordFault) -> ApplyFault
 /// Adds an entry to the log that records the value of the policy's reference, and prints its line, where the entry is an epoch
 /// whatever keys the first root has. It reads the key file, then the log, then the reference and the policies, asks the clock,
 /// signs with the first unused leaf, commits once and prints; the first refusal decides. The memory for the line is taken
-/// before anything is read.
+/// before anything is read. Each entry of the log is read twice, and each policy that one brings, and the new one, once.
 pub fn policy_apply<K: Sink, R: Keeper, D: Disk, C: Clock>(
     alloc: Global,
     sink: &mut K,
@@ -50,6 +55,8 @@ pub fn policy_apply<K: Sink, R: Keeper, D: Disk, C: Clock>(
     ensures keeper { HasCause keeper_failed (R.faults keeper.old) (R.faults keeper.new) result }
     ensures disk { HasCause disk_failed (D.faults disk.old) (D.faults disk.new) result }
     ensures clock { HasCause clock_failed (C.faults clock.old) (C.faults clock.new) result }
+    ensures reads { OnOk result (Told (λ r now. ReadsPolicies r (R.reads keeper.old) (R.reads keeper.new)) (R.content keeper.old) (R.content keeper.new)) }
+    ensures reads_refused { (why : PolicyFault) (line : List ℕ) → IsErrOf result (apply.Refused why line) → (r : Repository) → R.content keeper.new ≡ Some r → ReadsPolicies r (R.reads keeper.old) (R.reads keeper.new) }
 {
     let Ok(mut line) = Vec::with_capacity(alloc, LONGEST_LINE) else {
         return Err(unrecorded(RecordFault::Unread {

@@ -1,12 +1,13 @@
 //! The command `explain`.
 
-ghost use Rattle.std.specs.Prelude.{◌≡◌, IfErr, IfOk, Some};
+ghost use Rattle.std.specs.Prelude.{◌≡◌, IfErr, IfOk, OnOk, Some};
 ghost use Rattle.octets.specs.Causes.{HasCause};
 ghost use Rattle.git_object.specs.Repository.{Repository};
 ghost use Rattle.keeper_api.specs.Undisturbed.{Undisturbed};
 ghost use Rattle.rsl_chain.specs.Logs.{IsBrokenAs, log_failed};
 ghost use Rattle.endings.specs.Counts.{Faults, IsCounted};
 ghost use Rattle.commands_history.specs.Faults.{of_keeper, of_sink};
+ghost use Rattle.log_epochs.specs.Reading.{ReadsLog};
 ghost use Rattle.commands_policy.specs.Explaining.{ExplainEnds, ExplainsLog, Prints, explain_ending};
 
 use crate::rule_lines::text_of;
@@ -50,6 +51,7 @@ fn load_text<R: Keeper>(
     ensures broken { IfErr result (λ fault. (r : Repository) → R.content keeper.new ≡ Some r → IsBrokenAs r fault) }
     ensures same { Undisturbed R.Keeper keeper.old keeper.new }
     ensures cause { HasCause log_failed (R.faults keeper.old) (R.faults keeper.new) result }
+    ensures reads { OnOk result ((r : Repository) → R.content keeper.new ≡ Some r → ReadsLog r (R.reads keeper.old) (R.reads keeper.new)) }
 {
     let epochs = match load_epochs(alloc, keeper, None) {
         Ok(epochs) => epochs,
@@ -79,6 +81,7 @@ fn print_text<K: Sink, R: Keeper>(
     ensures same { Undisturbed R.Keeper keeper.old keeper.new }
     ensures keeper_cause { HasCause of_keeper (R.faults keeper.old) (R.faults keeper.new) result }
     ensures sink_cause { HasCause of_sink (K.faults sink.old) (K.faults sink.new) result }
+    ensures reads { OnOk result ((r : Repository) → R.content keeper.new ≡ Some r → ReadsLog r (R.reads keeper.old) (R.reads keeper.new)) }
 {
     let text = load_text(alloc, space, name, keeper)?;
     write_all(sink, text.as_slice())?;
@@ -87,7 +90,8 @@ fn print_text<K: Sink, R: Keeper>(
 
 /// Prints which rules protect a name under the policy in force after the whole log: a line for each reached rule in pre-order,
 /// `unprotected` where there is none, or `no-policy`. `Broken` comes exactly where the log breaks, and the line that names the
-/// break was printed. After the other refusals a front of the text went out. The store is as before.
+/// break was printed. After the other refusals a front of the text went out. The store is as before. Each entry of the log is
+/// read twice, and each policy that one brings once.
 pub fn explain<K: Sink, R: Keeper>(
     alloc: Global,
     space: Space,
@@ -97,6 +101,7 @@ pub fn explain<K: Sink, R: Keeper>(
 ) -> Result<(), LogCommandFault>
     ensures ends { ExplainEnds (R.content keeper.new) (K.contents sink.old) (K.contents sink.new) (record { space = space; text = name.now }) result }
     ensures same { Undisturbed R.Keeper keeper.old keeper.new }
+    ensures reads { OnOk result ((r : Repository) → R.content keeper.new ≡ Some r → ReadsLog r (R.reads keeper.old) (R.reads keeper.new)) }
     ensures counted { (rest : Faults) → IsCounted (explain_ending result)
         (record rest { sink = K.faults sink.old; keeper = R.faults keeper.old })
         (record rest { sink = K.faults sink.new; keeper = R.faults keeper.new }) }

@@ -1,14 +1,20 @@
 //! Reading the policy that is to be recorded, and adding its entry, before anything is printed.
 
-ghost use Rattle.std.specs.Prelude.{◌≡◌, IfErr, IfOk, Some};
+ghost use Rattle.std.specs.Prelude.{◌≡◌, ◌≤◌, ◌+◌, ℕ, List, IfErr, IfOk, IsErrOf, OnOk, Some, sum_by};
 ghost use Rattle.octets.specs.Causes.{HasCause};
+ghost use Rattle.octets.specs.Content.{Told};
 ghost use Rattle.edge_disk.specs.Moments.{LeavesOnly};
-ghost use Rattle.git_object.specs.Repository.{Repository};
+ghost use Rattle.git_object.specs.Repository.{Repository, value_of};
 ghost use Rattle.keeper_api.specs.Undisturbed.{Undisturbed};
 ghost use Rattle.leaf_journal.specs.KeyFile.{KeepsUsed};
 ghost use Rattle.log_entries.specs.Entries.{policy_name};
 ghost use Rattle.rsl_chain.specs.Logs.{IsBrokenAs, IsLogOf, log_failed};
+ghost use Rattle.policy_epochs.specs.declared.faults.PolicyFault.{PolicyFault};
+ghost use Rattle.policy_reading.specs.Policies.{policy_reads};
+ghost use Rattle.log_epochs.specs.Reading.{entry_reads};
+ghost use Rattle.commands_policy.specs.Reading.{ReadsPolicies};
 ghost use Rattle.commands_policy.specs.Applying.{IsRefusal, Judges, PolicyEnds, no_clock, no_disk, no_keeper, policy_line};
+ghost use Rattle.commands_policy.specs.declared.policies.NotApplied.TheVariants as none;
 
 use commands_log::{AppendFault, Appended, ReadingFault, append_entry, open_log, unread_log};
 use edge_clock::Clock;
@@ -76,6 +82,7 @@ fn judge_value<R: Keeper>(
     ensures broken { IfErr result (λ fault. (r : Repository) → R.content keeper.new ≡ Some r → IsLogOf r ids.now → IsBrokenAs r fault) }
     ensures same { Undisturbed R.Keeper keeper.old keeper.new }
     ensures cause { HasCause log_failed (R.faults keeper.old) (R.faults keeper.new) result }
+    ensures reads { (r : Repository) → R.content keeper.new ≡ Some r → R.reads keeper.new ≤ R.reads keeper.old + (sum_by (entry_reads r) ids.now + policy_reads r (value_of r name.now)) }
 {
     let found = match keeper.read_ref(alloc, name) {
         Ok(found) => found,
@@ -102,6 +109,8 @@ pub fn append_policy<R: Keeper, D: Disk, C: Clock>(
     ensures keeper { HasCause no_keeper (R.faults keeper.old) (R.faults keeper.new) result }
     ensures disk { HasCause no_disk (D.faults disk.old) (D.faults disk.new) result }
     ensures clock { HasCause no_clock (C.faults clock.old) (C.faults clock.new) result }
+    ensures reads { OnOk result (Told (λ r now. ReadsPolicies r (R.reads keeper.old) (R.reads keeper.new)) (R.content keeper.old) (R.content keeper.new)) }
+    ensures reads_refused { (why : PolicyFault) (line : List ℕ) → IsErrOf result (none.Refused why line) → (r : Repository) → R.content keeper.new ≡ Some r → ReadsPolicies r (R.reads keeper.old) (R.reads keeper.new) }
 {
     let Ok(name) = policy_ref(alloc) else {
         return Err(NotApplied::Unread {

@@ -1,11 +1,11 @@
 -- There is at most one outcome for the same words and content.
 use Rattle.std.proofs.Common.{◌≡◌, inl, inr, ℕ, List, [], refl, sym, ap, ◌∙◌, subst}
-use Rattle.std.specs.Prelude.{Option, Some, None, IsSome, Ok, Err, Bool, IsTrue, false, Result}
+use Rattle.std.specs.Prelude.{Option, Ok, Err, Bool, IsTrue, false, Result}
 use Rattle.std.specs.FinMap.{get}
 use Rattle.std.proofs.lemmas.Bool.{false≢true}
 use Rattle.std.proofs.lemmas.List.{append-nil}
 use Rattle.git_object.specs.Names.{log_name}
-use Rattle.git_object.specs.Repository.{Repository, value_of}
+use Rattle.git_object.specs.Repository.{Repository}
 use Rattle.rsl_chain.specs.Chain.{OneBreak}
 use Rattle.rsl_chain.specs.Logs.{IsBreakOf, heads_of}
 use Rattle.clone_stream.specs.ExportLaws.{OneExport}

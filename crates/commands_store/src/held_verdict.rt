@@ -1,8 +1,10 @@
 //! Judging a reference of the repository that a keeper holds.
 
-ghost use Rattle.std.specs.Prelude.{◌≡◌, IfOk};
+ghost use Rattle.std.specs.Prelude.{◌≡◌, IfOk, OnOk, Some};
 ghost use Rattle.octets.specs.Causes.{HasCause};
+ghost use Rattle.git_object.specs.Repository.{Repository};
 ghost use Rattle.keeper_api.specs.Undisturbed.{Undisturbed};
+ghost use Rattle.verify_ref.specs.Reading.{ReadsVerdict};
 ghost use Rattle.commands_store.specs.Judging.{Judges, fault_of, judge_failed};
 ghost use Rattle.commands_store.specs.Verdicts.{anchor_of};
 
@@ -47,6 +49,7 @@ pub(crate) fn judge<R: Keeper>(
     ensures judges { Judges name.now root.now (R.content keeper.new) result }
     ensures same { Undisturbed R.Keeper keeper.old keeper.new }
     ensures cause { HasCause judge_failed (R.faults keeper.old) (R.faults keeper.new) result }
+    ensures reads { OnOk result ((r : Repository) → R.content keeper.new ≡ Some r → ReadsVerdict (anchor_of root.now) r (R.reads keeper.old) (R.reads keeper.new)) }
 {
     let Ok(anchor) = anchor_of(alloc, root) else {
         return Err(VerifyFault::Memory);

@@ -1,7 +1,10 @@
 //! The command `verify-ref`.
 
-ghost use Rattle.std.specs.Prelude.{◌≡◌, false};
+ghost use Rattle.std.specs.Prelude.{◌≡◌, false, OnOk, Some};
+ghost use Rattle.git_object.specs.Repository.{Repository};
 ghost use Rattle.endings.specs.Counts.{Faults, IsCounted};
+ghost use Rattle.verify_ref.specs.Reading.{ReadsVerdict};
+ghost use Rattle.commands_store.specs.Verdicts.{anchor_of};
 ghost use Rattle.commands_store.specs.Verifying.{LookEnds, VerifyEnds, verify_ending};
 
 use crate::held_verdict::judge;
@@ -73,6 +76,7 @@ fn look<S: Source, R: Keeper>(
 ) -> Result<RefVerdict, VerifyFault>
     ensures ends { LookEnds name.now root.now stdin R.Keeper (S.left source.old) (S.left source.new) keeper.old keeper.new result }
     ensures unread { stdin ≡ false → source.new ≡ source.old }
+    ensures reads { OnOk result ((r : Repository) → R.content keeper.new ≡ Some r → ReadsVerdict (anchor_of root.now) r (R.reads keeper.old) (R.reads keeper.new)) }
     ensures counted { (rest : Faults) → IsCounted (verify_ending result)
         (record rest { source = S.faults source.old; keeper = R.faults keeper.old })
         (record rest { source = S.faults source.new; keeper = R.faults keeper.new }) }
@@ -86,7 +90,8 @@ fn look<S: Source, R: Keeper>(
 
 /// Opens the repository - the source's stream where `stdin` asks for it, else what the store holds -, judges the
 /// reference, and prints the verdict's line, or the line that says at which commit the log breaks. Where no stream is
-/// asked for, the source is not touched. Where ids of keys are given, the first policy must have exactly these.
+/// asked for, the source is not touched. Where ids of keys are given, the first policy must have exactly these. Each entry of
+/// the log is read twice, and beside that what judging it asks for.
 pub fn verify_ref<S: Source, K: Sink, R: Keeper>(
     alloc: Global,
     name: &RefName,
@@ -98,6 +103,7 @@ pub fn verify_ref<S: Source, K: Sink, R: Keeper>(
 ) -> Result<RefVerdict, VerifyFault>
     ensures ends { VerifyEnds name.now root.now stdin R.Keeper (S.left source.old) (S.left source.new) keeper.old keeper.new (K.contents sink.old) (K.contents sink.new) result }
     ensures unread { stdin ≡ false → source.new ≡ source.old }
+    ensures reads { OnOk result ((r : Repository) → R.content keeper.new ≡ Some r → ReadsVerdict (anchor_of root.now) r (R.reads keeper.old) (R.reads keeper.new)) }
     ensures counted { (rest : Faults) → IsCounted (verify_ending result)
         (record rest { source = S.faults source.old; sink = K.faults sink.old; keeper = R.faults keeper.old })
         (record rest { source = S.faults source.new; sink = K.faults sink.new; keeper = R.faults keeper.new }) }

@@ -1,10 +1,9 @@
 -- Reading where a reference stands, and then storing a snapshot.
-use Rattle.std.proofs.Common.{◌≡◌, ℕ, List, inl, inr, ⊎_elim, refl}
+use Rattle.std.proofs.Common.{◌≡◌, ℕ, List, inl, refl}
 use Rattle.std.specs.Prelude.{Option, Some}
 use Rattle.git_object.specs.Objects.{pair_id}
 use Rattle.git_object.specs.Repository.{Repository}
 use Rattle.keeper_api.specs.Undisturbed.{Undisturbed}
-use Rattle.keeper_api.specs.declared.changes.Change.{Change}
 use Rattle.keeper_api.specs.declared.keepers.Keeper as keeper
 use Rattle.store_changes.proofs.Committed.{gains_from, may_gain_from}
 use Rattle.commands_trees.specs.Parents.{IsParent, WhyNoParent}

@@ -1,6 +1,6 @@
 //! Where a reference stands before a snapshot.
 
-ghost use Rattle.std.specs.Prelude.{◌≡◌, ◌↔◌, IfOk, IfErr, IsTrue, Some};
+ghost use Rattle.std.specs.Prelude.{◌≡◌, ◌≤◌, ◌+◌, ◌↔◌, IfOk, IfErr, IsTrue, Some};
 ghost use Rattle.octets.specs.Causes.{HasCause};
 ghost use Rattle.git_object.specs.Commits.{IsCommit};
 ghost use Rattle.git_object.specs.Repository.{Repository};
@@ -47,6 +47,7 @@ fn has_commit<R: Keeper>(alloc: Global, keeper: &mut R, id: &ObjectId) -> Result
     ensures has { IfOk result (λ has. (r : Repository) → R.content keeper.new ≡ Some r → IsTrue has ↔ HasCommit r id.now) }
     ensures same { Undisturbed R.Keeper keeper.old keeper.new }
     ensures cause { HasCause keeper_failed (R.faults keeper.old) (R.faults keeper.new) result }
+    ensures reads { R.reads keeper.new ≤ R.reads keeper.old + 1 }
 {
     let Some(object) = load_object(alloc, keeper, id)? else {
         return Ok(false);
@@ -60,7 +61,7 @@ fn has_commit<R: Keeper>(alloc: Global, keeper: &mut R, id: &ObjectId) -> Result
     }
 }
 
-/// The commit at which a reference stands, or none where it is not there.
+/// The commit at which a reference stands, or none where it is not there. It makes at most one read.
 pub fn read_parent<R: Keeper>(
     alloc: Global,
     name: &RefName,
@@ -70,6 +71,7 @@ pub fn read_parent<R: Keeper>(
     ensures why { IfErr result (λ fault. (r : Repository) → R.content keeper.new ≡ Some r → WhyNoParent name.now fault r) }
     ensures same { Undisturbed R.Keeper keeper.old keeper.new }
     ensures cause { HasCause parent_failed (R.faults keeper.old) (R.faults keeper.new) result }
+    ensures reads { R.reads keeper.new ≤ R.reads keeper.old + 1 }
 {
     let id = match keeper.read_ref(alloc, name) {
         Ok(Some(id)) => id,

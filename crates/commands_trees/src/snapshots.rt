@@ -64,6 +64,7 @@ fn take_snapshot<S: Source, R: Keeper, C: Clock>(
     ensures source { HasCause source_failed (S.faults source.old) (S.faults source.new) result }
     ensures keeper { HasCause keeper_failed (R.faults keeper.old) (R.faults keeper.new) result }
     ensures clock { HasCause clock_failed (C.faults clock.old) (C.faults clock.new) result }
+    ensures reads { R.reads keeper.new ≤ R.reads keeper.old + 1 }
 {
     let made = match take_listing(alloc, source) {
         Ok(made) => made,
@@ -78,7 +79,8 @@ fn take_snapshot<S: Source, R: Keeper, C: Clock>(
 /// Makes a commit of the listing that the source gives, with the commit at which the reference stands as its only
 /// parent, if it is there, sets the reference to it, and prints its line. The new objects are the listing's blobs, the
 /// trees and the commit. The source is read to its end first, then the reference, then the clock is asked, and one
-/// change is committed; the first refusal decides. The memory for the line is taken before anything is read.
+/// change is committed; the first refusal decides. The memory for the line is taken before anything is read. At most one
+/// object is read, the commit at which the reference stands.
 pub fn snapshot<S: Source, K: Sink, R: Keeper, C: Clock>(
     alloc: Global,
     name: &RefName,
@@ -91,6 +93,7 @@ pub fn snapshot<S: Source, K: Sink, R: Keeper, C: Clock>(
     ensures counted { (rest : Faults) → IsCounted (snapshot_ending result)
         (record rest { source = S.faults source.old; sink = K.faults sink.old; keeper = R.faults keeper.old; clock = C.faults clock.old })
         (record rest { source = S.faults source.new; sink = K.faults sink.new; keeper = R.faults keeper.new; clock = C.faults clock.new }) }
+    ensures reads { R.reads keeper.new ≤ R.reads keeper.old + 1 }
 {
     let Ok(mut line) = Vec::with_capacity(alloc, COMMIT_LINE) else {
         return Err(SnapshotFault::Untaken {

@@ -1,6 +1,6 @@
 //! Storing a snapshot: its commit, and one change of the store.
 
-ghost use Rattle.std.specs.Prelude.{◌≡◌, IfOk};
+ghost use Rattle.std.specs.Prelude.{◌≡◌, ◌≤◌, ◌+◌, IfOk};
 ghost use Rattle.octets.specs.Causes.{HasCause};
 ghost use Rattle.keeper_api.specs.Faults as failed;
 ghost use Rattle.commands_trees.specs.Storing.{CommitEnds, StoringEnds, clock_failed, keeper_failed, no_parent, snapshot_change, snapshot_commit};
@@ -61,6 +61,7 @@ fn commit_made<R: Keeper>(
 ) -> Result<ObjectId, KeeperFault>
     ensures ends { CommitEnds R.Keeper name.now made parent seconds keeper.old keeper.new result }
     ensures cause { HasCause failed.keeper_failed (R.faults keeper.old) (R.faults keeper.new) result }
+    ensures reads { R.reads keeper.new ≡ R.reads keeper.old }
 {
     let Made { objects, root } = made;
     let Ok(commit) = commit_object(alloc, root, parent, seconds, b"snapshot\n") else {
@@ -99,6 +100,7 @@ pub fn store_snapshot<R: Keeper, C: Clock>(
     ensures ends { StoringEnds R.Keeper name.now made (C.left clock.old) (C.left clock.new) keeper.old keeper.new result }
     ensures keeper { HasCause keeper_failed (R.faults keeper.old) (R.faults keeper.new) result }
     ensures clock { HasCause clock_failed (C.faults clock.old) (C.faults clock.new) result }
+    ensures reads { R.reads keeper.new ≤ R.reads keeper.old + 1 }
 {
     let parent = match read_parent(alloc, name, keeper) {
         Ok(parent) => parent,

@@ -1,6 +1,6 @@
 //! Taking the entries of a log, one after the other.
 
-ghost use Rattle.std.specs.Prelude.{◌≡◌, List, IfErr, IfOk, OnOk, Some};
+ghost use Rattle.std.specs.Prelude.{◌≡◌, ◌≤◌, ◌+◌, ℕ, List, IfErr, IfOk, OnOk, Some, length, sum_by};
 ghost use Rattle.std.specs.Str.{bytes_eq};
 ghost use Rattle.octets.specs.Causes.{HasCause};
 ghost use Rattle.git_object.specs.Repository.{Repository};
@@ -8,10 +8,12 @@ ghost use Rattle.keeper_api.specs.Faults.{keeper_failed};
 ghost use Rattle.keeper_api.specs.Undisturbed.{Undisturbed};
 ghost use Rattle.log_entries.specs.Entries.{policy_name};
 ghost use Rattle.log_entries.specs.declared.entries.Entry.{Entry};
-ghost use Rattle.rsl_chain.specs.Logs.{IsBrokenAs, IsNamed, IsNoEntryAs, log_failed};
+ghost use Rattle.rsl_chain.specs.Logs.{IsBrokenAs, IsLogOf, IsNamed, IsNoEntryAs, log_failed};
 ghost use Rattle.commands_history.specs.Histories.{AreEntriesAt};
 ghost use Rattle.policy_epochs.specs.Standing.{Found, Stands};
+ghost use Rattle.policy_reading.specs.Policies.{policy_reads};
 ghost use Rattle.log_epochs.specs.InForce.{HasEntries, HasEpochs, MissesEntry, StandsAt, Takes, TakesAt, epoch_fault};
+ghost use Rattle.log_epochs.specs.Reading.{ReadsLog, entry_reads, taking_reads};
 
 use git_object::{ObjectId, RefName};
 use keeper_api::{Keeper, KeeperFault};
@@ -39,6 +41,7 @@ fn take_entry<R: Keeper>(
     ensures takes { OnOk result ((r : Repository) → R.content keeper.new ≡ Some r → Takes r entry.now epochs.old epochs.new) }
     ensures same { Undisturbed R.Keeper keeper.old keeper.new }
     ensures cause { HasCause keeper_failed (R.faults keeper.old) (R.faults keeper.new) result }
+    ensures reads { (r : Repository) → R.content keeper.new ≡ Some r → R.reads keeper.new ≤ R.reads keeper.old + taking_reads r (Some entry.now) }
 {
     match &entry.body {
         EntryBody::Reference { name, target } => {
@@ -74,6 +77,7 @@ fn take_id<R: Keeper>(
     ensures named { IfErr result (IsNamed id.now) }
     ensures same { Undisturbed R.Keeper keeper.old keeper.new }
     ensures cause { HasCause log_failed (R.faults keeper.old) (R.faults keeper.new) result }
+    ensures reads { (r : Repository) → R.content keeper.new ≡ Some r → R.reads keeper.new ≤ R.reads keeper.old + entry_reads r id.now }
 {
     let entry = match read_entry(alloc, keeper, id) {
         Ok(entry) => entry,
@@ -99,6 +103,7 @@ fn take_ids<R: Keeper>(
     ensures broken { IfErr result (λ fault. (r : Repository) → R.content keeper.new ≡ Some r → MissesEntry r ids.now fault) }
     ensures same { Undisturbed R.Keeper keeper.old keeper.new }
     ensures cause { HasCause log_failed (R.faults keeper.old) (R.faults keeper.new) result }
+    ensures reads { (r : Repository) → R.content keeper.new ≡ Some r → R.reads keeper.new ≤ R.reads keeper.old + sum_by (entry_reads r) ids.now }
 {
     'ids: for id in ids {
         match take_id(alloc, epochs, keeper, id) {
@@ -110,7 +115,8 @@ fn take_ids<R: Keeper>(
 }
 
 /// The epochs of the entries at these ids, oldest first; where ids of keys are given, the first policy's root role must have
-/// exactly these. `Broken` comes exactly where no entry stands at one of the ids, and names the first such.
+/// exactly these. `Broken` comes exactly where no entry stands at one of the ids, and names the first such. Each entry is
+/// read once, and the policy of each that is for the policy.
 pub fn epochs_at<R: Keeper>(
     alloc: Global,
     keeper: &mut R,
@@ -122,6 +128,7 @@ pub fn epochs_at<R: Keeper>(
     ensures broken { IfErr result (λ fault. (r : Repository) → R.content keeper.new ≡ Some r → MissesEntry r ids.now fault) }
     ensures same { Undisturbed R.Keeper keeper.old keeper.new }
     ensures cause { HasCause log_failed (R.faults keeper.old) (R.faults keeper.new) result }
+    ensures reads { (r : Repository) → R.content keeper.new ≡ Some r → R.reads keeper.new ≤ R.reads keeper.old + sum_by (entry_reads r) ids.now }
 {
     let mut epochs = Epochs::new(anchor);
     match take_ids(alloc, &mut epochs, keeper, ids) {
@@ -134,7 +141,7 @@ pub fn epochs_at<R: Keeper>(
 }
 
 /// The epochs of a store's log. `Broken` comes exactly where the log breaks. Each entry is read twice, one at a time, and the
-/// log takes 32 bytes for each.
+/// policy of each that is for the policy; the log takes 32 bytes for each.
 pub fn load_epochs<R: Keeper>(
     alloc: Global,
     keeper: &mut R,
@@ -145,6 +152,7 @@ pub fn load_epochs<R: Keeper>(
     ensures broken { IfErr result (λ fault. (r : Repository) → R.content keeper.new ≡ Some r → IsBrokenAs r fault) }
     ensures same { Undisturbed R.Keeper keeper.old keeper.new }
     ensures cause { HasCause log_failed (R.faults keeper.old) (R.faults keeper.new) result }
+    ensures reads { OnOk result ((r : Repository) → R.content keeper.new ≡ Some r → ReadsLog r (R.reads keeper.old) (R.reads keeper.new)) }
 {
     let log = match Log::load(alloc, keeper) {
         Ok(log) => log,
@@ -170,6 +178,7 @@ pub fn epoch_fault<R: Keeper>(
     ensures broken { IfErr result (λ fault. (r : Repository) → R.content keeper.new ≡ Some r → MissesEntry r ids.now fault) }
     ensures same { Undisturbed R.Keeper keeper.old keeper.new }
     ensures cause { HasCause log_failed (R.faults keeper.old) (R.faults keeper.new) result }
+    ensures reads { (r : Repository) → R.content keeper.new ≡ Some r → R.reads keeper.new ≤ R.reads keeper.old + (sum_by (entry_reads r) ids.now + policy_reads r target.now) }
 {
     let epochs = match epochs_at(alloc, keeper, anchor, ids) {
         Ok(epochs) => epochs,

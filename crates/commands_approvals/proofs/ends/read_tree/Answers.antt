@@ -1,4 +1,4 @@
-use Rattle.std.proofs.Common.{◌∙◌, refl, subst, sym}
+use Rattle.std.proofs.Common.{◌∙◌, arith, refl, subst, sym}
 use Rattle.tree_paths.specs.Repositories.{readings_of}
 use Rattle.tree_paths.specs.declared.states.State.{State}
 use Rattle.approval_lookup.proofs.Finding.{told_by}
@@ -15,3 +15,15 @@ returns-in-Whole-clause-tree g c = λ r told.
 
 pub returns-in-Broken-clause-broken : goal.returns-in-Broken-clause-broken
 returns-in-Broken-clause-broken g c = λ r told. sym (c.in_ok-state_of.ensures.state (readings_of r) (told_by r told)) ∙ c.in-Broken.is
+
+pub returns-in_err-state_of-clause-reads : goal.returns-in_err-state_of-clause-reads
+returns-in_err-state_of-clause-reads g c = λ r told. omega (arith, c.state_of.ensures.visited (readings_of r) (told_by r told))
+
+pub returns-in-Absent-clause-reads : goal.returns-in-Absent-clause-reads
+returns-in-Absent-clause-reads g c = λ r told. omega (arith, c.state_of.ensures.visited (readings_of r) (told_by r told))
+
+pub returns-in-Whole-clause-reads : goal.returns-in-Whole-clause-reads
+returns-in-Whole-clause-reads g c = λ r told. omega (arith, c.state_of.ensures.visited (readings_of r) (told_by r told))
+
+pub returns-in-Broken-clause-reads : goal.returns-in-Broken-clause-reads
+returns-in-Broken-clause-reads g c = λ r told. omega (arith, c.state_of.ensures.visited (readings_of r) (told_by r told))

@@ -1,5 +1,10 @@
-use Rattle.std.proofs.Common.{refl}
+use Rattle.std.proofs.Common.{◌≡◌, ℕ, List, ap, arith, length, subst}
+use Rattle.std.specs.FinMap.{get}
 use Rattle.std.specs.Prelude.{Ok, Err}
+use Rattle.git_object.specs.Names.{log_name}
+use Rattle.rsl_chain.proofs.Chains.{one_log}
+use Rattle.rsl_chain.specs.Logs.{heads_of}
+use Rattle.verify_ref.specs.Logs.{AreEntries}
 use Rattle.key_file.proofs.Steps.{moments}
 use Rattle.commands_log.proofs.Moved.{only_read}
 use Rattle.commands_approvals.proofs.Free.{free_at}
@@ -38,3 +43,17 @@ returns-clause-ends g c =
 pub returns-clause-any_moment : goal.returns-clause-any_moment
 returns-clause-any_moment g c =
     moments g.D.Disk c.args.disk.now c.open_whole_log.new.disk c.store_approval.new.disk c.in-Ok.ensures.any_moment c.in-Ok.ensures.kept.no_more c.in-Err-store_approval.ensures.any_moment
+
+pub returns-in-Ok-store_approval-clause-reads : goal.returns-in-Ok-store_approval-clause-reads
+returns-in-Ok-store_approval-clause-reads g c = λ now held.
+    let kept = c.in-Ok-store_approval.ensures.ends in
+    let was = kept.is.0.is now held in
+    let opened = c.in-Ok-prepare.ensures.same.content was.0 was.1 in
+    let log = c.in-Ok.opened.log.ids in (
+      was.0,
+      c.in-Ok.ensures.same.content was.0 opened,
+      λ ids is_log entries are bounded.
+          let same : ids ≡ log = one_log (heads_of was.0) (get was.0.refs log_name) ids log is_log (c.in-Ok.ensures.log was.0 opened) in
+          let these = subst (λ (xs : List (List ℕ)). AreEntries was.0 xs entries) same are in
+          omega (arith, c.in-Ok-prepare.ensures.reads was.0 was.1 entries these bounded, ap length same, c.in-Ok.ensures.each, c.in-Ok-store_approval.ensures.reads),
+    )

@@ -1,4 +1,4 @@
-use Rattle.std.proofs.Common.{List, ℕ, subst}
+use Rattle.std.proofs.Common.{subst}
 use Rattle.hex.specs.Hex.{IsBytes}
 use Rattle.commands_approvals.proofs.Sealed.{attests_by}
 use Rattle.commands_approvals.proofs.storing.seal_change.Goals as goal

@@ -1,15 +1,18 @@
-use Rattle.std.proofs.Common.{ℕ, List, ap, refl, subst, sym}
+use Rattle.std.proofs.Common.{◌+◌, ◌≤◌, ℕ, List, ap, arith, length, refl, subst, sum_by, sym}
 use Rattle.std.specs.Prelude.{Ok, Err, Result}
 use Rattle.key_file.proofs.Steps.{moments}
 use Rattle.log_entries.specs.Entries.{policy_name}
 use Rattle.log_entries.specs.declared.entries.EntryBody.TheVariants.{Reference}
 use Rattle.commands_log.proofs.Moved.{only_read, same_twice}
-use Rattle.commands_log.proofs.Told.{tried}
+use Rattle.git_object.specs.Repository.{value_of}
+use Rattle.commands_log.proofs.Told.{told_before, tried}
 use Rattle.commands_log.proofs.Unopened.{holds_key}
 use Rattle.commands_log.specs.Opening.{WhyUnread}
 use Rattle.commands_log.specs.Recording.{Records}
 use Rattle.commands_log.specs.declared.opening.ReadingFault.{ReadingFault}
 use Rattle.policy_epochs.specs.declared.faults.PolicyFault.{PolicyFault}
+use Rattle.policy_reading.specs.Policies.{policy_reads}
+use Rattle.log_epochs.specs.Reading.{entry_reads}
 use Rattle.commands_policy.proofs.Judging.{opens, policy_fault, refuses, unread}
 use Rattle.commands_policy.specs.Applying.{Judges, RecordsEpoch}
 use Rattle.commands_policy.proofs.policies.append_policy.Goals as goal
@@ -77,3 +80,15 @@ returns-in-Err-append_entry-clause-ends g c =
 pub returns-in-Err-append_entry-clause-any_moment : goal.returns-in-Err-append_entry-clause-any_moment
 returns-in-Err-append_entry-clause-any_moment g c =
     moments g.D.Disk c.args.disk.now c.open_log.new.disk c.append_entry.new.disk c.in-Ok-open_log.ensures.any_moment c.in-Ok-open_log.ensures.kept.no_more c.in-Err-append_entry.ensures.any_moment
+
+pub returns-in-Ok-append_entry-clause-reads : goal.returns-in-Ok-append_entry-clause-reads
+returns-in-Ok-append_entry-clause-reads g c = λ now held.
+    let was = told_before g.R.Keeper g.D.Disk c.in-Ok-open_log.opened.key.signer.secret c.judge_value.new.keeper c.append_entry.new.keeper c.open_log.new.disk c.append_entry.new.disk
+    c.in-Ok-open_log.opened.log.ids (Reference c.in-Ok.name c.in-Ok-Ok.target) (g.C.Clock.left c.args.clock.now) (g.C.Clock.left c.append_entry.new.clock) (Ok c.in-Ok-append_entry.appended)
+    c.in-Ok-append_entry.ensures.ends now held in
+    let opened = c.in-Ok-Ok.ensures.same.content was.0 was.1 in
+    let named = ap (λ (name : List ℕ). policy_reads was.0 (value_of was.0 name)) c.in-Ok.ensures in
+    let few : g.R.Keeper.reads c.append_entry.new.keeper
+    ≤ g.R.Keeper.reads c.args.keeper.now + (length c.in-Ok-open_log.opened.log.ids + sum_by (entry_reads was.0) c.in-Ok-open_log.opened.log.ids + policy_reads was.0 (value_of was.0 policy_name)) =
+    omega (arith, c.in-Ok-open_log.ensures.each, c.in-Ok-Ok.ensures.reads was.0 was.1, named, c.in-Ok-append_entry.ensures.reads) in
+    (was.0, c.in-Ok-open_log.ensures.same.content was.0 opened, record { ids = c.in-Ok-open_log.opened.log.ids; log = c.in-Ok-open_log.ensures.log was.0 opened; few = few })

@@ -1,6 +1,6 @@
 use Rattle.std.proofs.Common.{◌∙◌, ap, subst}
 use Rattle.git_object.specs.Objects.{Pair, pair_id}
-use Rattle.store_changes.specs.Stores.{Gains, MayGain}
+use Rattle.store_changes.specs.Stores.{Gains}
 use Rattle.commands_trees.specs.Storing.{snapshot_change}
 use Rattle.commands_trees.proofs.storing.commit_made.Goals as goal
 
