@@ -1,11 +1,11 @@
 -- What a stream leaves of the keeper into which it was to go.
-use Rattle.std.proofs.Common.{◌≡◌, ◌≤◌, ◌⊎◌, inl, inr, ℕ, List, subst, sym, ap, ◌∙◌}
+use Rattle.std.proofs.Common.{◌≡◌, ◌≤◌, inl, inr, ℕ, List, subst, sym, ap, ◌∙◌}
 use Rattle.std.specs.Prelude.{Option, Some, Ok, Err}
 use Rattle.octets.specs.Causes.{HasCause}
 use Rattle.octets.specs.Content.{Told}
 use Rattle.git_object.specs.Repository.{Repository, empty_repository}
 use Rattle.keeper_api.specs.Changes.{changed}
-use Rattle.keeper_api.specs.Keepers.{Commits, IsChanged, Leaves}
+use Rattle.keeper_api.specs.Keepers.{Commits, Leaves}
 use Rattle.keeper_api.specs.Undisturbed.{Undisturbed}
 use Rattle.keeper_api.specs.declared.changes.Change.{Change}
 use Rattle.keeper_api.specs.declared.keepers.Keeper.{Ghosts}
@@ -13,7 +13,7 @@ use Rattle.keeper_api.specs.declared.keeper_faults.KeeperFault.{KeeperFault}
 use Rattle.keeper_api.specs.declared.keeper_faults.KeeperFault.TheVariants as keeper_fault
 use Rattle.clone_stream.specs.Faults.{from_keeper, stream_keeper_failed}
 use Rattle.clone_stream.specs.Streams.{IsStreamText}
-use Rattle.clone_stream.specs.Taking.{IsChangeRead, IsOfSource, LeavesRefused, MayTake, Spells, TakesStream, TakesInto}
+use Rattle.clone_stream.specs.Taking.{IsChangeRead, IsOfSource, LeavesRefused, Spells, TakesInto}
 use Rattle.clone_stream.specs.declared.stream_faults.StreamFault.{StreamFault}
 use Rattle.clone_stream.specs.declared.stream_faults.StreamFault.TheVariants.{BadLine, IdDiffers, Order, TooLarge, Truncated, SourceFailed, KeeperFailed, NotEmpty, Memory}
 

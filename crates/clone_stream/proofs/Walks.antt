@@ -33,6 +33,12 @@ pub record IsSoFar {X : Type 0} (record_of : List ℕ × X → List ℕ) (Is : L
   pub put : IsPut text start before now written
   pub told : (r : Repository) → content ≡ Some r → IsUpTo record_of Is (entries (map_in r)) last text
 
+-- each entry up to this key was read once
+pub record ReadsUpTo {X : Type 0} (record_of : List ℕ × X → List ℕ) (Is : List ℕ × X → Type 0) (es : List (List ℕ × X)) (last : Option (List ℕ)) (before now : ℕ) : Type 0 where
+  pub text : List ℕ
+  pub up : IsUpTo record_of Is es last text
+  pub few : now ≤ before + length up.first
+
 head_of : {A : Type 0} (xs : List A) (x : A) → slice_get xs 0 ≡ Some x → (ys : List A) × (xs ≡ x ∷ ys)
 head_of [] x h = cc
 head_of (y ∷ ys) x h = (ys, ap (λ z. z ∷ ys) (same_Some y x h))
@@ -60,6 +66,29 @@ module _ {X : Type 0} (record_of : List ℕ × X → List ℕ) (Is Bad : List �
         last_is = last_push so.first e;
         is = ap (λ (t : List ℕ). t ++ record_of e) so.is ∙ sym (flat_push record_of so.first e);
       }
+
+  -- none was read yet, one more, and all of them
+  pub none_read : (es : List (List ℕ × X)) (n : ℕ) → ReadsUpTo record_of Is es None n n
+  none_read es n = record { text = []; up = record { first = []; rest = es; whole = refl; each = tt; last_is = refl; is = refl }; few = omega arith }
+
+  pub one_read : (m : BytesMap X) (last : Option (List ℕ)) (e : List ℕ × X) (before now after : ℕ) → ReadsUpTo record_of Is (entries m) last before now → entry_after m last ≡ Some e → Is e → after ≤ now + 1
+      → ReadsUpTo record_of Is (entries m) (Some e.0) before after
+  unfolding up_to_next
+  one_read m last e before now after reads next is more = record {
+    text = reads.text ++ record_of e;
+    up = up_to_next m last reads.text e reads.up next is;
+    few =
+        let had = reads.few in
+        let longer = length-append reads.up.first (e ∷ []) in
+        omega (arith, had, longer, more);
+  }
+
+  pub all_read : (es : List (List ℕ × X)) (last : Option (List ℕ)) (before now : ℕ) → ReadsUpTo record_of Is es last before now → now ≤ before + length es
+  all_read es last before now reads =
+      let up = reads.up in
+      let whole = ap length up.whole in
+      let parts = length-append up.first up.rest in
+      omega (arith, reads.few, whole, parts)
 
   -- no entry more
   all_first : (m : BytesMap X) (last : Option (List ℕ)) (text : List ℕ) (so : IsUpTo record_of Is (entries m) last text) → entry_after m last ≡ None → so.first ≡ entries m

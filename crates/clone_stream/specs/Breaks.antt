@@ -3,7 +3,6 @@ use Rattle.std.specs.Prelude.{◌≡◌, ◌≢◌, ◌+◌, ◌++◌, ◌∷◌
 use Rattle.buffered_reader.specs.Lines.{IsLine, IsLong}
 use Rattle.git_object.specs.Repository.{largest_body}
 use Rattle.git_object.specs.declared.kinds.Kind.{Kind}
-use Rattle.clone_stream.specs.Reading.{ComesAfter}
 use Rattle.clone_stream.specs.Streams.{object_line}
 use Rattle.clone_stream.specs.Words.{IsHugeLine, IsOtherLine}
 use Rattle.clone_stream.specs.Wrongs.{ComesObject, HasBadEnd, HasHead, HasLateObject, HasLateRef, HasMoreThanEnd, HasOtherId, HasRef, HasWrongLine, IsPartOf, Last}

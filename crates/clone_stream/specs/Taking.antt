@@ -1,5 +1,5 @@
 -- A stream that is taken from a source into an empty keeper.
-use Rattle.std.specs.Prelude.{◌≡◌, ◌≤◌, ◌⊎◌, ◌↔◌, ℕ, Bool, true, List, length, take, Option, Some}
+use Rattle.std.specs.Prelude.{◌≡◌, ◌≤◌, ◌⊎◌, ◌↔◌, ℕ, true, List, length, take, Option, Some}
 use Rattle.octets.specs.Content.{with_front}
 use Rattle.edge_io.specs.Read.{IsAtEnd}
 use Rattle.git_object.specs.Repository.{Repository, empty_repository}

@@ -1,8 +1,10 @@
 //! A keeper's repository as a stream to a sink.
 
-ghost use Rattle.std.specs.Prelude.{◌≤◌, IfErr, OnOk};
+ghost use Rattle.std.specs.Prelude.{◌≡◌, ◌≤◌, ◌+◌, length, IfErr, IfOk, None, OnOk, Some};
+ghost use Rattle.std.specs.FinMap.{entries};
 ghost use Rattle.octets.specs.Causes.{HasCause};
 ghost use Rattle.clone_stream.specs.Faults.{export_keeper_failed, export_sink_failed};
+ghost use Rattle.git_object.specs.Repository.{Repository};
 ghost use Rattle.keeper_api.specs.Undisturbed.{Undisturbed};
 ghost use Rattle.clone_stream.specs.Exporting.{Exports, RefusesExport};
 ghost use Rattle.clone_stream.specs.Exports.{IsDamaged, IsNever, Looks, Runs, Steps, objects_in, refs_in};
@@ -24,6 +26,8 @@ fn next_object<R: Keeper>(
     ensures looks { Looks IsOwn IsDamaged objects_in (R.content keeper.new) last.now result }
     ensures same { Undisturbed R.Keeper keeper.old keeper.new }
     ensures cause { HasCause export_keeper_failed (R.faults keeper.old) (R.faults keeper.new) result }
+    ensures reads { R.reads keeper.new ≤ R.reads keeper.old + 1 }
+    ensures end { IfOk result (λ found. found ≡ None → R.reads keeper.new ≡ R.reads keeper.old) }
 {
     let Some(id) = keeper.next_object_after(alloc, last.as_ref())? else {
         return Ok(None);
@@ -44,6 +48,7 @@ fn next_ref<R: Keeper>(
     ensures looks { Looks IsRef IsNever refs_in (R.content keeper.new) last.now result }
     ensures same { Undisturbed R.Keeper keeper.old keeper.new }
     ensures cause { HasCause export_keeper_failed (R.faults keeper.old) (R.faults keeper.new) result }
+    ensures reads { R.reads keeper.new ≡ R.reads keeper.old }
 {
     let Some(value) = keeper.next_ref_after(alloc, last.as_ref())? else {
         return Ok(None);
@@ -66,6 +71,8 @@ fn write_object<K: Sink, R: Keeper>(
     ensures same { Undisturbed R.Keeper keeper.old keeper.new }
     ensures keeper_cause { HasCause export_keeper_failed (R.faults keeper.old) (R.faults keeper.new) result }
     ensures sink_cause { HasCause export_sink_failed (K.faults sink.old) (K.faults sink.new) result }
+    ensures reads { R.reads keeper.new ≤ R.reads keeper.old + 1 }
+    ensures end { IfOk result (λ found. found ≡ None → R.reads keeper.new ≡ R.reads keeper.old) }
 {
     let (id, object) = match next_object(alloc, keeper, last) {
         Ok(Some(entry)) => entry,
@@ -92,6 +99,7 @@ fn write_ref<K: Sink, R: Keeper>(
     ensures same { Undisturbed R.Keeper keeper.old keeper.new }
     ensures keeper_cause { HasCause export_keeper_failed (R.faults keeper.old) (R.faults keeper.new) result }
     ensures sink_cause { HasCause export_sink_failed (K.faults sink.old) (K.faults sink.new) result }
+    ensures reads { R.reads keeper.new ≡ R.reads keeper.old }
 {
     let (name, id) = match next_ref(alloc, keeper, last) {
         Ok(Some(entry)) => entry,
@@ -116,6 +124,7 @@ fn write_objects<K: Sink, R: Keeper>(
     ensures same { Undisturbed R.Keeper keeper.old keeper.new }
     ensures keeper_cause { HasCause export_keeper_failed (R.faults keeper.old) (R.faults keeper.new) result }
     ensures sink_cause { HasCause export_sink_failed (K.faults sink.old) (K.faults sink.new) result }
+    ensures reads { OnOk result ((r : Repository) → R.content keeper.new ≡ Some r → R.reads keeper.new ≤ R.reads keeper.old + length (entries r.objects)) }
 {
     let mut last = None;
     let mut written = start;
@@ -143,6 +152,7 @@ fn write_refs<K: Sink, R: Keeper>(
     ensures same { Undisturbed R.Keeper keeper.old keeper.new }
     ensures keeper_cause { HasCause export_keeper_failed (R.faults keeper.old) (R.faults keeper.new) result }
     ensures sink_cause { HasCause export_sink_failed (K.faults sink.old) (K.faults sink.new) result }
+    ensures reads { R.reads keeper.new ≡ R.reads keeper.old }
 {
     let mut last = None;
     let mut written = start;
@@ -162,7 +172,7 @@ fn write_refs<K: Sink, R: Keeper>(
 /// that is kept damaged and what comes before its record is within 1 GiB, and `TooLarge` exactly where the text
 /// passes 1 GiB before that; exactly the records before that one then went out. `KeeperFailed` and `SinkFailed`
 /// come exactly where the keeper or the sink counted a fault. After these and want of memory a front of the text
-/// went out, which has no damaged object in it. The keeper is as before.
+/// went out, which has no damaged object in it. The keeper is as before. Each object is read once.
 pub fn write_stream<K: Sink, R: Keeper>(
     alloc: Global,
     keeper: &mut R,
@@ -173,6 +183,7 @@ pub fn write_stream<K: Sink, R: Keeper>(
     ensures same { Undisturbed R.Keeper keeper.old keeper.new }
     ensures keeper_cause { HasCause export_keeper_failed (R.faults keeper.old) (R.faults keeper.new) result }
     ensures sink_cause { HasCause export_sink_failed (K.faults sink.old) (K.faults sink.new) result }
+    ensures reads { OnOk result ((r : Repository) → R.content keeper.new ≡ Some r → R.reads keeper.new ≤ R.reads keeper.old + length (entries r.objects)) }
 {
     let written = match put(sink, b"gittuf-stream 1\n", 0) {
         Ok(now) => now,

@@ -1,6 +1,8 @@
 //! The command `export`.
 
-ghost use Rattle.std.specs.Prelude.{◌≡◌, ◌≤◌};
+ghost use Rattle.std.specs.Prelude.{◌≡◌, ◌≤◌, ◌+◌, length, OnOk, Some};
+ghost use Rattle.std.specs.FinMap.{entries};
+ghost use Rattle.git_object.specs.Repository.{Repository};
 ghost use Rattle.keeper_api.specs.Undisturbed.{Undisturbed};
 ghost use Rattle.endings.specs.Counts.{Faults, IsCounted};
 ghost use Rattle.commands_store.specs.Exporting.{ExportEnds, export_ending};
@@ -36,7 +38,7 @@ pub fn export_ending(outcome: &Result<(), ExportFault>) -> Ending
 }
 
 /// Prints the stream of the store's repository. The refusals come where `write_stream` says, and a front of the
-/// stream was then printed. The store is as before.
+/// stream was then printed. The store is as before. Each object is read once.
 pub fn export<K: Sink, R: Keeper>(
     alloc: Global,
     sink: &mut K,
@@ -47,6 +49,7 @@ pub fn export<K: Sink, R: Keeper>(
     ensures counted { (rest : Faults) → IsCounted (export_ending result)
         (record rest { sink = K.faults sink.old; keeper = R.faults keeper.old })
         (record rest { sink = K.faults sink.new; keeper = R.faults keeper.new }) }
+    ensures reads { OnOk result ((r : Repository) → R.content keeper.new ≡ Some r → R.reads keeper.new ≤ R.reads keeper.old + length (entries r.objects)) }
 {
     match write_stream(alloc, keeper, sink) {
         Ok(()) => Ok(()),

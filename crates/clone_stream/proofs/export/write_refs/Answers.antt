@@ -7,6 +7,7 @@ use Rattle.clone_stream.proofs.export.write_refs.Goals as goal
 pub refs-preserved : goal.refs-preserved
 refs-preserved g c = record {
   so = one_more ref_record IsRef IsNever refs_in _ _ _ _ _ _ _ _ c.refs.invariant.so c.write_ref.ensures.same.content c.in-Ok-Some.name c.in-Ok-Some.now (rw c.in-Ok-Some.field-0-is at c.in-Ok-Some.ensures.steps);
+  read = search rules;
   same = search rules;
   keeper_quiet = search rules;
   sink_quiet = search rules;

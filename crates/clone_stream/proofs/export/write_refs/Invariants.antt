@@ -8,6 +8,7 @@ use Rattle.clone_stream.proofs.export.write_refs.Given as goal
 abbrev pub invariant-refs : goal.invariant-refs
 invariant-refs g l = record {
   so : IsSoFar ref_record IsRef refs_in (g.R.Keeper.content l.keeper) l.start (g.K.Sink.contents l.fn.sink) (g.K.Sink.contents l.sink) l.last l.written;
+  read : g.R.Keeper.reads l.keeper ≡ g.R.Keeper.reads l.fn.keeper;
   same : Undisturbed g.R.Keeper l.fn.keeper l.keeper;
   keeper_quiet : g.R.Keeper.faults l.keeper ≡ g.R.Keeper.faults l.fn.keeper;
   sink_quiet : g.K.Sink.faults l.sink ≡ g.K.Sink.faults l.fn.sink;
