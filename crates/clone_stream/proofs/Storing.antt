@@ -1,5 +1,5 @@
 -- What a stream leaves of the keeper into which it was to go.
-use Rattle.std.proofs.Common.{◌≡◌, ◌≤◌, inl, inr, ℕ, List, subst, sym, ap, ◌∙◌}
+use Rattle.std.proofs.Common.{◌≡◌, ◌≤◌, inl, inr, ℕ, List, refl, subst, sym, ap, ◌∙◌}
 use Rattle.std.specs.Prelude.{Option, Some, Ok, Err}
 use Rattle.octets.specs.Causes.{HasCause}
 use Rattle.octets.specs.Content.{Told}
@@ -46,7 +46,7 @@ module _ {S : Type 0} (keeper : Ghosts S) (left left_now : Option (List ℕ)) (o
   keeper_leaves keeper_fault.Failed same = record {
     held = λ r told. inl (same.content r told);
     tells = same.tells;
-    stop = λ tells r now. inl ((same.left tells r).0 now);
+    stop = λ tells r now. inl (same.left tells r now);
   }
   keeper_leaves keeper_fault.Memory same = same
 
@@ -64,25 +64,23 @@ module _ {S : Type 0} (keeper : Ghosts S) (left left_now : Option (List ℕ)) (o
     -- a commit that the keeper refused
     pub commit_leaves : (fault : KeeperFault) → Told (Commits change {T = Unit {0}} (Err fault)) (keeper.content mid) (keeper.content new)
         → Leaves change {T = Unit {0}} (Err fault) (keeper.content mid) (keeper.tells_left mid) (keeper.tells_left new) (keeper.left mid) (keeper.left new)
-        → LeavesRefused keeper left left_now old new (from_keeper fault)
-    commit_leaves keeper_fault.Failed told leaves = record {
+        → (fault ≡ keeper_fault.Memory → keeper.comes old new) → LeavesRefused keeper left left_now old new (from_keeper fault)
+    commit_leaves keeper_fault.Failed told leaves came = record {
       held = λ r now. elim ((told r now).2) [
         | inl as_was ↦ inl (same.content r ((told r now).1 ∙ ap Some (sym as_was)))
         | inr is ↦ inr (spells (told r now).0 r (told r now).1 is)
       ];
       tells = λ tells. same.tells (leaves.tells tells);
       stop = λ tells r now. elim (leaves.left tells r now) [
-        | inl past ↦ inl ((same.left (leaves.tells tells) r).0 past)
+        | inl past ↦ inl (same.left (leaves.tells tells) r past)
         | inr is ↦ inr (spells is.0 r is.1 is.2)
       ];
     }
-    commit_leaves keeper_fault.Memory told leaves = record {
+    commit_leaves keeper_fault.Memory told leaves came = record {
       content = λ r now. same.content r ((told r now).1 ∙ ap Some (sym (told r now).2));
       tells = λ tells. same.tells (leaves.tells tells);
-      left = λ tells r. (
-        λ now. (same.left (leaves.tells tells) r).0 ((leaves.left tells r).0 now),
-        λ past. (leaves.left tells r).1 ((same.left (leaves.tells tells) r).1 past),
-      );
+      left = λ tells r now. same.left (leaves.tells tells) r (leaves.left tells r now);
+      comes = came refl;
     }
 
     -- a commit that was made
@@ -103,6 +101,5 @@ module _ {S : Type 0} (keeper : Ghosts S) (left left_now : Option (List ℕ)) (o
       stop = λ tells now is r.
           let was = (told now is).0 in
           let is_was = (told now is).1 in
-          let none = ap (changed change) (empty was is_was) in
-          (λ here. (leaves.left tells was is_was r).0 here ∙ none, λ same_as. (leaves.left tells was is_was r).1 (same_as ∙ sym none));
+          λ here. leaves.left tells was is_was r here ∙ ap (changed change) (empty was is_was);
     }

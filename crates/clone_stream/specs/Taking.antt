@@ -1,5 +1,5 @@
 -- A stream that is taken from a source into an empty keeper.
-use Rattle.std.specs.Prelude.{◌≡◌, ◌≤◌, ◌⊎◌, ◌↔◌, ℕ, true, List, length, take, Option, Some}
+use Rattle.std.specs.Prelude.{◌≡◌, ◌≤◌, ◌⊎◌, ℕ, true, List, length, take, Option, Some}
 use Rattle.octets.specs.Content.{with_front}
 use Rattle.edge_io.specs.Read.{IsAtEnd}
 use Rattle.git_object.specs.Repository.{Repository, empty_repository}
@@ -46,7 +46,8 @@ pub record TakesStream (left left_now : Option (List ℕ)) (before after : Optio
 pub record TakesInto {S : Type 0} (keeper : Ghosts S) (left left_now : Option (List ℕ)) (old new : S) : Type 0 where
   pub takes : TakesStream left left_now (keeper.content old) (keeper.content new)
   pub tells : keeper.tells_left new ≡ true → keeper.tells_left old ≡ true
-  pub stop : keeper.tells_left new ≡ true → (now : Repository) → keeper.content new ≡ Some now → (r : Repository) → keeper.left new r ↔ (r ≡ takes.repository)
+  pub stop : keeper.tells_left new ≡ true → (now : Repository) → keeper.content new ≡ Some now → (r : Repository) → keeper.left new r
+      → r ≡ takes.repository
 
 -- the input was read to its end, and is a stream
 pub record IsWhole (input : List ℕ) (after : Option (List ℕ)) : Type 0 where

@@ -46,10 +46,7 @@ module _ (n : ℕ) {R : Type 0} (keeper_of : keeper.Ghosts R) (old mid new : R) 
       gains = record {
         held = λ now held. fills.gains.held now (same.content now held);
         tells = λ tells. fills.gains.tells (same.tells tells);
-        stop = λ tells now held r. (
-          λ left. (fills.gains.stop (same.tells tells) now (same.content now held) r).0 ((same.left tells r).0 left),
-          λ is. (same.left tells r).1 ((fills.gains.stop (same.tells tells) now (same.content now held) r).1 is),
-        );
+        stop = λ tells now held r left. fills.gains.stop (same.tells tells) now (same.content now held) r (same.left tells r left);
       };
     }
 

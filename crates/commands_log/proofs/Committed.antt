@@ -29,8 +29,7 @@ module _ {R : Type 0} (keeper_of : keeper.Ghosts R) where
     tells = leaves.tells;
     stop = λ tells now held r.
         let was = told now held in
-        let is = leaves.left tells was.0 was.1 r in
-        (λ left. is.0 left ∙ sym was.2, λ same. is.1 (same ∙ was.2));
+        λ left. leaves.left tells was.0 was.1 r left ∙ sym was.2;
   }
 
   pub gains : (text : List ℕ) (change : Change) (old new : R) → change ≡ entry_change text → Told (Commits change done) (keeper_of.content old) (keeper_of.content new)

@@ -73,7 +73,7 @@ module _ {R : Type 0} (keeper_of : keeper.Ghosts R) where
   may_gain_from text old mid new first gains = record {
     held = λ now held. (let was = gains.held now held in (was.0, first.content was.0 was.1, was.2));
     tells = λ tells. first.tells (gains.tells tells);
-    stop = λ tells r left. ⊎_elim (λ past. inl ((first.left (gains.tells tells) r).0 past)) (λ was. inr (was.0, first.content was.0 was.1, was.2)) (gains.stop tells r left);
+    stop = λ tells r left. ⊎_elim (λ past. inl (first.left (gains.tells tells) r past)) (λ was. inr (was.0, first.content was.0 was.1, was.2)) (gains.stop tells r left);
   }
 
 module _ {R D : Type 0} (keeper_of : keeper.Ghosts R) (disk_of : disk.Ghosts D) (secret : Secret) (old mid new : R) (file file_mid file_now : D)

@@ -3,6 +3,7 @@ use Rattle.std.proofs.Common.{◌≡◌, inl, inr, List, ℕ, refl, subst}
 use Rattle.std.specs.Prelude.{Bool, Option, None, Result, Ok, Err}
 use Rattle.octets.specs.Causes.{HasCause}
 use Rattle.git_object.specs.Repository.{Repository}
+use Rattle.keeper_api.proofs.Coming.{ComesThen, as_before_then}
 use Rattle.keeper_api.specs.Undisturbed.{Undisturbed}
 use Rattle.keeper_api.specs.declared.keepers.Keeper as keeper
 use Rattle.clone_stream.specs.Taking.{TakesInto}
@@ -24,16 +25,9 @@ verdict_quiet (Accepted count) = refl
 verdict_quiet (TipDiffers kept recorded) = refl
 verdict_quiet (Violation number fault) = refl
 
-module _ {R : Type 0} (keeper_of : keeper.Ghosts R) (left left_now : Option (List ℕ)) (old mid new : R) (same : Undisturbed keeper_of mid new) where
+module _ {R : Type 0} (keeper_of : keeper.Ghosts R) (left left_now : Option (List ℕ)) (comes_then : ComesThen keeper_of) (old mid new : R) (same : Undisturbed keeper_of mid new) where
   still_same : Undisturbed keeper_of old mid → Undisturbed keeper_of old new
-  still_same first = record {
-    content = λ r told. first.content r (same.content r told);
-    tells = λ told. first.tells (same.tells told);
-    left = λ told r. (
-      λ now. (first.left (same.tells told) r).0 ((same.left told r).0 now),
-      λ past. (same.left told r).1 ((first.left (same.tells told) r).1 past),
-    );
-  }
+  still_same first = as_before_then keeper_of comes_then old mid new first same
 
   still_taken : TakesInto keeper_of left left_now old mid → TakesInto keeper_of left left_now old new
   still_taken took = record {
@@ -45,10 +39,7 @@ module _ {R : Type 0} (keeper_of : keeper.Ghosts R) (left left_now : Option (Lis
       held = λ r told. took.takes.held r (same.content r told);
     };
     tells = λ told. took.tells (same.tells told);
-    stop = λ told now is r. (
-      λ here. (took.stop (same.tells told) now (same.content now is) r).0 ((same.left told r).0 here),
-      λ spelled. (same.left told r).1 ((took.stop (same.tells told) now (same.content now is) r).1 spelled),
-    );
+    stop = λ told now is r here. took.stop (same.tells told) now (same.content now is) r (same.left told r here);
   }
 
   pub still_open : (stdin : Bool) → Opens stdin keeper_of left left_now old mid → Opens stdin keeper_of left left_now old new

@@ -1,6 +1,8 @@
+pub mod Coming
 pub mod Committing
 pub mod Emptiness
 pub mod Following
+pub mod Growing
 pub mod Halving
 pub mod Inserting
 pub mod Planning

@@ -1,5 +1,5 @@
 -- What the calls of a keeper do to what it holds and to what a stop may leave.
-use Rattle.std.specs.Prelude.{◌≡◌, ◌⊎◌, ◌↔◌, Bool, true, Option, Some, Result, Ok, Err}
+use Rattle.std.specs.Prelude.{◌≡◌, ◌⊎◌, ◌<◌, ◌-◌, ◌^◌, ℕ, Bool, true, IsSome, Option, Some, Result, Ok, Err}
 use Rattle.octets.specs.Content.{Stays}
 use Rattle.git_object.specs.Repository.{Repository}
 use Rattle.keeper_api.specs.Changes.{changed}
@@ -7,12 +7,18 @@ use Rattle.keeper_api.specs.declared.changes.Change.{Change}
 use Rattle.keeper_api.specs.declared.keeper_faults.KeeperFault.{KeeperFault}
 use Rattle.keeper_api.specs.declared.keeper_faults.KeeperFault.TheVariants.{Failed, Memory}
 
--- a call that makes no commit: the same is held, and where the keeper tells it, a stop may leave exactly what it could
--- leave before
-pub record AsBefore (before after : Option Repository) (told told_now : Bool) (past now : Repository → Type 0) : Type 0 where
+-- a call that makes no commit: the same is held, where the keeper tells it a stop may leave no more than it could leave
+-- before, and the keeper comes of what it was
+pub record AsBefore (before after : Option Repository) (told told_now : Bool) (past now : Repository → Type 0) (came : Type 0) : Type 0 where
   pub content : Stays before after
   pub tells : told_now ≡ true → told ≡ true
-  pub left : told_now ≡ true → (r : Repository) → now r ↔ past r
+  pub left : told_now ≡ true → (r : Repository) → now r → past r
+  pub comes : came
+
+-- what told goes on telling, where no fault was counted and the count is not at its end
+pub record TellsOn (before after : Option Repository) (told told_now : Bool) (count count_now : ℕ) : Type 0 where
+  pub content : count < 2 ^ 64 - 1 → count_now ≡ count → IsSome before → IsSome after
+  pub left : count < 2 ^ 64 - 1 → count_now ≡ count → told ≡ true → told_now ≡ true
 
 -- what a commit makes of the repository that was held
 abbrev pub Commits : Change → {T : Type 0} → Result T KeeperFault → Repository → Repository → Type 0
@@ -25,11 +31,11 @@ abbrev pub IsChanged : Change → Option Repository → Repository → Type 0
 IsChanged change before r = (was : Repository) × (before ≡ Some was) × (r ≡ changed change was)
 
 -- what a stop may leave after a commit: the new repository alone; after a fault at most what it could leave before, and
--- the new one; after want of memory exactly what it could leave before
+-- the new one; after want of memory at most what it could leave before
 abbrev pub LeavesBy : Change → {T : Type 0} → Result T KeeperFault → Option Repository → (Repository → Type 0) → (Repository → Type 0) → Type 0
-LeavesBy change (Ok _) before past now = (was : Repository) → before ≡ Some was → (r : Repository) → now r ↔ (r ≡ changed change was)
+LeavesBy change (Ok _) before past now = (was : Repository) → before ≡ Some was → (r : Repository) → now r → r ≡ changed change was
 LeavesBy change (Err Failed) before past now = (r : Repository) → now r → past r ⊎ IsChanged change before r
-LeavesBy change (Err Memory) before past now = (r : Repository) → now r ↔ past r
+LeavesBy change (Err Memory) before past now = (r : Repository) → now r → past r
 
 -- a commit, where the keeper tells what a stop may leave
 pub record Leaves (change : Change) {T : Type 0} (result : Result T KeeperFault) (before : Option Repository) (told told_now : Bool) (past now : Repository → Type 0) : Type 0 where

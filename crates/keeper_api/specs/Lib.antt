@@ -4,6 +4,8 @@ pub mod Changes
 pub mod Faults
 pub mod Keepers
 pub mod Undisturbed
+-- Larger repositories: what every object of another is found in too.
+pub mod Growing
 -- The store in memory.
 pub mod Stores
 -- States between its private calls: trees as maps, a list of objects as two halves, a list of changes as a plan, inserts

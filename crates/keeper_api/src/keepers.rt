@@ -1,6 +1,6 @@
 //! The trait of a store of Git objects and references.
 
-ghost use Rattle.std.specs.Prelude.{◌≡◌, ℕ, Bool, true, Option, Some, IfOk};
+ghost use Rattle.std.specs.Prelude.{◌≡◌, ℕ, Bool, true, Option, Some, IfOk, IsErrOf};
 ghost use Rattle.std.specs.Option.{option_map, option_copied};
 ghost use Rattle.std.specs.FinMap.{get};
 ghost use Rattle.octets.specs.BytesMap.{entry_after};
@@ -9,7 +9,7 @@ ghost use Rattle.keeper_api.specs.Faults.{keeper_failed};
 ghost use Rattle.octets.specs.Content.{Told};
 ghost use Rattle.git_object.specs.Repository.{Repository};
 ghost use Rattle.keeper_api.specs.Changes.{ref_value};
-ghost use Rattle.keeper_api.specs.Keepers.{AsBefore, Commits, Leaves};
+ghost use Rattle.keeper_api.specs.Keepers.{AsBefore, Commits, TellsOn, Leaves};
 
 use crate::{Change, KeeperFault, RefValue};
 use git_object::{Object, ObjectId, RefName};
@@ -18,10 +18,11 @@ use std::alloc::Global;
 /// A store that holds a repository. A call that the store refuses answers `Failed` and counts one fault, and no
 /// other call counts any; want of memory is `Memory`. No call but `commit` changes what is held.
 pub trait Keeper {
-    /// The repository that is held, where the keeper tells it. Telling may end, and never begins.
+    /// The repository that is held, where the keeper tells it. Telling ends only where a fault was counted, and never begins.
     ghost content: { Self → Option Repository };
 
-    /// Whether the keeper tells what a stop at this moment may leave. Telling may end, and never begins.
+    /// Whether the keeper tells what a stop at this moment may leave. Telling ends only where a fault was counted, and never
+    /// begins.
     ghost tells_left: { Self → Bool };
 
     /// The repositories that a stop at this moment may leave, where the keeper tells it.
@@ -33,17 +34,22 @@ pub trait Keeper {
     /// How often an object was read.
     ghost reads: { Self → ℕ };
 
+    /// Whether the second comes of the first by calls that make no commit.
+    ghost comes: { Self → Self → Type 0 };
+
     /// The object that is kept at an id, as it is kept. It is the one call that raises the count of reads.
     fn read_object(&mut self, alloc: Global, id: &ObjectId) -> Result<Option<Object>, KeeperFault>
         ensures answer { IfOk result (λ found. (r : Repository) → content self.new ≡ Some r → found ≡ get r.objects id.now) }
-        ensures same { AsBefore (content self.old) (content self.new) (tells_left self.old) (tells_left self.new) (left self.old) (left self.new) }
+        ensures same { AsBefore (content self.old) (content self.new) (tells_left self.old) (tells_left self.new) (left self.old) (left self.new)
+            (comes self.old self.new) }
         ensures cause { HasCause keeper_failed (faults self.old) (faults self.new) result }
         ensures reads { reads self.new ≡ one_more (reads self.old) };
 
     /// The id that a reference name stands at.
     fn read_ref(&mut self, alloc: Global, name: &RefName) -> Result<Option<ObjectId>, KeeperFault>
         ensures answer { IfOk result (λ found. (r : Repository) → content self.new ≡ Some r → found ≡ get r.refs name.now) }
-        ensures same { AsBefore (content self.old) (content self.new) (tells_left self.old) (tells_left self.new) (left self.old) (left self.new) }
+        ensures same { AsBefore (content self.old) (content self.new) (tells_left self.old) (tells_left self.new) (left self.old) (left self.new)
+            (comes self.old self.new) }
         ensures cause { HasCause keeper_failed (faults self.old) (faults self.new) result }
         ensures reads { reads self.new ≡ reads self.old };
 
@@ -55,7 +61,8 @@ pub trait Keeper {
     ) -> Result<Option<ObjectId>, KeeperFault>
         ensures answer { IfOk result (λ found. (r : Repository) → content self.new ≡ Some r
             → found ≡ option_map (λ e. e.0) (entry_after r.objects (option_copied after.entry))) }
-        ensures same { AsBefore (content self.old) (content self.new) (tells_left self.old) (tells_left self.new) (left self.old) (left self.new) }
+        ensures same { AsBefore (content self.old) (content self.new) (tells_left self.old) (tells_left self.new) (left self.old) (left self.new)
+            (comes self.old self.new) }
         ensures cause { HasCause keeper_failed (faults self.old) (faults self.new) result }
         ensures reads { reads self.new ≡ reads self.old };
 
@@ -67,7 +74,8 @@ pub trait Keeper {
     ) -> Result<Option<RefValue>, KeeperFault>
         ensures answer { IfOk result (λ found. (r : Repository) → content self.new ≡ Some r
             → found ≡ option_map ref_value (entry_after r.refs (option_copied after.entry))) }
-        ensures same { AsBefore (content self.old) (content self.new) (tells_left self.old) (tells_left self.new) (left self.old) (left self.new) }
+        ensures same { AsBefore (content self.old) (content self.new) (tells_left self.old) (tells_left self.new) (left self.old) (left self.new)
+            (comes self.old self.new) }
         ensures cause { HasCause keeper_failed (faults self.old) (faults self.new) result }
         ensures reads { reads self.new ≡ reads self.old };
 
@@ -75,6 +83,8 @@ pub trait Keeper {
     /// together. After `Failed` the old or the new repository is held, after `Memory` the old one.
     fn commit(&mut self, alloc: Global, change: &Change) -> Result<(), KeeperFault>
         ensures content { Told (Commits change.now result) (content self.old) (content self.new) }
+        ensures on { TellsOn (content self.old) (content self.new) (tells_left self.old) (tells_left self.new) (faults self.old) (faults self.new) }
+        ensures unmade { IsErrOf result KeeperFault.Memory → comes self.old self.new }
         ensures left { Leaves change.now result (content self.old) (tells_left self.old) (tells_left self.new) (left self.old) (left self.new) }
         ensures cause { HasCause keeper_failed (faults self.old) (faults self.new) result }
         ensures reads { reads self.new ≡ reads self.old };
@@ -85,4 +95,14 @@ pub trait Keeper {
 
     /// Where the keeper tells what a stop may leave, what is held may be left.
     ghost held_is_left: { (keeper : Self) (r : Repository) → tells_left keeper ≡ true → content keeper ≡ Some r → left keeper r };
+
+    /// A keeper comes of itself.
+    ghost comes_self: { (keeper : Self) → comes keeper keeper };
+
+    /// What comes of a keeper tells on, where no fault was counted since.
+    ghost comes_tells: { (first second : Self) → comes first second
+        → TellsOn (content first) (content second) (tells_left first) (tells_left second) (faults first) (faults second) };
+
+    /// What comes of what comes of a keeper comes of it.
+    ghost comes_then: { (first second third : Self) → comes first second → comes second third → comes first third };
 }

@@ -11,6 +11,7 @@
 mod changes;
 mod keeper_faults;
 mod keepers;
+pub mod laws;
 mod memory_calls;
 mod memory_keeper;
 mod memory_trees;

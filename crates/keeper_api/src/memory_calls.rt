@@ -1,6 +1,6 @@
 //! The calls of the keeper in memory.
 
-ghost use Rattle.std.specs.Prelude.{◌≡◌, ◌↔◌, Some, IfOk, IsErrOf, IsOk, IsTrue, None, false};
+ghost use Rattle.std.specs.Prelude.{◌≡◌, ◌↔◌, Some, IfOk, IsErrOf, IsOk, IsTrue, None, false, refl};
 ghost use Rattle.std.specs.Option.{option_map, option_copied};
 ghost use Rattle.std.specs.FinMap.{get};
 ghost use Rattle.std.proofs.lemmas.Bool.{false≢true};
@@ -29,6 +29,8 @@ impl Keeper for MemKeeper {
     ghost faults = { λ k. k.calls.faults };
 
     ghost reads = { λ k. k.reads };
+
+    ghost comes = { λ k l. Unit {0} };
 
     fn read_object(&mut self, _alloc: Global, id: &ObjectId) -> Result<Option<Object>, KeeperFault>
         ensures found { IfOk result (λ found. found ≡ get self.old.held.objects id.now) }
@@ -109,4 +111,10 @@ impl Keeper for MemKeeper {
     }
 
     ghost held_is_left = { λ k r told. absurd (false≢true told) };
+
+    ghost comes_self = { λ k. tt };
+
+    ghost comes_tells = { λ k l came. record { content = λ before_end same told. refl; left = λ before_end same told. told } };
+
+    ghost comes_then = { λ k l m first next. tt };
 }

@@ -27,6 +27,8 @@ where
 
     ghost reads = { λ k. k.reads };
 
+    ghost comes = { λ _ _. Unit {0} };
+
     fn read_object(&mut self, alloc: Global, id: &ObjectId) -> Result<Option<Object>, KeeperFault>
         ensures reads { self.new.reads ≡ one_more self.old.reads }
         ensures cause { HasCause keeper_failed self.old.faults self.new.faults result }
@@ -77,4 +79,10 @@ where
     }
 
     ghost held_is_left = { λ _ r told. absurd (false≢true told) };
+
+    ghost comes_self = { λ _. tt };
+
+    ghost comes_tells = { λ _ _ came. record { content = λ before_end same told. absurd (false≢true told); left = λ before_end same told. absurd (false≢true told) } };
+
+    ghost comes_then = { λ _ _ _ first next. tt };
 }

@@ -29,8 +29,7 @@ module _ {R : Type 0} (keeper_of : keeper.Ghosts R) (old new : R) where
     tells = leaves.tells;
     stop = λ tells now held r.
         let was = told now held in
-        let is = leaves.left tells was.0 was.1 r in
-        (λ left. is.0 left ∙ sym was.2, λ same. is.1 (same ∙ was.2));
+        λ left. leaves.left tells was.0 was.1 r left ∙ sym was.2;
   }
 
   may_have_gained : (change : Change) → IsCommit change (refusal Failed) → MayGain keeper_of old new change
@@ -53,5 +52,5 @@ module _ {R : Type 0} (keeper_of : keeper.Ghosts R) (old mid new : R) (first : U
   may_gain_from change gains = record {
     held = λ now held. (let was = gains.held now held in (was.0, first.content was.0 was.1, was.2));
     tells = λ tells. first.tells (gains.tells tells);
-    stop = λ tells r left. ⊎_elim (λ past. inl ((first.left (gains.tells tells) r).0 past)) (λ was. inr (was.0, first.content was.0 was.1, was.2)) (gains.stop tells r left);
+    stop = λ tells r left. ⊎_elim (λ past. inl (first.left (gains.tells tells) r past)) (λ was. inr (was.0, first.content was.0 was.1, was.2)) (gains.stop tells r left);
   }

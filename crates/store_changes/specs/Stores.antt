@@ -1,5 +1,5 @@
 -- What a commit does to a store.
-use Rattle.std.specs.Prelude.{◌≡◌, ◌⊎◌, ◌↔◌, true, Some, Result, Ok, Err}
+use Rattle.std.specs.Prelude.{◌≡◌, ◌⊎◌, true, Some, Result, Ok, Err}
 use Rattle.octets.specs.Content.{Told}
 use Rattle.git_object.specs.Repository.{Repository}
 use Rattle.keeper_api.specs.Changes.{changed}
@@ -23,7 +23,7 @@ module _ {R : Type 0} (keeper_of : keeper.Ghosts R) (old new : R) where
   pub record Gains (change : Change) : Type 0 where
     pub held : Told (Makes change) (keeper_of.content old) (keeper_of.content new)
     pub tells : keeper_of.tells_left new ≡ true → keeper_of.tells_left old ≡ true
-    pub stop : keeper_of.tells_left new ≡ true → (now : Repository) → keeper_of.content new ≡ Some now → (r : Repository) → keeper_of.left new r ↔ (r ≡ now)
+    pub stop : keeper_of.tells_left new ≡ true → (now : Repository) → keeper_of.content new ≡ Some now → (r : Repository) → keeper_of.left new r → r ≡ now
 
   -- the repository is as before or has the change made, and a stop leaves no more than it could, and that
   pub record MayGain (change : Change) : Type 0 where

@@ -43,7 +43,8 @@ returns-in_err-commit-clause-held g c =
     gives c.from_residual-in_err-commit.result (from_keeper c.in_err-commit.field-0.0) (LeavesRefused g.R.Keeper left left_now c.args.keeper.now c.commit.new.self)
     c.from_residual-in_err-commit.ensures.1
     (commit_leaves g.R.Keeper left left_now c.args.keeper.now c.is_empty.new.keeper c.commit.new.self c.in-Ok.change c.is_empty.ensures.same
-    (λ r told. (c.in_ok-is_empty.ensures.answer r told).0 (search rules)) c.in-Ok.ensures.found c.in_err-commit.field-0.0 c.in_err-commit.ensures.content c.in_err-commit.ensures.left)
+    (λ r told. (c.in_ok-is_empty.ensures.answer r told).0 (search rules)) c.in-Ok.ensures.found c.in_err-commit.field-0.0 c.in_err-commit.ensures.content c.in_err-commit.ensures.left
+    (λ memory. search rules))
 
 pub returns-clause-ok : goal.returns-clause-ok
 returns-clause-ok g c =
