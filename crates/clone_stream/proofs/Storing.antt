@@ -64,7 +64,7 @@ module _ {S : Type 0} (keeper : Ghosts S) (left left_now : Option (List ℕ)) (o
     -- a commit that the keeper refused
     pub commit_leaves : (fault : KeeperFault) → Told (Commits change {T = Unit {0}} (Err fault)) (keeper.content mid) (keeper.content new)
         → Leaves change {T = Unit {0}} (Err fault) (keeper.content mid) (keeper.tells_left mid) (keeper.tells_left new) (keeper.left mid) (keeper.left new)
-        → (fault ≡ keeper_fault.Memory → keeper.comes old new) → LeavesRefused keeper left left_now old new (from_keeper fault)
+        → (fault ≡ keeper_fault.Memory → (first : S) → keeper.comes first mid → keeper.comes first new) → LeavesRefused keeper left left_now old new (from_keeper fault)
     commit_leaves keeper_fault.Failed told leaves came = record {
       held = λ r now. elim ((told r now).2) [
         | inl as_was ↦ inl (same.content r ((told r now).1 ∙ ap Some (sym as_was)))
@@ -80,7 +80,7 @@ module _ {S : Type 0} (keeper : Ghosts S) (left left_now : Option (List ℕ)) (o
       content = λ r now. same.content r ((told r now).1 ∙ ap Some (sym (told r now).2));
       tells = λ tells. same.tells (leaves.tells tells);
       left = λ tells r now. same.left (leaves.tells tells) r (leaves.left tells r now);
-      comes = came refl;
+      comes = λ first was. came refl first (same.comes first was);
     }
 
     -- a commit that was made

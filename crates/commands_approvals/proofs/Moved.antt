@@ -2,6 +2,7 @@
 use Rattle.std.proofs.Common.{◌≡◌, ℕ, List}
 use Rattle.std.specs.Prelude.{Option, Some, Result, Ok, Err}
 use Rattle.git_object.specs.Repository.{Repository, value_of}
+use Rattle.keeper_api.proofs.Coming.{as_before, as_before_then}
 use Rattle.keeper_api.specs.Undisturbed.{Undisturbed}
 use Rattle.keeper_api.specs.declared.keepers.Keeper as keeper
 use Rattle.edge_disk.specs.Disk.{IsKept}
@@ -15,7 +16,7 @@ use Rattle.attesting.specs.Attesting.{attestations_name}
 use Rattle.attesting.specs.Sites.{IsSiteOf}
 use Rattle.attesting.specs.declared.attesting.Attested.{Attested}
 use Rattle.attesting.specs.declared.sites.Site.{Site}
-use Rattle.commands_log.proofs.Moved.{kept_same, kept_twice, same, same_twice, used_up}
+use Rattle.commands_log.proofs.Moved.{kept_same, kept_twice, used_up}
 use Rattle.commands_log.specs.Untouched.{Untouched}
 use Rattle.commands_log.specs.declared.appending.AppendFault.{AppendFault}
 use Rattle.commands_log.specs.declared.appending.AppendFault.TheVariants.{ClockFailed, Exhausted, DiskFailed, CommitFailed, Memory, MemoryAfter}
@@ -27,11 +28,11 @@ module _ {R D : Type 0} (keeper_of : keeper.Ghosts R) (disk_of : disk.Ghosts D) 
   pub unsigned : (store : R) (file file_now : D) (seconds : ℕ) (site : Site) (fault : AppendFault) → SignEnds name ends envelope secret seconds disk_of file file_now site (Err fault)
       → RefusesKeeping keeper_of disk_of name ends envelope secret store store file file_now fault seconds
   unsigned store file file_now seconds site ClockFailed none = absurd none
-  unsigned store file file_now seconds site Exhausted none = (record { store = same keeper_of store; kept = kept_same disk_of file file_now none.same }, used_up disk_of secret file file_now none)
-  unsigned store file file_now seconds site DiskFailed torn = (same keeper_of store, torn)
+  unsigned store file file_now seconds site Exhausted none = (record { store = as_before keeper_of store; kept = kept_same disk_of file file_now none.same }, used_up disk_of secret file file_now none)
+  unsigned store file file_now seconds site DiskFailed torn = (as_before keeper_of store, torn)
   unsigned store file file_now seconds site CommitFailed none = absurd none
-  unsigned store file file_now seconds site Memory still = record { store = same keeper_of store; kept = kept_same disk_of file file_now still }
-  unsigned store file file_now seconds site MemoryAfter lost = (same keeper_of store, lost)
+  unsigned store file file_now seconds site Memory still = record { store = as_before keeper_of store; kept = kept_same disk_of file file_now still }
+  unsigned store file file_now seconds site MemoryAfter lost = (as_before keeper_of store, lost)
 
   module _ (old new : R) (file file_now : D) (seconds : ℕ) (site : Site) (a : Attested)
       (is_site : (r : Repository) → keeper_of.content old ≡ Some r → IsSiteOf r (value_of r attestations_name) name ends.from ends.tree site) (signs : SignsChange name ends envelope secret seconds disk_of file file_now site a) where
@@ -58,7 +59,7 @@ module _ {R D : Type 0} (keeper_of : keeper.Ghosts R) (disk_of : disk.Ghosts D) 
   -- ---- from before the reading on
   module _ (old mid new : R) (file file_mid file_now : D) (store : Undisturbed keeper_of old mid) (read : IsKept (disk_of.seen file) (disk_of.seen file_mid) (disk_of.may_leave file) (disk_of.may_leave file_mid)) where
     untouched : Untouched keeper_of disk_of mid new file_mid file_now → Untouched keeper_of disk_of old new file file_now
-    untouched still = record { store = same_twice keeper_of old mid new store still.store; kept = kept_twice disk_of file file_mid file_now read still.kept }
+    untouched still = record { store = as_before_then keeper_of old mid new store still.store; kept = kept_twice disk_of file file_mid file_now read still.kept }
 
     keeps : (P Q : Attested → Type 0) → ((a : Attested) → P a → Q a) → (seconds : ℕ) → Keeps keeper_of disk_of name ends envelope secret mid new file_mid file_now P seconds
         → Keeps keeper_of disk_of name ends envelope secret old new file file_now Q seconds
@@ -75,11 +76,11 @@ module _ {R D : Type 0} (keeper_of : keeper.Ghosts R) (disk_of : disk.Ghosts D) 
         → RefusesKeeping keeper_of disk_of name ends envelope secret old new file file_now fault seconds
     refuses ClockFailed seconds none = absurd none
     refuses Exhausted seconds (still, none) = (untouched still, none)
-    refuses DiskFailed seconds (still, torn) = (same_twice keeper_of old mid new store still, tears_from disk_of file file_mid file_now secret read.same torn)
+    refuses DiskFailed seconds (still, torn) = (as_before_then keeper_of old mid new store still, tears_from disk_of file file_mid file_now secret read.same torn)
     refuses CommitFailed seconds may =
         keeps (λ a. MayGain keeper_of mid new a.change) (λ a. MayGain keeper_of old new a.change) (λ a gains. may_gain_from keeper_of old mid new store a.change gains) seconds may
     refuses Memory seconds still = untouched still
-    refuses MemoryAfter seconds (still, lost) = (same_twice keeper_of old mid new store still, (lost.0, signs_from disk_of file file_mid file_now secret _ lost.0 read.same lost.1))
+    refuses MemoryAfter seconds (still, lost) = (as_before_then keeper_of old mid new store still, (lost.0, signs_from disk_of file file_mid file_now secret _ lost.0 read.same lost.1))
 
     module _ (left left_now : Option (List ℕ)) where
       timed : (fault : AppendFault) → Timed keeper_of disk_of name ends envelope secret mid new file_mid file_now left left_now (RefusesKeeping keeper_of disk_of name ends envelope secret mid new file_mid file_now fault)

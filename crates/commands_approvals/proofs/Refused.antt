@@ -2,6 +2,7 @@
 use Rattle.std.proofs.Common.{◌≡◌, ℕ, List, ap, refl, subst, sym}
 use Rattle.std.specs.Prelude.{Option, Some, Result, Err}
 use Rattle.git_object.specs.Repository.{Repository}
+use Rattle.keeper_api.proofs.Coming.{as_before_then}
 use Rattle.keeper_api.specs.Undisturbed.{Undisturbed}
 use Rattle.keeper_api.specs.declared.keepers.Keeper as keeper
 use Rattle.edge_disk.specs.Disk.{IsKept}
@@ -11,7 +12,6 @@ use Rattle.rsl_chain.specs.Logs.{IsLogOf, IsUnbroken}
 use Rattle.rsl_chain.specs.declared.log_faults.LogFault.{LogFault}
 use Rattle.rsl_chain.specs.declared.log_faults.LogFault.TheVariants as log
 use Rattle.dsse_envelope.specs.declared.envelope.Envelope.{Envelope}
-use Rattle.commands_log.proofs.Moved.{same_twice}
 use Rattle.commands_log.specs.Opening.{IsAnyLength, WhyUnread, log_fault, unread_disk, unread_keeper}
 use Rattle.commands_log.specs.Recording as recording
 use Rattle.commands_log.specs.Untouched.{Untouched}
@@ -40,7 +40,7 @@ module _ {R D : Type 0} (keeper_of : keeper.Ghosts R) (disk_of : disk.Ghosts D) 
     (first : Undisturbed keeper_of old opened) (next : Undisturbed keeper_of opened mid) (read : IsKept (disk_of.seen file) (disk_of.seen file_mid) (disk_of.may_leave file) (disk_of.may_leave file_mid))
     (signing : Signing) (loaded : (bytes : List ℕ) → disk_of.seen file_mid ≡ Some bytes → IsLoaded bytes signing) (ids : List (List ℕ)) (is_log : (r : Repository) → keeper_of.content opened ≡ Some r → IsLogOf r ids) where
   still : Untouched keeper_of disk_of old mid file file_mid
-  still = record { store = same_twice keeper_of old opened mid first next; kept = read }
+  still = record { store = as_before_then keeper_of old opened mid first next; kept = read }
 
   unread : (fault : LogFault) → ((r : Repository) → keeper_of.content mid ≡ Some r → IsUnbroken fault) → WhyUnread keeper_of disk_of mid file_mid (log_fault fault)
   unread (log.Broken id) why = (λ bytes told. (signing.secret, (loaded bytes told).is), λ r told. absurd (why r told))
@@ -76,7 +76,7 @@ module _ {R D : Type 0} (keeper_of : keeper.Ghosts R) (disk_of : disk.Ghosts D) 
         let was = told_before keeper_of disk_of name ends envelope signing.secret mid new file_mid file_now left left_now result it now held in
         let then = next.content was.0 was.1 in
         (was.0, first.content was.0 then, (is_log was.0 then, wanted was.0 was.1, free was.0 was.1));
-    stores = store_from keeper_of disk_of name ends envelope signing.secret old mid new file file_mid file_now (same_twice keeper_of old opened mid first next) read left left_now result it;
+    stores = store_from keeper_of disk_of name ends envelope signing.secret old mid new file file_mid file_now (as_before_then keeper_of old opened mid first next) read left left_now result it;
   }
 
 -- ---- telling it

@@ -2,12 +2,13 @@
 use Rattle.std.proofs.Common.{◌≡◌, ◌+◌, ◌∙◌, ℕ, List, [], ◌∷◌, length, ap, refl, subst}
 use Rattle.std.specs.Prelude.{Option, Ok, Err, false}
 use Rattle.octets.specs.Content.{with_front}
+use Rattle.keeper_api.proofs.Coming.{as_before}
 use Rattle.keeper_api.specs.declared.keepers.Keeper as keeper
 use Rattle.edge_disk.specs.declared.disks.Disk as disk
 use Rattle.log_entries.specs.declared.entries.EntryBody.{EntryBody}
 use Rattle.hss_keys.specs.Secret.{Secret}
 use Rattle.rsl_chain.specs.declared.drafts.Draft.{Draft}
-use Rattle.commands_log.proofs.Moved.{kept, kept_same, same, used_up}
+use Rattle.commands_log.proofs.Moved.{kept, kept_same, used_up}
 use Rattle.commands_log.specs.Appending.{AppendEnds, AppendsDraft, Drafts, RefusesDraft}
 use Rattle.commands_log.specs.Drafting.{WhyUndrafted}
 use Rattle.commands_log.specs.Entries.{draft_after}
@@ -20,18 +21,18 @@ use Rattle.commands_log.specs.declared.appending.Appended.{Appended}
 module _ {R D : Type 0} (keeper_of : keeper.Ghosts R) (disk_of : disk.Ghosts D) where
   -- nothing was done
   pub untouched : (store : R) (file : D) → Untouched keeper_of disk_of store store file file
-  untouched store file = record { store = same keeper_of store; kept = kept disk_of file }
+  untouched store file = record { store = as_before keeper_of store; kept = kept disk_of file }
 
   -- why a draft was not signed is why its entry was not added
   pub unsigned : (secret : Secret) (draft : Draft) (store : R) (file file_now : D) (fault : AppendFault) → SignEnds disk_of secret draft file file_now (Err fault)
       → RefusesDraft keeper_of disk_of secret store store file file_now draft fault
   unsigned secret draft store file file_now ClockFailed none = absurd none
   unsigned secret draft store file file_now Exhausted none =
-      (record { store = same keeper_of store; kept = kept_same disk_of file file_now none.same }, used_up disk_of secret file file_now none)
-  unsigned secret draft store file file_now DiskFailed torn = (same keeper_of store, torn)
+      (record { store = as_before keeper_of store; kept = kept_same disk_of file file_now none.same }, used_up disk_of secret file file_now none)
+  unsigned secret draft store file file_now DiskFailed torn = (as_before keeper_of store, torn)
   unsigned secret draft store file file_now CommitFailed none = absurd none
-  unsigned secret draft store file file_now Memory still = record { store = same keeper_of store; kept = kept_same disk_of file file_now still }
-  unsigned secret draft store file file_now MemoryAfter lost = (same keeper_of store, lost)
+  unsigned secret draft store file file_now Memory still = record { store = as_before keeper_of store; kept = kept_same disk_of file file_now still }
+  unsigned secret draft store file file_now MemoryAfter lost = (as_before keeper_of store, lost)
 
   module _ (secret : Secret) (old new : R) (file file_now : D) (ids : List (List ℕ)) (body : EntryBody) (left left_now : Option (List ℕ)) where
     -- the seconds of a draft, of which this is so

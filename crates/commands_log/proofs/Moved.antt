@@ -1,6 +1,7 @@
 -- Steps one after the other: reading, by which nothing changes, and what comes of it then.
 use Rattle.std.proofs.Common.{◌≡◌, List, ℕ, subst, sym, inl, inr, ⊎_elim}
 use Rattle.std.specs.Prelude.{Option, Result, Ok, Err, Some}
+use Rattle.keeper_api.proofs.Coming.{as_before_then}
 use Rattle.keeper_api.specs.Undisturbed.{Undisturbed}
 use Rattle.keeper_api.specs.declared.keepers.Keeper as keeper
 use Rattle.edge_disk.specs.Disk.{IsKept}
@@ -49,19 +50,6 @@ module _ {D : Type 0} (disk_of : disk.Ghosts D) where
   used_up secret old new none bytes told = none.used_up bytes (subst (λ (d : D). disk_of.seen d ≡ Some bytes) none.same told)
 
 module _ {R : Type 0} (keeper_of : keeper.Ghosts R) where
-  pub same : (store : R) → Undisturbed keeper_of store store
-  same store = record { content = λ now held. held; tells = λ tells. tells; left = λ tells r. (λ left. left, λ left. left) }
-
-  pub same_twice : (old mid new : R) → Undisturbed keeper_of old mid → Undisturbed keeper_of mid new → Undisturbed keeper_of old new
-  same_twice old mid new first next = record {
-    content = λ now held. first.content now (next.content now held);
-    tells = λ tells. first.tells (next.tells tells);
-    left = λ tells r.
-        let before = first.left (next.tells tells) r in
-        let after = next.left tells r in
-        (λ left. before.0 (after.0 left), λ left. after.1 (before.1 left));
-  }
-
   pub gains_from : (text : List ℕ) (old mid new : R) → Undisturbed keeper_of old mid → Gains keeper_of text mid new → Gains keeper_of text old new
   gains_from text old mid new first gains = record {
     held = λ now held. (let was = gains.held now held in (was.0, first.content was.0 was.1, was.2));
@@ -87,7 +75,7 @@ module _ {R D : Type 0} (keeper_of : keeper.Ghosts R) (disk_of : disk.Ghosts D) 
   }
 
   untouched : Untouched keeper_of disk_of mid new file_mid file_now → Untouched keeper_of disk_of old new file file_now
-  untouched still = record { store = same_twice keeper_of old mid new store still.store; kept = kept_twice disk_of file file_mid file_now read still.kept }
+  untouched still = record { store = as_before_then keeper_of old mid new store still.store; kept = kept_twice disk_of file file_mid file_now read still.kept }
 
   appends : (draft : Draft) (id : List ℕ) → AppendsDraft keeper_of disk_of secret mid new file_mid file_now draft id → AppendsDraft keeper_of disk_of secret old new file file_now draft id
   appends draft id added = record {
@@ -100,7 +88,7 @@ module _ {R D : Type 0} (keeper_of : keeper.Ghosts R) (disk_of : disk.Ghosts D) 
   refuses : (draft : Draft) (fault : AppendFault) → RefusesDraft keeper_of disk_of secret mid new file_mid file_now draft fault → RefusesDraft keeper_of disk_of secret old new file file_now draft fault
   refuses draft ClockFailed none = absurd none
   refuses draft Exhausted (still, none) = (untouched still, none)
-  refuses draft DiskFailed (still, torn) = (same_twice keeper_of old mid new store still, tears_from disk_of file file_mid file_now secret read.same torn)
+  refuses draft DiskFailed (still, torn) = (as_before_then keeper_of old mid new store still, tears_from disk_of file file_mid file_now secret read.same torn)
   refuses draft CommitFailed may = record {
     text = may.text;
     signs = signs draft may.text may.signs;
@@ -108,7 +96,7 @@ module _ {R D : Type 0} (keeper_of : keeper.Ghosts R) (disk_of : disk.Ghosts D) 
   }
   refuses draft Memory still = untouched still
   refuses draft MemoryAfter (still, lost) = (
-    same_twice keeper_of old mid new store still,
+    as_before_then keeper_of old mid new store still,
     record { signature = lost.signature; signs = signs_from disk_of file file_mid file_now secret _ lost.signature read.same lost.signs },
   )
 

@@ -2,6 +2,7 @@
 use Rattle.std.proofs.Common.{◌≡◌, ◌<◌, ◌∙◌, ℕ, List, ap, length}
 use Rattle.std.specs.Prelude.{Option, Some, Result, Ok, Err}
 use Rattle.git_object.specs.Repository.{Repository, value_of}
+use Rattle.keeper_api.proofs.Coming.{as_before_then}
 use Rattle.keeper_api.specs.Undisturbed.{Undisturbed}
 use Rattle.keeper_api.specs.declared.keepers.Keeper as keeper
 use Rattle.edge_disk.specs.Disk.{IsKept}
@@ -10,7 +11,7 @@ use Rattle.log_entries.specs.declared.entries.EntryBody.{EntryBody}
 use Rattle.log_entries.specs.declared.entries.EntryBody.TheVariants.{Reference}
 use Rattle.hss_keys.specs.Secret.{Secret}
 use Rattle.rsl_chain.specs.Logs.{IsLogOf}
-use Rattle.commands_log.proofs.Moved.{append_from, same_twice}
+use Rattle.commands_log.proofs.Moved.{append_from}
 use Rattle.commands_log.specs.Appending.{AppendEnds}
 use Rattle.commands_log.specs.Recording.{Tries}
 use Rattle.commands_log.specs.declared.appending.AppendFault.{AppendFault}
@@ -49,7 +50,7 @@ module _ {R D : Type 0} (keeper_of : keeper.Ghosts R) (disk_of : disk.Ghosts D) 
         let was = told_before keeper_of disk_of secret mid new file_mid file_now ids body left left_now result ends now held in
         let then = next.content was.0 was.1 in
         (was.0, first.content was.0 then, record { log = log was.0 then; so = so was.0 was.1 });
-    ends = append_from keeper_of disk_of secret old mid new file file_mid file_now (same_twice keeper_of old opened mid first next) kept ids body left left_now result ends;
+    ends = append_from keeper_of disk_of secret old mid new file file_mid file_now (as_before_then keeper_of old opened mid first next) kept ids body left left_now result ends;
   }
 
 -- the value of a reference is what its body records

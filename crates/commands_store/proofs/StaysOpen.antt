@@ -3,7 +3,7 @@ use Rattle.std.proofs.Common.{◌≡◌, inl, inr, List, ℕ, refl, subst}
 use Rattle.std.specs.Prelude.{Bool, Option, None, Result, Ok, Err}
 use Rattle.octets.specs.Causes.{HasCause}
 use Rattle.git_object.specs.Repository.{Repository}
-use Rattle.keeper_api.proofs.Coming.{ComesThen, as_before_then}
+use Rattle.keeper_api.proofs.Coming.{as_before_then}
 use Rattle.keeper_api.specs.Undisturbed.{Undisturbed}
 use Rattle.keeper_api.specs.declared.keepers.Keeper as keeper
 use Rattle.clone_stream.specs.Taking.{TakesInto}
@@ -25,9 +25,9 @@ verdict_quiet (Accepted count) = refl
 verdict_quiet (TipDiffers kept recorded) = refl
 verdict_quiet (Violation number fault) = refl
 
-module _ {R : Type 0} (keeper_of : keeper.Ghosts R) (left left_now : Option (List ℕ)) (comes_then : ComesThen keeper_of) (old mid new : R) (same : Undisturbed keeper_of mid new) where
+module _ {R : Type 0} (keeper_of : keeper.Ghosts R) (left left_now : Option (List ℕ)) (old mid new : R) (same : Undisturbed keeper_of mid new) where
   still_same : Undisturbed keeper_of old mid → Undisturbed keeper_of old new
-  still_same first = as_before_then keeper_of comes_then old mid new first same
+  still_same first = as_before_then keeper_of old mid new first same
 
   still_taken : TakesInto keeper_of left left_now old mid → TakesInto keeper_of left left_now old new
   still_taken took = record {

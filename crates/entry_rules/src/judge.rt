@@ -167,6 +167,8 @@ impl<'a, R: Keeper> Judge<Policy, Fault, R> for KnowingRules<'a> {
 
     ghost reads = { λ k. R.reads k };
 
+    ghost comes = { λ k l. R.comes k l };
+
     fn epoch(
         &self,
         alloc: Global,

@@ -55,6 +55,8 @@ impl Keeper for Endless {
 
     ghost reads = { λ k. k.reads };
 
+    ghost comes = { λ _ _. Unit {0} };
+
     fn read_object(&mut self, _alloc: Global, _id: &ObjectId) -> Result<Option<Object>, KeeperFault>
         ensures cause { HasCause keeper_failed 0 0 result }
         ensures reads { self.new.reads ≡ one_more self.old.reads }
@@ -109,6 +111,10 @@ impl Keeper for Endless {
     }
 
     ghost held_is_left = { λ _ r told. absurd (false≢true told) };
+
+    ghost comes_self = { λ _. tt };
+
+    ghost comes_tells = { λ _ _ came. record { content = λ before_end same told. absurd (false≢true told); left = λ before_end same told. absurd (false≢true told) } };
 }
 
 // A store of blobs of so many zero bytes.

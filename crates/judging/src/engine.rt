@@ -124,7 +124,7 @@ impl<P: Drop, F: Copied> Engine<P, F> {
             → IsTaken (J.rules judge.now) log (record { entry = entry.now; repository = r }) self.new verdict) }
         ensures count { OnOk result (taken self.new ≡ entry.now.number) }
         ensures refused { OnErr result ((rules : Rules P F) (log : List Taken) → Stands rules log self.old → Stands rules log self.new) }
-        ensures same { KeepsStore J.content J.tells_left J.left store.old store.new }
+        ensures same { KeepsStore J.content J.tells_left J.left J.comes store.old store.new }
         ensures cause { HasCause judge_failed (J.faults store.old) (J.faults store.new) result }
         ensures reads { OnOk result ((r : Repository) (log : List Taken) → J.content store.new ≡ Some r → Stands (J.rules judge.now) log self.old → is_bounded (J.rules judge.now) log (record { entry = entry.now; repository = r }) ≡ true
             → J.reads store.new ≤ J.reads store.old + reads_of (J.rules judge.now) log (record { entry = entry.now; repository = r })) }
@@ -157,7 +157,7 @@ impl<P: Drop, F: Copied> Engine<P, F> {
         requires trusts { (r : Repository) → J.content store.old ≡ Some r → J.trusts judge.now r }
         ensures answer { IfOk result (λ verdict. (r : Repository) (log : List Taken) → J.content store.new ≡ Some r → Stands (J.rules judge.now) log self.now
             → verdict ≡ verdict_of (J.rules judge.now) log (record { entry = entry.now; repository = r })) }
-        ensures same { KeepsStore J.content J.tells_left J.left store.old store.new }
+        ensures same { KeepsStore J.content J.tells_left J.left J.comes store.old store.new }
         ensures cause { HasCause judge_failed (J.faults store.old) (J.faults store.new) result }
         ensures reads { OnOk result ((r : Repository) (log : List Taken) → J.content store.new ≡ Some r → Stands (J.rules judge.now) log self.now → is_bounded (J.rules judge.now) log (record { entry = entry.now; repository = r }) ≡ true
             → J.reads store.new ≤ J.reads store.old + decision_reads_of (J.rules judge.now) log (record { entry = entry.now; repository = r })) }

@@ -66,6 +66,9 @@ pub trait Judge<P, F, S> {
     /// How often an object of a store was read.
     ghost reads: { S → ℕ };
 
+    /// Whether the second store comes of the first by calls that make no commit.
+    ghost comes: { S → S → Type 0 };
+
     /// The policy that an entry of the policy's reference opens under the one in force, or the entry's fault.
     fn epoch(
         &self,
@@ -75,7 +78,7 @@ pub trait Judge<P, F, S> {
         entry: &Entry,
     ) -> Result<Result<P, F>, JudgeFault>
         ensures answer { IfOk result (λ epoch. (r : Repository) → content store.new ≡ Some r → epoch ≡ (rules self.now).epoch r (option_copied policy.entry) entry.now) }
-        ensures same { KeepsStore content tells_left left store.old store.new }
+        ensures same { KeepsStore content tells_left left comes store.old store.new }
         ensures cause { HasCause judge_failed (faults store.old) (faults store.new) result }
         ensures reads { (r : Repository) → content store.new ≡ Some r → reads store.new ≤ reads store.old + (rules self.now).epoch_reads r (option_copied policy.entry) entry.now };
 
@@ -93,7 +96,7 @@ pub trait Judge<P, F, S> {
         requires trusts { (r : Repository) → content store.old ≡ Some r → trusts self.now r }
         ensures fault { IfOk result (λ found. (r : Repository) → content store.new ≡ Some r → found.fault ≡ (rules self.now).fault r policy.now entry.now from.now (option_copied attested.entry)) }
         ensures signers { IfOk result (λ found. (r : Repository) → content store.new ≡ Some r → found.signers ≡ (rules self.now).signers r policy.now entry.now from.now (option_copied attested.entry)) }
-        ensures same { KeepsStore content tells_left left store.old store.new }
+        ensures same { KeepsStore content tells_left left comes store.old store.new }
         ensures cause { HasCause judge_failed (faults store.old) (faults store.new) result }
         ensures reads { OnOk result ((r : Repository) → content store.new ≡ Some r → (rules self.now).bounded r from.now (target_of entry.now.body) ≡ true
             → reads store.new ≤ reads store.old + (rules self.now).fault_reads r policy.now entry.now from.now (option_copied attested.entry)) };
@@ -108,7 +111,7 @@ pub trait Judge<P, F, S> {
     ) -> Result<bool, JudgeFault>
         requires trusts { (r : Repository) → content store.old ≡ Some r → trusts self.now r }
         ensures answer { IfOk result (λ same. (r : Repository) → content store.new ≡ Some r → same ≡ same_tree (rules self.now) r from.now to.now) }
-        ensures same { KeepsStore content tells_left left store.old store.new }
+        ensures same { KeepsStore content tells_left left comes store.old store.new }
         ensures cause { HasCause judge_failed (faults store.old) (faults store.new) result }
         ensures reads { OnOk result ((r : Repository) → content store.new ≡ Some r → (rules self.now).bounded r from.now to.now ≡ true → reads store.new ≤ reads store.old + (rules self.now).tree_reads r from.now to.now) };
 

@@ -51,7 +51,7 @@ pub fn take_reference<P: Drop, F: Copied, S, J: Judge<P, F, S>>(
         → entry.now.body ≡ Reference name.now target.now → IsTaken (J.rules judge.now) log (record { entry = entry.now; repository = r }) engine.new verdict) }
     ensures count { OnOk result (taken engine.new ≡ taken engine.old + 1) }
     ensures refused { OnErr result ((rules : Rules P F) (log : List Taken) → Stands rules log engine.old → Stands rules log engine.new) }
-    ensures same { KeepsStore J.content J.tells_left J.left store.old store.new }
+    ensures same { KeepsStore J.content J.tells_left J.left J.comes store.old store.new }
     ensures cause { HasCause judge_failed (J.faults store.old) (J.faults store.new) result }
     ensures reads { OnOk result ((r : Repository) → J.content store.new ≡ Some r → entry.now.body ≡ Reference name.now target.now → (J.rules judge.now).bounded r (standing_of engine.old.book name.now).from target.now ≡ true
         → J.reads store.new ≤ J.reads store.old
@@ -104,7 +104,7 @@ pub fn look_reference<P: Drop, F: Copied, S, J: Judge<P, F, S>>(
     requires trusts { (r : Repository) → J.content store.old ≡ Some r → J.trusts judge.now r }
     ensures answer { IfOk result (λ verdict. (r : Repository) (log : List Taken) (target : List ℕ) → J.content store.new ≡ Some r → Stands (J.rules judge.now) log engine.now
         → entry.now.body ≡ Reference name.now target → verdict ≡ verdict_of (J.rules judge.now) log (record { entry = entry.now; repository = r })) }
-    ensures same { KeepsStore J.content J.tells_left J.left store.old store.new }
+    ensures same { KeepsStore J.content J.tells_left J.left J.comes store.old store.new }
     ensures cause { HasCause judge_failed (J.faults store.old) (J.faults store.new) result }
     ensures reads { OnOk result ((r : Repository) → J.content store.new ≡ Some r → (J.rules judge.now).bounded r (standing_of engine.now.book name.now).from (target_of entry.now.body) ≡ true
         → J.reads store.new ≤ J.reads store.old + decision_reads (J.rules judge.now) r engine.now.policy entry.now name.now (standing_of engine.now.book name.now).from engine.now.attested) }

@@ -7,6 +7,7 @@ pub mod Halving
 pub mod Inserting
 pub mod Planning
 pub mod Removing
+pub mod Telling
 pub mod Trees
 pub mod Undos
 pub mod Walking

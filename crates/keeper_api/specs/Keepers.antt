@@ -8,12 +8,12 @@ use Rattle.keeper_api.specs.declared.keeper_faults.KeeperFault.{KeeperFault}
 use Rattle.keeper_api.specs.declared.keeper_faults.KeeperFault.TheVariants.{Failed, Memory}
 
 -- a call that makes no commit: the same is held, where the keeper tells it a stop may leave no more than it could leave
--- before, and the keeper comes of what it was
-pub record AsBefore (before after : Option Repository) (told told_now : Bool) (past now : Repository → Type 0) (came : Type 0) : Type 0 where
+-- before, and of what the keeper came it comes still
+pub record AsBefore {S : Type 0} (before after : Option Repository) (told told_now : Bool) (past now : Repository → Type 0) (came comes_now : S → Type 0) : Type 0 where
   pub content : Stays before after
   pub tells : told_now ≡ true → told ≡ true
   pub left : told_now ≡ true → (r : Repository) → now r → past r
-  pub comes : came
+  pub comes : (first : S) → came first → comes_now first
 
 -- what told goes on telling, where no fault was counted and the count is not at its end
 pub record TellsOn (before after : Option Repository) (told told_now : Bool) (count count_now : ℕ) : Type 0 where

@@ -41,7 +41,7 @@ pub trait Keeper {
     fn read_object(&mut self, alloc: Global, id: &ObjectId) -> Result<Option<Object>, KeeperFault>
         ensures answer { IfOk result (λ found. (r : Repository) → content self.new ≡ Some r → found ≡ get r.objects id.now) }
         ensures same { AsBefore (content self.old) (content self.new) (tells_left self.old) (tells_left self.new) (left self.old) (left self.new)
-            (comes self.old self.new) }
+            (λ first. comes first self.old) (λ first. comes first self.new) }
         ensures cause { HasCause keeper_failed (faults self.old) (faults self.new) result }
         ensures reads { reads self.new ≡ one_more (reads self.old) };
 
@@ -49,7 +49,7 @@ pub trait Keeper {
     fn read_ref(&mut self, alloc: Global, name: &RefName) -> Result<Option<ObjectId>, KeeperFault>
         ensures answer { IfOk result (λ found. (r : Repository) → content self.new ≡ Some r → found ≡ get r.refs name.now) }
         ensures same { AsBefore (content self.old) (content self.new) (tells_left self.old) (tells_left self.new) (left self.old) (left self.new)
-            (comes self.old self.new) }
+            (λ first. comes first self.old) (λ first. comes first self.new) }
         ensures cause { HasCause keeper_failed (faults self.old) (faults self.new) result }
         ensures reads { reads self.new ≡ reads self.old };
 
@@ -62,7 +62,7 @@ pub trait Keeper {
         ensures answer { IfOk result (λ found. (r : Repository) → content self.new ≡ Some r
             → found ≡ option_map (λ e. e.0) (entry_after r.objects (option_copied after.entry))) }
         ensures same { AsBefore (content self.old) (content self.new) (tells_left self.old) (tells_left self.new) (left self.old) (left self.new)
-            (comes self.old self.new) }
+            (λ first. comes first self.old) (λ first. comes first self.new) }
         ensures cause { HasCause keeper_failed (faults self.old) (faults self.new) result }
         ensures reads { reads self.new ≡ reads self.old };
 
@@ -75,7 +75,7 @@ pub trait Keeper {
         ensures answer { IfOk result (λ found. (r : Repository) → content self.new ≡ Some r
             → found ≡ option_map ref_value (entry_after r.refs (option_copied after.entry))) }
         ensures same { AsBefore (content self.old) (content self.new) (tells_left self.old) (tells_left self.new) (left self.old) (left self.new)
-            (comes self.old self.new) }
+            (λ first. comes first self.old) (λ first. comes first self.new) }
         ensures cause { HasCause keeper_failed (faults self.old) (faults self.new) result }
         ensures reads { reads self.new ≡ reads self.old };
 
@@ -84,7 +84,7 @@ pub trait Keeper {
     fn commit(&mut self, alloc: Global, change: &Change) -> Result<(), KeeperFault>
         ensures content { Told (Commits change.now result) (content self.old) (content self.new) }
         ensures on { TellsOn (content self.old) (content self.new) (tells_left self.old) (tells_left self.new) (faults self.old) (faults self.new) }
-        ensures unmade { IsErrOf result KeeperFault.Memory → comes self.old self.new }
+        ensures unmade { IsErrOf result KeeperFault.Memory → (first : Self) → comes first self.old → comes first self.new }
         ensures left { Leaves change.now result (content self.old) (tells_left self.old) (tells_left self.new) (left self.old) (left self.new) }
         ensures cause { HasCause keeper_failed (faults self.old) (faults self.new) result }
         ensures reads { reads self.new ≡ reads self.old };
@@ -102,7 +102,4 @@ pub trait Keeper {
     /// What comes of a keeper tells on, where no fault was counted since.
     ghost comes_tells: { (first second : Self) → comes first second
         → TellsOn (content first) (content second) (tells_left first) (tells_left second) (faults first) (faults second) };
-
-    /// What comes of what comes of a keeper comes of it.
-    ghost comes_then: { (first second third : Self) → comes first second → comes second third → comes first third };
 }

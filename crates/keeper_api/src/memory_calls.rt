@@ -115,6 +115,4 @@ impl Keeper for MemKeeper {
     ghost comes_self = { λ k. tt };
 
     ghost comes_tells = { λ k l came. record { content = λ before_end same told. refl; left = λ before_end same told. told } };
-
-    ghost comes_then = { λ k l m first next. tt };
 }

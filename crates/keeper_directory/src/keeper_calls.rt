@@ -83,6 +83,4 @@ where
     ghost comes_self = { λ _. tt };
 
     ghost comes_tells = { λ _ _ came. record { content = λ before_end same told. absurd (false≢true told); left = λ before_end same told. absurd (false≢true told) } };
-
-    ghost comes_then = { λ _ _ _ first next. tt };
 }

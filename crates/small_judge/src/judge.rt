@@ -146,6 +146,8 @@ impl Judge<Holder, SmallFault, SmallStore> for SmallJudge {
 
     ghost reads = { λ j. 0 };
 
+    ghost comes = { λ s t. ⊤ };
+
     fn epoch(
         &self,
         _alloc: Global,

@@ -1,5 +1,6 @@
 use Rattle.std.proofs.Common.{arith, rules}
 use Rattle.std.specs.FinMap.{entries}
+use Rattle.keeper_api.proofs.Coming.{as_before_then}
 use Rattle.clone_stream.specs.Exports.{IsDamaged, objects_in}
 use Rattle.clone_stream.specs.Streams.{IsOwn, object_record}
 use Rattle.clone_stream.proofs.Walks.{all_read, at_last, halted, one_more, one_read}
@@ -12,7 +13,8 @@ objects-preserved g c = record {
       let step = rw c.in-Ok-Some.field-0-is at c.in-Ok-Some.ensures.steps in
       one_read object_record IsOwn IsDamaged r.objects c.objects.last (c.in-Ok-Some.id, step.value) _ _ _ (c.objects.invariant.read r (c.write_object.ensures.same.content r told)) (step.next.tells r told) step.next.is
       c.write_object.ensures.reads;
-  same = search rules;
+  same = as_before_then g.R.Keeper c.args.keeper.now c.objects.keeper c.write_object.new.keeper
+      c.objects.invariant.same c.write_object.ensures.same;
   keeper_quiet = search rules;
   sink_quiet = search rules;
 }

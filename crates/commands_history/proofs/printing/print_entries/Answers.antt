@@ -1,4 +1,5 @@
 use Rattle.std.proofs.Common.{◌+◌, refl, rules, take}
+use Rattle.keeper_api.proofs.Coming.{as_before_then}
 use Rattle.commands_history.specs.Faults.{fault_of_log}
 use Rattle.commands_history.specs.declared.faults.LogCommandFault.TheVariants.{SinkFailed}
 use Rattle.commands_history.proofs.Gathered.{gathered_none, gathered_released, gathering_stops, of_error, one_more_gathered, printed_cut}
@@ -33,7 +34,8 @@ ids-preserved g c = record {
       (one_more_gathered (g.R.Keeper.content c.ids.keeper) (g.R.Keeper.content c.gather.new.keeper) c.args.ids.now c.ids.id-index c.id-item.result (g.K.Sink.contents c.args.sink.now) (g.K.Sink.contents c.ids.sink) c.ids.piece c.gather.new.piece
       c.ids-test.true c.id-item.is c.gather.ensures.same.content c.ids.invariant.so c.in_ok-gather.ensures.gathers)
       c.in_ok-release.ensures.releases;
-  same = search rules;
+  same = as_before_then g.R.Keeper c.args.keeper.now c.ids.keeper c.gather.new.keeper
+      c.ids.invariant.same c.gather.ensures.same;
   keeper_quiet = search rules;
   sink_quiet = search rules;
   reads = search rules;

@@ -1,7 +1,8 @@
 use Rattle.std.proofs.Common.{refl}
 use Rattle.std.specs.Prelude.{Ok, Err}
 use Rattle.key_file.proofs.Steps.{moments}
-use Rattle.commands_log.proofs.Moved.{only_read, same_twice}
+use Rattle.keeper_api.proofs.Coming.{as_before_then}
+use Rattle.commands_log.proofs.Moved.{only_read}
 use Rattle.commands_log.proofs.Told.{of_value, tried}
 use Rattle.commands_log.proofs.Unopened.{holds_key}
 use Rattle.commands_log.specs.Recording.{Records, RecordsValue}
@@ -11,7 +12,7 @@ pub returns-in-Err-Failed-clause-ends : goal.returns-in-Err-Failed-clause-ends
 returns-in-Err-Failed-clause-ends g c = record {
   why = holds_key g.R.Keeper g.D.Disk c.body_of.new.keeper c.open_log.new.disk c.in-Ok.opened.key.signer c.in-Ok.ensures.loaded;
   same = record {
-    store = same_twice g.R.Keeper c.args.keeper.now c.open_log.new.keeper c.body_of.new.keeper c.in-Ok.ensures.same c.body_of.ensures.same;
+    store = as_before_then g.R.Keeper c.args.keeper.now c.open_log.new.keeper c.body_of.new.keeper c.in-Ok.ensures.same c.body_of.ensures.same;
     kept = c.in-Ok.ensures.kept;
   };
   unasked = refl;

@@ -3,7 +3,8 @@ use Rattle.std.specs.Prelude.{Ok, Err, Result}
 use Rattle.key_file.proofs.Steps.{moments}
 use Rattle.log_entries.specs.Entries.{policy_name}
 use Rattle.log_entries.specs.declared.entries.EntryBody.TheVariants.{Reference}
-use Rattle.commands_log.proofs.Moved.{only_read, same_twice}
+use Rattle.keeper_api.proofs.Coming.{as_before_then}
+use Rattle.commands_log.proofs.Moved.{only_read}
 use Rattle.git_object.specs.Repository.{value_of}
 use Rattle.commands_log.proofs.Told.{told_before, tried}
 use Rattle.commands_log.proofs.Unopened.{holds_key}
@@ -26,7 +27,7 @@ returns-in-Ok-Err-clause-ends g c =
     policy_fault r c.in-Ok-open_log.opened.log.ids c.in-Ok.name c.in-Ok-Err.why log c.in-Ok-open_log.ensures.short c.in-Ok.ensures
     (subst (λ (judged : Result (List ℕ) PolicyFault). Judges r c.in-Ok.name judged) c.in-Ok-Err.field-0-is (c.in-Ok-Err.ensures.judges r told log)))
     (record {
-      store = same_twice g.R.Keeper c.args.keeper.now c.open_log.new.keeper c.judge_value.new.keeper c.in-Ok-open_log.ensures.same c.in-Ok-Err.ensures.same;
+      store = as_before_then g.R.Keeper c.args.keeper.now c.open_log.new.keeper c.judge_value.new.keeper c.in-Ok-open_log.ensures.same c.in-Ok-Err.ensures.same;
       kept = c.in-Ok-open_log.ensures.kept;
     })
 
@@ -40,7 +41,7 @@ returns-in-Err-judge_value-clause-ends g c = record {
       (holds_key g.R.Keeper g.D.Disk c.judge_value.new.keeper c.open_log.new.disk c.in-Ok-open_log.opened.key.signer c.in-Ok-open_log.ensures.loaded)
       (λ r told. c.in-Err-judge_value.ensures.broken r told (c.in-Ok-open_log.ensures.log r (c.in-Err-judge_value.ensures.same.content r told))));
   same = record {
-    store = same_twice g.R.Keeper c.args.keeper.now c.open_log.new.keeper c.judge_value.new.keeper c.in-Ok-open_log.ensures.same c.in-Err-judge_value.ensures.same;
+    store = as_before_then g.R.Keeper c.args.keeper.now c.open_log.new.keeper c.judge_value.new.keeper c.in-Ok-open_log.ensures.same c.in-Err-judge_value.ensures.same;
     kept = c.in-Ok-open_log.ensures.kept;
   };
   unasked = refl;

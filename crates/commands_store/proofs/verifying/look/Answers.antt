@@ -8,7 +8,7 @@ use Rattle.commands_store.proofs.verifying.look.Goals as goal
 
 pub returns-clause-ends : goal.returns-clause-ends
 returns-clause-ends g c =
-    looked g.R.Keeper (g.S.Source.left c.args.source.now) (g.S.Source.left c.open.new.source) g.met.R.Keeper.comes_then c.args.keeper.now c.open.new.keeper c.judge.new.keeper c.judge.ensures.same
+    looked g.R.Keeper (g.S.Source.left c.args.source.now) (g.S.Source.left c.open.new.source) c.args.keeper.now c.open.new.keeper c.judge.new.keeper c.judge.ensures.same
     c.args.name.now c.args.root.now c.args.stdin c.judge.result c.in-Ok.ensures.opens c.judge.ensures.judges
 
 pub returns-clause-counted : goal.returns-clause-counted

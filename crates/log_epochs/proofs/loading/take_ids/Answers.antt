@@ -1,5 +1,6 @@
 use Rattle.std.proofs.Common.{◌∙◌, ◌+◌, ap, arith, refl, rules}
 use Rattle.std.proofs.lemmas.List.Sums.{sum_by-take-le, sum_by_more}
+use Rattle.keeper_api.proofs.Coming.{as_before_then}
 use Rattle.log_epochs.specs.Reading.{entry_reads}
 use Rattle.log_epochs.proofs.Passing.{all_taken, misses, none_taken, one_more}
 use Rattle.log_epochs.proofs.loading.take_ids.Goals as goal
@@ -28,7 +29,8 @@ ids-preserved g c = record {
       let next = sum_by_more (entry_reads r) c.args.ids.now c.ids.id-index c.id-item.result c.ids-test.true in
       let here = ap (entry_reads r) c.id-item.is in
       omega (arith, before, next, here, c.in-Ok.ensures.reads r told);
-  same = search rules;
+  same = as_before_then g.R.Keeper c.args.keeper.now c.ids.keeper c.take_id.new.keeper
+      c.ids.invariant.same c.in-Ok.ensures.same;
   quiet = search rules;
 }
 

@@ -1,6 +1,7 @@
 use Rattle.std.proofs.Common.{length, sym, ap, ◌∙◌, rules}
 use Rattle.std.proofs.lemmas.Bool.{false≢true}
 use Rattle.std.proofs.lemmas.List.{length_push}
+use Rattle.keeper_api.proofs.Coming.{as_before_then}
 use Rattle.rsl_chain.specs.Logs.{heads_of}
 use Rattle.rsl_chain.proofs.Walks.{back_end, back_missing, back_next, back_other, few_next, reads_next}
 use Rattle.rsl_chain.proofs.chain.walk_back.Goals as goal
@@ -29,7 +30,8 @@ entries-preserved g c = record {
       (c.in_ok-head.ensures.answer r told ∙ c.in-Some.is) (rw c.in-Some.is at c.in_ok-head.ensures.valid) (c.is_wanted.ensures.0 c.if-not-is_wanted.false) c.in-Some-parent.is);
   few = few_next (length c.entries.ids) c.entries.wanted c.in-Some.head c.in-Some-parent.parent _ c.entries.invariant.few (c.is_wanted.ensures.0 c.if-not-is_wanted.false)
       (rw c.in-Some.is at c.in_ok-head.ensures.valid) c.in-Some-parent.is (ap length c.in_ok-push.ensures.added ∙ length_push c.entries.ids c.entries.at);
-  same = search rules;
+  same = as_before_then g.R.Keeper c.args.keeper.now c.entries.keeper c.load_head.new.keeper
+      c.entries.invariant.same c.load_head.ensures.same;
   quiet = search rules;
   reads = reads_next (g.R.Keeper.reads c.args.keeper.now) _ _ (length c.entries.ids) _ c.entries.invariant.reads c.load_head.ensures.reads (ap length c.in_ok-push.ensures.added ∙ length_push c.entries.ids c.entries.at);
 }

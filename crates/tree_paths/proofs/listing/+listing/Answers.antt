@@ -1,4 +1,5 @@
 use Rattle.std.proofs.Common.{rules, true, ap, ◌≡◌, ◌∙◌, ◌++◌, ◌≤◌, ◌+◌, ◌-◌, List, arith, length, sym}
+use Rattle.keeper_api.proofs.Coming.{as_before_then}
 use Rattle.tree_paths.specs.Listings.{leaves}
 use Rattle.tree_paths.specs.Walks.{below, Grown, judge, steps}
 use Rattle.tree_paths.specs.declared.counts.Counts.{Counts}
@@ -56,7 +57,8 @@ list_tree-entries-preserved g t c =
           (c.args.paths.now ++ leaves (steps readings.trees c.args.left c.args.front.now c.args.id.now)) c.entries.paths c.list_entry.new.paths
           (c.entries.invariant.listed readings (kept_told readings c.in_ok-bad.ensures.same.content told)) c.in-Some-split_first.ensures.cases.0
           (counted_is _ c.in_ok-bad.field-0 c.in-Counted.next c.in_ok-bad.ensures.listed c.in-Counted.is readings told);
-      same = search rules;
+      same = as_before_then g.R.Keeper c.args.keeper.now c.entries.keeper c.list_entry.new.keeper
+          c.entries.invariant.same c.in_ok-bad.ensures.same;
       quiet = search rules;
       few = omega (arith, grown.few);
       room = let room = grown.room (omega arith) in omega (arith, room, c.requires.levels);

@@ -2,6 +2,7 @@ use Rattle.std.proofs.Common.{rules, true, ap, subst, ◌≡◌, ◌∙◌, ◌�
 use Rattle.std.specs.Option.{option_copied}
 use Rattle.git_object.specs.Trees.{AreWellFormed}
 use Rattle.git_object.specs.declared.trees.TreeEntry.{TreeEntry}
+use Rattle.keeper_api.proofs.Coming.{as_before_then}
 use Rattle.tree_paths.specs.Pairings.{IsPaired, Sides}
 use Rattle.tree_paths.specs.Places.{piece}
 use Rattle.tree_paths.specs.Readings.{Readings, Told}
@@ -114,7 +115,8 @@ pair_trees-places-init g t c =
           spent;
       formed_from = subst AreWellFormed (sym c.as_slice-rest_from.ensures) (some_at AreWellFormed c.in_ok-first.field-0 c.in-Some.first c.in_ok-first.ensures.formed c.in-Some.is);
       formed_to = subst AreWellFormed (sym c.as_slice-rest_to.ensures) (some_at AreWellFormed c.in_ok-second.field-0 c.in-Some-2.second c.in_ok-second.ensures.formed c.in-Some-2.is);
-      same = search rules;
+      same = as_before_then g.R.Keeper c.args.keeper.now c.open_tree.new.keeper c.open_tree-2.new.keeper
+          c.in_ok-first.ensures.same c.in_ok-second.ensures.same;
       quiet = search rules;
       kept_from = kept_start c.args.left c.as_slice-rest_from.result.now c.args.start.from c.count_dir.result (length c.args.front.now) c.requires.few_from c.requires.room_from
           (ap (λ (x : Counts). x.paths) c.count_dir.ensures) (ap (λ (x : Counts). x.dirs) c.count_dir.ensures)
@@ -192,7 +194,8 @@ pair_trees-places-preserved g t c =
           (both_is _ c.in_ok-bad.field-0 c.in-BothCounted.next c.in_ok-bad.ensures.sides c.in-BothCounted.is readings told);
       formed_from = found.formed_from;
       formed_to = found.formed_to;
-      same = search rules;
+      same = as_before_then g.R.Keeper c.args.keeper.now c.places.keeper c.pair_place.new.keeper
+          c.places.invariant.same c.in_ok-bad.ensures.same;
       quiet = search rules;
       kept_from = takes_next c.args.left (option_copied c.in-Some-next_place.next.from) c.places.rest_from.now c.in-Some-next_place.next.rest_from.now c.places.counts.from c.in-BothCounted.next.from c.requires.levels takes.0 found.from_is c.places.invariant.kept_from;
       kept_to = takes_next c.args.left (option_copied c.in-Some-next_place.next.to) c.places.rest_to.now c.in-Some-next_place.next.rest_to.now c.places.counts.to c.in-BothCounted.next.to c.requires.levels takes.1 found.to_is c.places.invariant.kept_to;

@@ -1,4 +1,5 @@
 use Rattle.std.proofs.Common.{rules, true, ap, subst, ◌≡◌, ◌∙◌, ◌≤◌, ◌==◌, ◌+◌, ◌-◌, List, arith, length, sym}
+use Rattle.keeper_api.proofs.Coming.{as_before_then}
 use Rattle.tree_paths.specs.Pairings.{AreFew, IsPaired}
 use Rattle.tree_paths.specs.Walks.{below, steps}
 use Rattle.tree_paths.specs.declared.counts.Counts.{Counts}
@@ -77,7 +78,8 @@ twice_tree-entries-preserved g t c =
           (goes_at trees all c.args.start into c.args.id.now front c.entries.rest.now c.in-Some-split_first.more.now c.in-Some-split_first.entry.now c.entries.counts c.in-Some-split_first.ensures.cases.0
           (c.entries.invariant.walk readings front (kept_told readings c.in_ok-bad.ensures.same.content told) is))
           (subst (IsPaired trees piece piece c.entries.counts) c.in-BothCounted.is (c.in_ok-bad.ensures.steps readings front told is));
-      same = search rules;
+      same = as_before_then g.R.Keeper c.args.keeper.now c.entries.keeper c.twice_entry.new.keeper
+          c.entries.invariant.same c.in_ok-bad.ensures.same;
       quiet = search rules;
       few_from = omega (arith, few.from.few);
       few_to = omega (arith, few.to.few);

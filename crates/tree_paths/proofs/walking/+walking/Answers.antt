@@ -1,5 +1,6 @@
 use Rattle.std.proofs.Common.{rules, true, ap, ◌≡◌, ◌∙◌, ◌==◌, ◌≤◌, ◌+◌, ◌-◌, List, arith, length, sym}
 use Rattle.git_object.specs.declared.trees.TreeEntry.{TreeEntry}
+use Rattle.keeper_api.proofs.Coming.{as_before_then}
 use Rattle.tree_paths.specs.Listings.{visits}
 use Rattle.tree_paths.specs.Walks.{below, Grown, judge, steps}
 use Rattle.tree_paths.specs.declared.counts.Counts.{Counts}
@@ -75,7 +76,8 @@ walk_tree-entries-preserved g t c =
           c.entries.rest.now c.in-Some-split_first.more.now c.in-Some-split_first.entry.now c.entries.counts c.in-Counted.next
           (c.entries.invariant.walk readings front (kept_told readings c.in_ok-bad.ensures.same.content told) is) c.in-Some-split_first.ensures.cases.0
           (sym c.in-Counted.is ∙ c.in_ok-bad.ensures.steps readings front told is);
-      same = search rules;
+      same = as_before_then g.R.Keeper c.args.keeper.now c.entries.keeper c.walk_entry.new.keeper
+          c.entries.invariant.same c.in_ok-bad.ensures.same;
       quiet = search rules;
       few = omega (arith, grown.few);
       room = let room = grown.room (omega arith) in omega (arith, room, c.requires.levels);

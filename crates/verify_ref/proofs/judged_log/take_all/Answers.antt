@@ -1,6 +1,7 @@
 use Rattle.std.proofs.Common.{refl, rules, [], arith, subst, sym}
 use Rattle.std.proofs.lemmas.List.{take_all}
 use Rattle.entry_rules.specs.RealRules.{real_rules}
+use Rattle.keeper_api.proofs.Coming.{as_before_then}
 use Rattle.verify_ref.specs.Logs.{AreEntries}
 use Rattle.verify_ref.proofs.Walking.{breaks, taken_more, unbroken}
 use Rattle.verify_ref.proofs.Growing.{reads_more}
@@ -27,7 +28,8 @@ ids-preserved g c = record {
       let step = c.in-Ok.ensures.taken r told in
       reads_more (real_rules c.args.rules.now.anchor) r c.args.ids.now c.ids.id-index c.id-item.result c.ids-test.true c.id-item.is was.0 was.1 step.entry step.there _ _ _
       (c.ids.invariant.reads r was.0 before was.1) (c.in-Ok.ensures.reads r was.0 step.entry told was.2 step.there) more are bounded;
-  same = search rules;
+  same = as_before_then g.R.Keeper c.args.keeper.now c.ids.keeper c.take.new.keeper
+      c.ids.invariant.same c.take.ensures.same;
   quiet = search rules;
 }
 
