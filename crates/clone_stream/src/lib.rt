@@ -22,6 +22,9 @@ mod streams;
 
 pub use export::write_stream;
 pub use export_faults::ExportFault;
+pub use line_words::split_head;
+pub use record_writes::object_line;
+pub use records::follows_object;
 pub use stream_faults::StreamFault;
 pub use stream_reads::{LARGEST_STREAM, read_change};
 pub use streams::read_stream;

@@ -55,8 +55,8 @@ fn split_id(text: &[u8]) -> Option<(ObjectId, &[u8])>
     Some((found.0, rest))
 }
 
-// The id, the kind and the size's digits of an object's line, whatever these digits are.
-fn split_head(line: &[u8]) -> Option<(ObjectId, Kind, &[u8])>
+/// The id, the kind and the size's digits of an object's line, whatever these digits are.
+pub fn split_head(line: &[u8]) -> Option<(ObjectId, Kind, &[u8])>
     ensures found { IfSome result (λ parts. line.now ≡ object_line parts.0 parts.1 parts.2.now) }
     ensures valid { IfSome result (λ parts. IsId parts.0) }
     ensures none { IfNone result ((id : List ℕ) (kind : Kind) (digits : List ℕ) → IsId id → line.now ≢ object_line id kind digits) }

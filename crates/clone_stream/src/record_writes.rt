@@ -77,9 +77,9 @@ fn put_pieces<K: Sink>(
     Ok(written + line.len() as u64 + body.len() as u64 + 1)
 }
 
-// The line of an object and its line feed.
+/// The line of an object and its line feed.
 #[tactic(auto, unfolding(crate::specs::Streams::object_line))]
-fn line_of(id: &ObjectId, object: &Object) -> Line
+pub fn object_line(id: &ObjectId, object: &Object) -> Line
     ensures { result ≡ object_line id.now object.now.kind (decimal (length object.now.body)) ++ 10 ∷ [] }
 {
     let mut digits = Buffer::new();
@@ -117,7 +117,7 @@ pub fn put_object<K: Sink>(
     ensures puts { Puts (object_record (id.now, object.now)) written (K.contents sink.old) (K.contents sink.new) result }
     ensures cause { HasCause export_sink_failed (K.faults sink.old) (K.faults sink.new) result }
 {
-    let line = line_of(id, object);
+    let line = object_line(id, object);
     if object.body().len() > LARGEST_COPIED {
         return put_pieces(sink, line.as_slice(), object.body(), written);
     }

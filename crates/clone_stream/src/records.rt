@@ -48,8 +48,8 @@ fn is_less_name(left: &RefName, right: &RefName) -> bool
     left < right
 }
 
-// Whether an id is greater than that of the last object.
-fn follows_object(objects: &[Object], id: &ObjectId) -> bool
+/// Whether an id is greater than that of the last object, or there is none.
+pub fn follows_object(objects: &[Object], id: &ObjectId) -> bool
     ensures { IsTrue result ↔ ComesAfter (last_of (map pair_id objects.now)) id.now }
 {
     match objects.last() {

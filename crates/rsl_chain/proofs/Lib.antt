@@ -12,3 +12,5 @@ pub mod Pieces
 pub mod WrittenWords
 pub mod WrittenMessages
 pub mod Written
+pub mod Growing
+pub mod OtherNames

@@ -6,5 +6,6 @@ pub mod FirstWrong
 -- The log of a repository as one chain or a break of it, and the entries that the repository's ids lead to.
 pub mod Chain
 pub mod Logs
+pub mod Growing
 -- The text of an entry, as it is written.
 pub mod Drafts

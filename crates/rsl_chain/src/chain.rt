@@ -78,8 +78,8 @@ fn load_head<R: Keeper>(
     }
 }
 
-// The entry that an object is.
-fn object_entry(alloc: Global, object: &Object) -> Result<Option<Entry>, Memory>
+/// The entry that an object is, under the id that it has already: nothing is hashed.
+pub fn object_entry(alloc: Global, object: &Object) -> Result<Option<Entry>, Memory>
     ensures { IfOk result (λ found. found ≡ entry_of_pair (pair_id object.now) object.now.kind object.now.body) }
 {
     match object.kind() {

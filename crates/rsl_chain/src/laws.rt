@@ -6,6 +6,7 @@ ghost use Rattle.git_object.specs.Repository.{Repository};
 ghost use Rattle.rsl_chain.specs.FirstWrong.{FirstWrong};
 ghost use Rattle.rsl_chain.specs.Logs.{entry_at, head_in, heads_of};
 ghost use Rattle.rsl_chain.specs.Chain.{AreHeads, LogOrBreak, NeverBoth, OneBreak, OneLog};
+ghost use Rattle.rsl_chain.specs.Growing.{LargerKeeps, LogGrows, NeverTheLog};
 
 /// A repository has one log or one break, and never both.
 pub fn logs()
@@ -26,4 +27,16 @@ pub fn heads()
 /// front of an entry's body, and with it they are the front of none.
 pub fn first_wrong_line()
     ensures { FirstWrong }
+{}
+
+/// The log of a repository with one entry more is the old log and that entry, which counts those before it and goes back to
+/// the last of them, where what the old ids lead to stays. In a larger repository it does.
+pub fn log_grows()
+    ensures grows { LogGrows }
+    ensures larger { LargerKeeps }
+{}
+
+/// An entry that is read records no value of the log's own reference.
+pub fn never_the_log()
+    ensures { NeverTheLog }
 {}

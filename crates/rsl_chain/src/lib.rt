@@ -20,7 +20,7 @@ mod reading;
 mod rows;
 mod words;
 
-pub use chain::{Log, read_entry};
+pub use chain::{Log, object_entry, read_entry};
 pub use drafts::{Draft, join_signature};
 pub use entry_faults::EntryFault;
 pub use log_entries::{Entry, EntryBody};

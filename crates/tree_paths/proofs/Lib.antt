@@ -15,3 +15,6 @@ pub mod PathNames
 pub mod Visits
 pub mod Sums
 pub mod Rows
+pub mod GrowingWalks
+pub mod GrowingPeels
+pub mod GrowingReadings

@@ -22,3 +22,5 @@ pub mod Repositories
 -- What steps add to counts, and what is known of trees.
 pub mod Adding
 pub mod Known
+-- What is read in larger repositories.
+pub mod Growing

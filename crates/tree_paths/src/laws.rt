@@ -1,10 +1,15 @@
 //! Laws over the readings of repositories and the walks of their trees.
 
-ghost use Rattle.std.specs.Prelude.{ℕ, List};
+ghost use Rattle.std.specs.Prelude.{◌≡◌, ℕ, List, true};
 ghost use Rattle.git_object.specs.Repository.{Repository};
+ghost use Rattle.keeper_api.specs.Growing.{Larger};
+ghost use Rattle.tree_paths.specs.Growing.{MoreReadings};
+ghost use Rattle.tree_paths.specs.Known.{AreKnownIn};
 ghost use Rattle.tree_paths.specs.Leading.{IsMapOfTrees};
 ghost use Rattle.tree_paths.specs.Readings.{AreReadings, Readings};
 ghost use Rattle.tree_paths.specs.Repositories.{readings_of};
+ghost use Rattle.tree_paths.specs.States.{is_sound, walk_of};
+ghost use Rattle.tree_paths.specs.declared.known_trees.KnownTrees.{KnownTrees};
 
 /// Each repository has its readings, so that what is said of a target for the readings of a repository is said of each.
 pub fn readings()
@@ -20,4 +25,20 @@ pub fn read()
 /// names.
 pub fn paths()
     ensures { (r : Repository) (readings : Readings) → AreReadings r readings → (root : List ℕ) → IsMapOfTrees readings.trees root }
+{}
+
+/// What an id is read as in a repository it is read as in a larger one.
+pub fn more_readings()
+    ensures { (small large : Repository) → Larger small large → MoreReadings (readings_of small) (readings_of large) }
+{}
+
+/// A target whose state is not broken has the same walk, and so the same state, in a larger repository.
+pub fn whole_stays()
+    ensures { (small large : Repository) (target : List ℕ) → Larger small large → is_sound (walk_of (readings_of small) target) ≡ true
+        → walk_of (readings_of large) target ≡ walk_of (readings_of small) target }
+{}
+
+/// What is known of the trees of a repository is so in a larger one.
+pub fn known_stays()
+    ensures { (small large : Repository) (known : KnownTrees) → Larger small large → AreKnownIn small known → AreKnownIn large known }
 {}

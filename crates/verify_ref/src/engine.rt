@@ -1,6 +1,7 @@
 //! The engine of judging with the rules by which it judges, for whoever takes entries as they come.
 
-ghost use Rattle.std.specs.Prelude.{◌≡◌, ◌≤◌, ◌+◌, [], List, Some, true, false, IfOk, OnErr, OnOk};
+ghost use Rattle.std.specs.Prelude.{◌≡◌, ◌≤◌, ◌<◌, ◌+◌, ◌↔◌, [], ℕ, List, Some, true, false, IfOk, IsTrue, OnErr, OnOk};
+ghost use Rattle.std.specs.Option.{option_copied};
 ghost use Rattle.octets.specs.Causes.{HasCause};
 ghost use Rattle.git_object.specs.Repository.{Repository, value_of};
 ghost use Rattle.keeper_api.specs.Faults.{keeper_failed};
@@ -8,21 +9,22 @@ ghost use Rattle.keeper_api.specs.Undisturbed.{Undisturbed};
 ghost use Rattle.log_entries.specs.Entries.{Taken};
 ghost use Rattle.tree_paths.specs.Known.{AreKnownIn};
 ghost use Rattle.judging.specs.Engines.{has_taken, taken};
-ghost use Rattle.judging.specs.Logs.{prior_target};
-ghost use Rattle.judging.specs.Reading.{is_bounded};
-ghost use Rattle.judging.specs.Verdicts.{IsJudged};
+ghost use Rattle.judging.specs.Logs.{entry_at, is_entry_of, last_signers, policy_after, prior_target, skipped};
+ghost use Rattle.judging.specs.Reading.{decision_reads_of, is_bounded};
+ghost use Rattle.judging.specs.Verdicts.{IsJudged, verdict_of};
 ghost use Rattle.entry_rules.specs.RealRules.{real_rules};
 ghost use Rattle.verify_ref.specs.Following.{Follows, TakesOne};
 ghost use Rattle.verify_ref.specs.Logs.{comes_next};
 ghost use Rattle.verify_ref.specs.Reading.{extending_reads};
 
-use crate::judged_log::{LogEngine, comes_next, extend_by};
+use crate::judged_log::{LogEngine, comes_next, extend_by, look_by};
 use crate::verifying::{RefVerdict, conclude};
 use entry_rules::{EntryRules, Fault};
 use git_object::{ObjectId, RefName};
-use judging::EntryVerdict;
+use judging::{EntryVerdict, KeyIds as KeyIdList};
 use keeper_api::{Keeper, KeeperFault};
 use log_entries::Entry;
+use policy_epochs::Policy;
 use root_metadata::KeyIds;
 use std::alloc::Global;
 use tree_paths::KnownTrees;
@@ -106,6 +108,60 @@ impl Engine {
             &mut self.entries,
             entry,
         )
+    }
+
+    /// Whether the entry of a number is a reference's and is skipped, by the entries taken. It takes no memory.
+    pub fn skipped(&self, number: u64) -> bool
+        ensures { (log : List Taken) → Follows log self.now
+            → IsTrue result ↔ ((0 < number) × (name : List ℕ) × (is_entry_of (entry_at log number) name ≡ true) × (skipped (real_rules self.now.rules.anchor) log number ≡ true)) }
+    {
+        self.entries.skipped(number)
+    }
+
+    /// The policy in force after the entries taken. It takes no memory.
+    pub fn policy(&self) -> Option<&Policy>
+        ensures { (log : List Taken) → Follows log self.now → option_copied result ≡ policy_after (real_rules self.now.rules.anchor) log }
+    {
+        self.entries.policy()
+    }
+
+    /// The keys that signed for the last entry taken. There are none for an annotation, for an entry of the policy's
+    /// reference, and where no policy was in force. It takes no memory.
+    pub fn signers(&self) -> &KeyIdList
+        ensures { (log : List Taken) → Follows log self.now → result.now ≡ last_signers (real_rules self.now.rules.anchor) log }
+    {
+        self.entries.signers()
+    }
+
+    /// Lets go what is known of the trees of a store, so that the next one may hold others in their place. It takes no memory.
+    pub fn forget(&mut self, alloc: Global)
+        ensures known { (r : Repository) → AreKnownIn r self.new.known }
+        ensures rules { self.new.rules ≡ self.old.rules }
+        ensures follows { (log : List Taken) → Follows log self.old → Follows log self.new }
+        ensures count { taken self.new.entries ≡ taken self.old.entries }
+    {
+        self.known = KnownTrees::new(alloc);
+    }
+
+    /// What `extend` would answer of the next entry. Nothing changes.
+    pub fn look<R: Keeper>(
+        &self,
+        alloc: Global,
+        keeper: &mut R,
+        entry: &Entry,
+    ) -> Result<EntryVerdict<Fault>, KeeperFault>
+        requires next { entry.now.number ≡ taken self.now.entries + 1 }
+        requires fresh { has_taken self.now.entries entry.now.id ≡ false }
+        requires known { (r : Repository) → R.content keeper.old ≡ Some r → AreKnownIn r self.now.known }
+        ensures answer { IfOk result (λ verdict. (r : Repository) (log : List Taken) → R.content keeper.new ≡ Some r → Follows log self.now
+            → verdict ≡ verdict_of (real_rules self.now.rules.anchor) log (record { entry = entry.now; repository = r })) }
+        ensures same { Undisturbed R.Keeper keeper.old keeper.new }
+        ensures cause { HasCause keeper_failed (R.faults keeper.old) (R.faults keeper.new) result }
+        ensures reads { OnOk result ((r : Repository) (log : List Taken) → R.content keeper.new ≡ Some r → Follows log self.now
+            → is_bounded (real_rules self.now.rules.anchor) log (record { entry = entry.now; repository = r }) ≡ true
+            → R.reads keeper.new ≤ R.reads keeper.old + decision_reads_of (real_rules self.now.rules.anchor) log (record { entry = entry.now; repository = r })) }
+    {
+        look_by(alloc, keeper, &self.rules, &self.known, &self.entries, entry)
     }
 
     /// The verdict on a reference by the entries taken and by its value in the store. It reads no object.

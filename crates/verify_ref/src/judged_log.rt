@@ -10,7 +10,8 @@ ghost use Rattle.log_entries.specs.declared.entries.Entry.{Entry};
 ghost use Rattle.tree_paths.specs.Known.{AreKnownIn};
 ghost use Rattle.rsl_chain.specs.Logs.{IsLogOf, IsNamed, IsUnbroken, entry_at, log_failed};
 ghost use Rattle.judging.specs.Engines.{IsTaken, Stands, has_taken, taken};
-ghost use Rattle.judging.specs.Reading.{is_bounded};
+ghost use Rattle.judging.specs.Reading.{decision_reads_of, is_bounded};
+ghost use Rattle.judging.specs.Verdicts.{verdict_of};
 ghost use Rattle.judging.specs.Rules.{Rules};
 ghost use Rattle.policy_epochs.specs.declared.policies.Policy.{Policy};
 ghost use Rattle.entry_rules.specs.declared.faults.Fault.{Fault};
@@ -102,6 +103,34 @@ pub(crate) fn extend_by<R: Keeper>(
     }
     let judge = KnowingRules { rules, known };
     match engine.extend(alloc, &judge, keeper, entry) {
+        Ok(verdict) => Ok(verdict),
+        Err(JudgeFault::Failed) => Err(KeeperFault::Failed),
+        Err(JudgeFault::Memory) => Err(KeeperFault::Memory),
+    }
+}
+
+/// What `extend_by` would answer of the next entry. Nothing changes.
+pub(crate) fn look_by<R: Keeper>(
+    alloc: Global,
+    keeper: &mut R,
+    rules: &EntryRules,
+    known: &KnownTrees,
+    engine: &LogEngine,
+    entry: &Entry,
+) -> Result<EntryVerdict<Fault>, KeeperFault>
+    requires next { entry.now.number ≡ taken engine.now + 1 }
+    requires fresh { has_taken engine.now entry.now.id ≡ false }
+    requires known { (r : Repository) → R.content keeper.old ≡ Some r → AreKnownIn r known.now }
+    ensures answer { IfOk result (λ verdict. (r : Repository) (log : List Taken) → R.content keeper.new ≡ Some r → Stands (real_rules rules.now.anchor) log engine.now
+        → verdict ≡ verdict_of (real_rules rules.now.anchor) log (record { entry = entry.now; repository = r })) }
+    ensures same { Undisturbed R.Keeper keeper.old keeper.new }
+    ensures cause { HasCause keeper_failed (R.faults keeper.old) (R.faults keeper.new) result }
+    ensures reads { OnOk result ((r : Repository) (log : List Taken) → R.content keeper.new ≡ Some r → Stands (real_rules rules.now.anchor) log engine.now
+        → is_bounded (real_rules rules.now.anchor) log (record { entry = entry.now; repository = r }) ≡ true
+        → R.reads keeper.new ≤ R.reads keeper.old + decision_reads_of (real_rules rules.now.anchor) log (record { entry = entry.now; repository = r })) }
+{
+    let judge = KnowingRules { rules, known };
+    match engine.look(alloc, &judge, keeper, entry) {
         Ok(verdict) => Ok(verdict),
         Err(JudgeFault::Failed) => Err(KeeperFault::Failed),
         Err(JudgeFault::Memory) => Err(KeeperFault::Memory),
