@@ -34,7 +34,7 @@ pub(crate) struct KnownTree {
 }
 
 /// What the walk of each of some trees of a repository adds to the counts of a state, of at most 65,536 trees. It is
-/// good for one repository: the one from which it was learned.
+/// good for the repository from which it was learned, and for each larger one.
 #[derive(Drop)]
 pub struct KnownTrees {
     pub(crate) rows: BTreeMap<ObjectId, KnownTree>,
