@@ -111,6 +111,11 @@ def build_crate(name, cpu, *words):
     return made
 
 
+def build_bench(work, cpu, *words):
+    """Builds the program bench by a piece of its work on these words, and returns what such a run begins with."""
+    return build_crate("bench", cpu, work, *words), work
+
+
 def build_program():
     """Builds the program where it is not built for this machine's processor, and returns that processor."""
     cpu = processor()
@@ -122,9 +127,9 @@ def build_program():
 
 
 def signature_check(bench, width):
-    """The seconds that the check of a signature of height 10 takes by lms_bench, the least of three runs."""
+    """The seconds that the check of a signature of height 10 takes by bench lms, the least of three runs."""
     count = 2000 if width == 4 else 400
-    words = [bench, "verify", "10", str(width), str(count), "time"]
+    words = [*bench, "verify", "10", str(width), str(count), "time"]
     runs = [subprocess.run(words, stdout=subprocess.PIPE, check=True).stdout.split()[1] for _ in range(RUNS)]
     return min(int(it) for it in runs) / count / 1e9
 

@@ -1,11 +1,11 @@
-"""The check of tools/check on the rows that crates/judged_rows runs."""
+"""The check of tools/check on the rows that crates/tests_rows runs."""
 
 import os
 
 from checking import TOP, want, want_run
 
 MAKE_ROWS = os.path.join(TOP, "tools", "make-rows")
-KEPT = os.path.join(TOP, "crates", "judged_rows")
+KEPT = os.path.join(TOP, "crates", "tests_rows")
 
 
 def read(folder, name):
@@ -19,7 +19,7 @@ def makes_the_kept_rows(repositories):
     os.mkdir(folder)
     want_run((MAKE_ROWS, folder), 0)
     for name in ("stdin", "stdout"):
-        want(read(folder, name), read(KEPT, name), f"the {name} of judged_rows")
+        want(read(folder, name), read(KEPT, name), f"the {name} of tests_rows")
 
 
 CHECKS = (makes_the_kept_rows,)

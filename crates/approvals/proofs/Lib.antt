@@ -1,2 +1,12 @@
 pub mod Members
 pub mod Signing
+pub mod PathParts
+pub mod Finding
+pub mod Puts
+pub mod Found
+pub mod Surveyed
+pub mod Alike
+pub mod Sited
+pub mod Elsewhere
+pub mod Held
+pub mod Tied

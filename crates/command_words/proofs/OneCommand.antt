@@ -6,10 +6,10 @@ use Rattle.std.specs.Str.{bytes_eq}
 use Rattle.text_reader.specs.Hexadecimal.{IsLowerHexadecimal}
 use Rattle.text_reader.proofs.Unique.{same_hexadecimal}
 use Rattle.git_object.proofs.IdLemmas.{id_is_lower}
-use Rattle.word_values.specs.Ids.{AreIds}
-use Rattle.word_values.specs.Numbers.{IsCount}
-use Rattle.word_values.specs.Spaced.{IsSpaced}
-use Rattle.word_values.proofs.OneValue.{same_count, same_ids, same_space, same_name as same_spaced_name}
+use Rattle.command_words.specs.Ids.{AreIds}
+use Rattle.command_words.specs.Numbers.{IsCount}
+use Rattle.command_words.specs.Spaced.{IsSpaced}
+use Rattle.command_words.proofs.OneValue.{same_count, same_ids, same_space, same_name as same_spaced_name}
 use Rattle.command_words.specs.Commands.{IsAsked, IsRoot, IsBottom, IsMessage, IsTarget, annotate_app, demo_app, explain_app, height_text, kind_text, width_text}
 use Rattle.command_words.specs.FirstWords.{AsksFor, AsksForNone, IsCommand, IsNoCommand, IsWithinLimits, name_text}
 use Rattle.command_words.specs.Grammars.{value_of}

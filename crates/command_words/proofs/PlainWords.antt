@@ -9,7 +9,7 @@ use Rattle.git_object.specs.Names.{IsRefName, log_name}
 use Rattle.ref_patterns.specs.Patterns.{prefix}
 use Rattle.ref_patterns.specs.declared.space.Space.{Space}
 use Rattle.ref_patterns.specs.declared.space.Space.TheVariants.{Git, File}
-use Rattle.word_values.specs.Spaced.{IsSpaced}
+use Rattle.command_words.specs.Spaced.{IsSpaced}
 use Rattle.command_words.specs.Commands.{AreTwo, AsksKey, AsksReasons, AsksReference, AsksVerdict, IsBottom, IsRoot, explain_app, height_text, kind_text, key_gen_app, reference_app, seal_app, verify_ref_app, width_text}
 use Rattle.command_words.specs.Grammars.{Takes, bare_app, is_given, value_of}
 use Rattle.command_words.specs.Laws.{PlainWords, flag_words}

@@ -13,8 +13,8 @@ use Rattle.text_reader.specs.Hexadecimal.{IsLowerHexadecimal, is_lower_digit}
 use Rattle.git_object.specs.Ids.{IsId}
 use Rattle.git_object.specs.Names.{IsRefName, log_name}
 use Rattle.git_object.proofs.IdLemmas.{id_is_lower}
-use Rattle.word_values.specs.Ids.{AreIds}
-use Rattle.word_values.specs.Numbers.{IsCount}
+use Rattle.command_words.specs.Ids.{AreIds}
+use Rattle.command_words.specs.Numbers.{IsCount}
 use Rattle.command_words.specs.Commands.{AsksApproval, AsksDemo, AsksNote, IsAsked, IsMessage, annotate_app, approve_app, demo_app, kind_text}
 use Rattle.command_words.specs.Grammars.{Takes, is_given, value_of}
 use Rattle.command_words.proofs.LetterFirst.{letter_first}

@@ -6,9 +6,9 @@ use Rattle.hex.specs.Hex.{encode_lower}
 use Rattle.git_object.specs.Ids.{IsId}
 use Rattle.git_object.specs.Names.{IsRefName, log_name}
 use Rattle.ref_patterns.specs.declared.space.Space.{Space}
-use Rattle.word_values.specs.Ids.{AreIds}
-use Rattle.word_values.specs.Numbers.{IsCount}
-use Rattle.word_values.specs.Spaced.{IsSpaced}
+use Rattle.command_words.specs.Ids.{AreIds}
+use Rattle.command_words.specs.Numbers.{IsCount}
+use Rattle.command_words.specs.Spaced.{IsSpaced}
 use Rattle.command_words.specs.Grammars.{Takes, bare_app, flag_rule, is_given, option_rule, positional_rule, value_of}
 use Rattle.command_words.specs.declared.commands.Height.{Height}
 use Rattle.command_words.specs.declared.commands.Height.TheVariants.{H5, H10, H15}

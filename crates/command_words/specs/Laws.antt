@@ -5,7 +5,7 @@ use Rattle.git_object.specs.Ids.{IsId}
 use Rattle.git_object.specs.Names.{IsRefName, log_name}
 use Rattle.ref_patterns.specs.Patterns.{prefix}
 use Rattle.ref_patterns.specs.declared.space.Space.{Space}
-use Rattle.word_values.specs.Ids.{AreIds}
+use Rattle.command_words.specs.Ids.{AreIds}
 use Rattle.command_words.specs.Commands.{AreTwo, height_text, kind_text, width_text}
 use Rattle.command_words.specs.FirstWords.{IsCommand}
 use Rattle.command_words.specs.declared.commands.Command.{Command}

@@ -8,3 +8,11 @@ pub mod FirstWords
 pub mod Laws
 -- the two words in front
 pub mod Places
+-- lists of ids
+pub mod Ids
+-- numbers up to a limit
+pub mod Numbers
+-- names in a space
+pub mod Spaced
+-- what holds of these texts
+pub mod ValueLaws

@@ -3,7 +3,7 @@
 ghost use Rattle.std.specs.Prelude.{◌≡◌, ◌≢◌, ℕ, Bool, List, Some, codes, map, string_bytes, IfOk, IfSome, IfNone, IsErrOf, OnOk};
 ghost use Rattle.std.specs.Option.{IsSomeAnd};
 ghost use Rattle.clap.specs.Words.{app_of, first_of, found_of, matches_of, rows_of};
-ghost use Rattle.word_values.specs.Ids.{AreIds};
+ghost use Rattle.command_words.specs.Ids.{AreIds};
 ghost use Rattle.command_words.specs.Commands.{IsMessage, annotate_app, kind_text};
 ghost use Rattle.command_words.specs.FirstWords.{AsksFor, AsksForNone};
 ghost use Rattle.command_words.specs.Grammars.{Takes};
@@ -12,12 +12,12 @@ ghost use Rattle.command_words.specs.declared.commands.CommandName.TheVariants a
 use crate::arguments::{bare_command, option, positional, take_words, value_in, with_argument};
 use crate::commands::Command;
 use crate::first_words::is_word;
+use crate::read_object_ids;
 use crate::words_fault::WordsFault;
 use clap::ArgMatches;
 use git_object::Ids;
 use octets::Octets;
 use std::alloc::{AllocError, Global};
-use word_values::read_object_ids;
 
 /// The most entries that one annotation lists.
 const MOST_ENTRIES: usize = 256;

@@ -3,17 +3,17 @@
 ghost use Rattle.std.specs.Prelude.{◌≡◌, ℕ, codes, map, string_bytes, IfOk, IfSome, IfNone, IsErrOf};
 ghost use Rattle.std.specs.Option.{IsSomeAnd};
 ghost use Rattle.clap.specs.Words.{app_of, first_of, found_of, rows_of};
-ghost use Rattle.word_values.specs.Numbers.{IsCount};
+ghost use Rattle.command_words.specs.Numbers.{IsCount};
 ghost use Rattle.command_words.specs.Commands.{demo_app};
 ghost use Rattle.command_words.specs.FirstWords.{AsksFor, AsksForNone};
 ghost use Rattle.command_words.specs.declared.commands.CommandName.TheVariants as name;
 
 use crate::arguments::{bare_command, positional, take_words, value_in, with_argument};
 use crate::commands::Command;
+use crate::read_count;
 use crate::words_fault::WordsFault;
 use clap::ArgMatches;
 use std::alloc::{AllocError, Global};
-use word_values::read_count;
 
 /// The most changes of a demonstration.
 const MOST_CHANGES: u32 = 500;

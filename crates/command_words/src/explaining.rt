@@ -4,19 +4,19 @@ ghost use Rattle.std.specs.Prelude.{◌≡◌, ℕ, List, codes, map, string_byt
 ghost use Rattle.std.specs.Option.{IsSomeAnd};
 ghost use Rattle.clap.specs.Words.{app_of, first_of, found_of, rows_of};
 ghost use Rattle.ref_patterns.specs.declared.space.Space.{Space};
-ghost use Rattle.word_values.specs.Spaced.{IsSpaced};
+ghost use Rattle.command_words.specs.Spaced.{IsSpaced};
 ghost use Rattle.command_words.specs.Commands.{explain_app};
 ghost use Rattle.command_words.specs.FirstWords.{AsksFor, AsksForNone};
 ghost use Rattle.command_words.specs.declared.commands.CommandName.TheVariants as name;
 
 use crate::arguments::{bare_command, positional, take_words, value_in, with_argument};
 use crate::commands::Command;
+use crate::split_space;
 use crate::words_fault::WordsFault;
 use clap::ArgMatches;
 use octets::Octets;
 use ref_patterns::Space;
 use std::alloc::{AllocError, Global};
-use word_values::split_space;
 
 fn explain_command<'a>(alloc: Global) -> Result<clap::Command<'a>, AllocError>
     ensures { IfOk result (λ c. app_of c ≡ explain_app) }

@@ -11,13 +11,13 @@ use crate::arguments::{
     bare_command, flag, has_flag, option, positional, take_words, value_in, with_argument,
 };
 use crate::commands::Command;
+use crate::read_key_ids;
 use crate::references::reference_in;
 use crate::words_fault::WordsFault;
 use clap::ArgMatches;
 use git_object::KeyId;
 use octets::Items;
 use std::alloc::{AllocError, Global};
-use word_values::read_key_ids;
 
 /// The most ids of keys that are given.
 const MOST_KEYS: usize = 64;

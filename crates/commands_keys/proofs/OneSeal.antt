@@ -7,12 +7,12 @@ use Rattle.dsse_envelope.specs.Sealing.{has_room}
 use Rattle.dsse_envelope.specs.declared.envelope.Envelope.{Envelope}
 use Rattle.dsse_envelope.specs.declared.envelope.EnvelopeFault.{EnvelopeFault}
 use Rattle.hss_keys.specs.Secret.{Secret}
-use Rattle.key_file.specs.declared.open_keys.OpenFault.TheVariants as open_fault
-use Rattle.key_file.proofs.OneKeyFile.{not_both, not_spent, one_key}
+use Rattle.leaf_journal.specs.declared.open_keys.OpenFault.TheVariants as open_fault
+use Rattle.leaf_journal.proofs.OneKeyFile.{not_both, not_spent, one_key}
 use Rattle.commands_keys.specs.Contents.{SealComes}
-use Rattle.key_seals.specs.Seals.{id_text}
+use Rattle.envelope_signing.specs.Seals.{id_text}
 use Rattle.commands_keys.specs.Inputs.{IsGiven}
-use Rattle.commands_keys.specs.declared.envelope_signing.SigningFault.TheVariants as signing
+use Rattle.commands_keys.specs.declared.signing_envelopes.SigningFault.TheVariants as signing
 use Rattle.commands_keys.specs.declared.inputs.InputFault.TheVariants as input
 use Rattle.commands_keys.specs.declared.sealing.SealFault.{SealFault}
 use Rattle.commands_keys.specs.declared.sealing.SealFault.TheVariants.{Untaken, Unsigned, SinkFailed}

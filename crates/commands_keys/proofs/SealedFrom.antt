@@ -1,19 +1,19 @@
 -- Opening a key file, and then signing an envelope with it.
 use Rattle.std.proofs.Common.{◌≡◌, ℕ, false, List, sym, subst}
 use Rattle.std.specs.Prelude.{Some}
-use Rattle.edge_disk.specs.Disk.{IsKept}
-use Rattle.edge_disk.specs.declared.disks.Disk as disk
+use Rattle.edge_io.specs.Disk.{IsKept}
+use Rattle.edge_io.specs.declared.disks.Disk as disk
 use Rattle.hss_keys.specs.Secret.{Secret}
-use Rattle.key_file.proofs.Steps.{signs_from, tears_from}
-use Rattle.key_file.specs.Files.{IsUsedUp}
-use Rattle.key_file.specs.Using.{FindsNone}
+use Rattle.leaf_journal.proofs.Steps.{signs_from, tears_from}
+use Rattle.leaf_journal.specs.Files.{IsUsedUp}
+use Rattle.leaf_journal.specs.Using.{FindsNone}
 use Rattle.dsse_envelope.specs.Sealing.{has_room}
 use Rattle.dsse_envelope.specs.declared.envelope.Envelope.{Envelope}
 use Rattle.dsse_envelope.specs.declared.envelope.Signature.{Signature}
-use Rattle.key_seals.specs.Seals.{signed_text}
+use Rattle.envelope_signing.specs.Seals.{signed_text}
 use Rattle.commands_keys.specs.EnvelopeSigning.{Holds, RefusesSigning, Seals, Signs}
-use Rattle.commands_keys.specs.declared.envelope_signing.SigningFault.{SigningFault}
-use Rattle.commands_keys.specs.declared.envelope_signing.SigningFault.TheVariants.{Unopened, Full, Exhausted, DiskFailed, Memory as NoMemory, MemoryAfter}
+use Rattle.commands_keys.specs.declared.signing_envelopes.SigningFault.{SigningFault}
+use Rattle.commands_keys.specs.declared.signing_envelopes.SigningFault.TheVariants.{Unopened, Full, Exhausted, DiskFailed, Memory as NoMemory, MemoryAfter}
 
 pub no_place : (text keyid : List ℕ) (among signatures : List Signature) → text ≡ keyid → among ≡ signatures → has_room text among ≡ false → has_room keyid signatures ≡ false
 no_place text keyid among signatures same these none = cc

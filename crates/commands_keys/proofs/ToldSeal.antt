@@ -3,11 +3,11 @@ use Rattle.std.proofs.Common.{◌≡◌, ◌⊎◌, ◌<◌, ◌≤◌, ◌+◌,
 use Rattle.std.specs.Prelude.{Option, Some, None, Result, Ok, Err}
 use Rattle.std.proofs.lemmas.List.{append-nil, length-append}
 use Rattle.octets.specs.Content.{with_front}
-use Rattle.edge_disk.specs.declared.disks.Disk as disk
+use Rattle.edge_io.specs.declared.disks.Disk as disk
 use Rattle.edge_io.specs.Read.{IsAtEnd}
 use Rattle.endings.specs.Endings.{IsStopped}
-use Rattle.key_file.specs.Files.{IsLeastUnused, IsNoKeyFile, IsUsedUp}
-use Rattle.key_file.specs.declared.open_keys.OpenFault.TheVariants as open_fault
+use Rattle.leaf_journal.specs.Files.{IsLeastUnused, IsNoKeyFile, IsUsedUp}
+use Rattle.leaf_journal.specs.declared.open_keys.OpenFault.TheVariants as open_fault
 use Rattle.leaf_journal.specs.KeyFile.{IsKeyFile}
 use Rattle.dsse_envelope.specs.Envelopes.{reading}
 use Rattle.dsse_envelope.specs.declared.envelope.Envelope.{Envelope}
@@ -15,7 +15,7 @@ use Rattle.commands_keys.specs.Contents.{HasInput, SealComes}
 use Rattle.commands_keys.specs.EnvelopeSigning.{Holds}
 use Rattle.commands_keys.specs.Inputs.{Gives, IsGiven, Takes}
 use Rattle.commands_keys.specs.Sealing.{SealEnds, seal_ending}
-use Rattle.commands_keys.specs.declared.envelope_signing.SigningFault.TheVariants as signing
+use Rattle.commands_keys.specs.declared.signing_envelopes.SigningFault.TheVariants as signing
 use Rattle.commands_keys.specs.declared.inputs.InputFault.TheVariants as input
 use Rattle.commands_keys.specs.declared.sealing.SealFault.{SealFault}
 use Rattle.commands_keys.specs.declared.sealing.SealFault.TheVariants.{Untaken, Unsigned, SinkFailed}

@@ -2,15 +2,15 @@
 use Rattle.std.specs.Prelude.{◌≡◌, ◌≢◌, ◌<◌, ◌≤◌, ℕ, Bool, true, false, List, [], length, Result, Ok, Err}
 use Rattle.hss_keys.specs.Secret.{Secret}
 use Rattle.leaf_journal.specs.KeyFile.{IsKeyFile}
-use Rattle.key_file.specs.Files.{IsLeastUnused, IsNoKeyFile, IsUsedUp}
-use Rattle.key_file.specs.declared.open_keys.OpenFault.TheVariants as open_fault
+use Rattle.leaf_journal.specs.Files.{IsLeastUnused, IsNoKeyFile, IsUsedUp}
+use Rattle.leaf_journal.specs.declared.open_keys.OpenFault.TheVariants as open_fault
 use Rattle.dsse_envelope.specs.Envelopes.{reading}
 use Rattle.dsse_envelope.specs.Sealing.{has_room}
 use Rattle.dsse_envelope.specs.declared.envelope.Envelope.{Envelope}
-use Rattle.key_seals.specs.Seals.{id_text}
+use Rattle.envelope_signing.specs.Seals.{id_text}
 use Rattle.commands_keys.specs.Inputs.{IsGiven}
-use Rattle.commands_keys.specs.declared.envelope_signing.SigningFault.{SigningFault}
-use Rattle.commands_keys.specs.declared.envelope_signing.SigningFault.TheVariants as signing
+use Rattle.commands_keys.specs.declared.signing_envelopes.SigningFault.{SigningFault}
+use Rattle.commands_keys.specs.declared.signing_envelopes.SigningFault.TheVariants as signing
 use Rattle.commands_keys.specs.declared.inputs.InputFault.{InputFault}
 use Rattle.commands_keys.specs.declared.inputs.InputFault.TheVariants as input
 use Rattle.commands_keys.specs.declared.making_keys.KeyGenFault.{KeyGenFault}

@@ -1,19 +1,19 @@
 -- What each outcome of signing an envelope with the key file means.
 use Rattle.std.specs.Prelude.{◌≡◌, ◌++◌, ℕ, Bool, true, false, List, Some, Result, Ok, Err, codes}
-use Rattle.edge_disk.specs.Disk.{IsKept}
-use Rattle.edge_disk.specs.declared.disks.Disk as disk
+use Rattle.edge_io.specs.Disk.{IsKept}
+use Rattle.edge_io.specs.declared.disks.Disk as disk
 use Rattle.hss_keys.specs.Secret.{Secret}
 use Rattle.leaf_journal.specs.KeyFile.{IsKeyFile}
-use Rattle.key_file.specs.Files.{IsUsedUp}
-use Rattle.key_file.specs.Opening.{WhyUnopened, open_failed}
-use Rattle.key_file.specs.Using.{MayTear, SignsWith}
+use Rattle.leaf_journal.specs.Files.{IsUsedUp}
+use Rattle.leaf_journal.specs.Opening.{WhyUnopened, open_failed}
+use Rattle.leaf_journal.specs.Using.{MayTear, SignsWith}
 use Rattle.dsse_envelope.specs.Envelopes.{reading}
 use Rattle.dsse_envelope.specs.Sealing.{has_room, sealed}
 use Rattle.dsse_envelope.specs.Written.{text_of}
 use Rattle.dsse_envelope.specs.declared.envelope.Envelope.{Envelope}
-use Rattle.key_seals.specs.Seals.{id_text, signature_by, signed_text}
-use Rattle.commands_keys.specs.declared.envelope_signing.SigningFault.{SigningFault}
-use Rattle.commands_keys.specs.declared.envelope_signing.SigningFault.TheVariants.{Unopened, Full, Exhausted, DiskFailed, Memory, MemoryAfter}
+use Rattle.envelope_signing.specs.Seals.{id_text, signature_by, signed_text}
+use Rattle.commands_keys.specs.declared.signing_envelopes.SigningFault.{SigningFault}
+use Rattle.commands_keys.specs.declared.signing_envelopes.SigningFault.TheVariants.{Unopened, Full, Exhausted, DiskFailed, Memory, MemoryAfter}
 
 -- the text of an envelope and a line feed
 abbrev pub line_of : Envelope → List ℕ

@@ -1,8 +1,8 @@
 -- What each outcome of `key-gen` means.
 use Rattle.std.specs.Prelude.{◌≡◌, ◌⊎◌, ◌<◌, ◌≤◌, ◌+◌, ℕ, List, [], length, Option, None, Some, Result, Ok, Err, option_map}
 use Rattle.octets.specs.Content.{GainsPart, with_end, with_front}
-use Rattle.edge_disk.specs.Disk.{IsKept}
-use Rattle.edge_disk.specs.declared.disks.Disk as disk
+use Rattle.edge_io.specs.Disk.{IsKept}
+use Rattle.edge_io.specs.declared.disks.Disk as disk
 use Rattle.lmots.specs.declared.ots_type.OtsType.{OtsType}
 use Rattle.hss_keys.specs.Secret.{Secret, public_bytes}
 use Rattle.lms_keys.specs.LmsType.{height}

@@ -1,8 +1,8 @@
 -- What each outcome of `seal` means, and how the program ends then.
 use Rattle.std.specs.Prelude.{◌≡◌, ℕ, Bool, false, List, Option, Result, Ok, Err}
 use Rattle.octets.specs.Content.{GainsPart, with_end}
-use Rattle.edge_disk.specs.declared.disks.Disk as disk
-use Rattle.key_file.specs.declared.open_keys.OpenFault.TheVariants as open_fault
+use Rattle.edge_io.specs.declared.disks.Disk as disk
+use Rattle.leaf_journal.specs.declared.open_keys.OpenFault.TheVariants as open_fault
 use Rattle.dsse_envelope.specs.declared.envelope.Envelope.{Envelope}
 use Rattle.endings.specs.declared.ending.Ending.{Ending}
 use Rattle.endings.specs.declared.ending.Ending.TheVariants.{Done, Refused}
@@ -12,8 +12,8 @@ use Rattle.commands_keys.specs.EnvelopeSigning as signing
 use Rattle.commands_keys.specs.EnvelopeSigning.{RefusesSigning, Seals}
 use Rattle.commands_keys.specs.Inputs as inputs
 use Rattle.commands_keys.specs.Inputs.{RefusesInput, Takes}
-use Rattle.commands_keys.specs.declared.envelope_signing.SigningFault.{SigningFault}
-use Rattle.commands_keys.specs.declared.envelope_signing.SigningFault.TheVariants.{Unopened, Full, Exhausted, DiskFailed, Memory, MemoryAfter}
+use Rattle.commands_keys.specs.declared.signing_envelopes.SigningFault.{SigningFault}
+use Rattle.commands_keys.specs.declared.signing_envelopes.SigningFault.TheVariants.{Unopened, Full, Exhausted, DiskFailed, Memory, MemoryAfter}
 use Rattle.commands_keys.specs.declared.inputs.InputFault.{InputFault}
 use Rattle.commands_keys.specs.declared.inputs.InputFault.TheVariants as input
 use Rattle.commands_keys.specs.declared.sealing.SealFault.{SealFault}

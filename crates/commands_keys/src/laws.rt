@@ -2,7 +2,7 @@
 
 ghost use Rattle.commands_keys.specs.Laws.{OneOfKeys, TellsOfKeys};
 
-use edge_disk::Disk;
+use edge_io::Disk;
 
 /// Each command comes to one outcome at most for the same words and content.
 pub fn one_of_keys()

@@ -12,8 +12,7 @@ ghost use Rattle.commands_keys.specs.KeyLines.{key_line};
 ghost use Rattle.commands_keys.specs.MakingKeys.{DrewPart, IsFiled, IsLow, KeyGenEnds, WhyUnmade, key_gen_ending, secret_of};
 
 use crate::key_lines::{KEY_LINE, write_key_line};
-use edge_disk::{Disk, Entropy};
-use edge_io::{Failed, Sink, write_all};
+use edge_io::{Disk, Entropy, Failed, Sink, write_all};
 use endings::{Ending, Part, Refusal};
 use leaf_journal::{CreateFault, create, create_two};
 use lmots::OtsType;

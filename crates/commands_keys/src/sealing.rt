@@ -2,17 +2,16 @@
 
 ghost use Rattle.std.specs.Prelude.{◌≡◌};
 ghost use Rattle.octets.specs.Causes.{HasCause};
-ghost use Rattle.edge_disk.specs.Moments.{LeavesOnly};
+ghost use Rattle.edge_io.specs.Moments.{LeavesOnly};
 ghost use Rattle.leaf_journal.specs.KeyFile.{KeepsUsed};
 ghost use Rattle.endings.specs.Counts.{Faults, IsCounted};
 ghost use Rattle.commands_keys.specs.Sealing.{SealEnds, SealedEnds, disk_failed, input_ending, seal_ending, signing_ending, source_failed};
 
-use crate::envelope_signing::{SigningFault, sign_envelope};
 use crate::inputs::{InputFault, take_envelope};
-use edge_disk::Disk;
-use edge_io::{Failed, Sink, Source, write_all};
+use crate::signing_envelopes::{SigningFault, sign_envelope};
+use edge_io::{Disk, Failed, Sink, Source, write_all};
 use endings::{Ending, Part, Refusal};
-use key_file::OpenFault;
+use leaf_journal::OpenFault;
 use octets::Octets;
 use std::alloc::Global;
 

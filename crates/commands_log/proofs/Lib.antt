@@ -1,10 +1,4 @@
-pub mod Causes
-pub mod Written
-pub mod Committed
-pub mod Moved
-pub mod Ended
-pub mod Unopened
-pub mod Told
+pub mod Gathered
+pub mod Outcomes
+pub mod OneHistory
 pub mod Counted
-pub mod OneOutcome
-pub mod ToldOutcome

@@ -2,23 +2,20 @@
 
 ghost use Rattle.std.specs.Prelude.{◌≡◌, ◌≤◌, ◌<◌, ◌+◌, ℕ, List, length, IfOk, Some};
 ghost use Rattle.octets.specs.Causes.{HasCause};
-ghost use Rattle.edge_disk.specs.Moments.{LeavesOnly};
+ghost use Rattle.edge_io.specs.Moments.{LeavesOnly};
 ghost use Rattle.leaf_journal.specs.KeyFile.{KeepsUsed};
-ghost use Rattle.log_entries.specs.declared.entries.EntryBody.TheVariants.{Annotation};
-ghost use Rattle.commands_log.specs.Recording.{AnnotateEnds, NoteEnds, clock_failed, disk_failed, keeper_failed, no_clock, no_disk, no_keeper, sink_failed};
+ghost use Rattle.rsl_chain.specs.declared.entries.EntryBody.TheVariants.{Annotation};
+ghost use Rattle.log_appending.specs.Recording.{AnnotateEnds, NoteEnds, clock_failed, disk_failed, keeper_failed, no_clock, no_disk, no_keeper, sink_failed};
 
-use crate::appending::{Appended, append_entry};
-use crate::lines::{LONGEST_LINE, write_entry_line};
-use crate::opening::{ReadingFault, open_log};
-use crate::recording::{RecordFault, tell_unread};
-use crate::values::NotAppended;
-use edge_clock::Clock;
-use edge_disk::Disk;
-use edge_io::{Failed, Sink, write_all};
+use edge_io::{Clock, Disk, Failed, Sink, write_all};
 use git_object::Ids;
 use keeper_api::Keeper;
-use log_entries::EntryBody;
+use log_appending::{
+    Appended, LONGEST_LINE, NotAppended, ReadingFault, RecordFault, append_entry, open_log,
+    tell_unread, write_entry_line,
+};
 use octets::{Memory, Octets};
+use rsl_chain::EntryBody;
 use std::alloc::Global;
 
 fn body_of(ids: &Ids, skip: bool, message: &Octets) -> Result<EntryBody, Memory>

@@ -1,20 +1,23 @@
 //! Laws over the definitions of this crate. No call needs these functions: their contracts are the laws.
 
-ghost use Rattle.commands_log.specs.Outcomes.{OneOfLog, TellsOfLog};
+ghost use Rattle.commands_log.specs.Laws.{CountsFromOne, OneOfHistory, TellsOfHistory};
 
-use edge_disk::Disk;
-use keeper_api::Keeper;
 use rsl_chain::laws::logs;
 
-/// Each command comes to one outcome at most for the same key file and repository.
-pub fn one_of_log()
-    ensures { OneOfLog }
+/// A repository has one log with its entries at most, and `log` comes to one outcome at most for it.
+pub fn one_of_history()
+    ensures { OneOfHistory }
 {
     logs();
 }
 
-/// Where store and disk tell their content, what ended is what the command comes to, unless it stopped for a fault or
-/// for want of memory.
-pub fn tells_of_log<R: Keeper, D: Disk>()
-    ensures { TellsOfLog R.Keeper D.Disk }
+/// The lines of a log stand in the order of the numbers that they begin with: 1, 2 and so on.
+pub fn counts_from_one()
+    ensures { CountsFromOne }
+{}
+
+/// Where the store tells its content, what ended is what the command comes to, unless it stopped for a fault or for
+/// want of memory.
+pub fn tells_of_history()
+    ensures { TellsOfHistory }
 {}

@@ -1,51 +1,55 @@
-//! The lines that the commands print.
+//! The line of an entry.
 
-ghost use Rattle.std.specs.Prelude.{◌≡◌, ◌≤◌, ◌+◌, ◌++◌, [], length};
-ghost use Rattle.std.specs.Vec.{vec_capacity};
-ghost use Rattle.commands_log.specs.Lines.{break_line, entry_line};
+ghost use Rattle.std.specs.Prelude.{◌≡◌, ◌++◌, length, OnOk};
+ghost use Rattle.commands_log.specs.Lines.{body_words, count_words, entry_line};
 
-use crate::Appended;
-use git_object::ObjectId;
 use itoa::Buffer;
+use octets::{Memory, Octets};
+use rsl_chain::{Entry, EntryBody};
 
-/// The most bytes of a line.
-pub const LONGEST_LINE: usize = 92;
-
-/// Adds bytes to a line that has room for them.
-pub fn append(line: &mut Vec<u8>, bytes: &[u8])
-    requires { length line.old.items + length bytes.now ≤ vec_capacity line.old }
-    ensures added { line.new.items ≡ line.old.items ++ bytes.now }
-    ensures room { vec_capacity line.old ≤ vec_capacity line.new }
+// Adds what is said of an annotation of so many ids. After a refusal a front of it may stand there.
+fn append_count(text: &mut Octets, skip: bool, count: usize) -> Result<(), Memory>
+    ensures { OnOk result (text.new ≡ text.old ++ count_words skip count) }
 {
-    match line.extend_from_slice(bytes) {
-        Ok(()) => {}
-        Err(_) => unreachable!(),
+    let mut digits = Buffer::new();
+    if skip {
+        text.append(b" skip ")?;
+    } else {
+        text.append(b" note ")?;
+    }
+    text.append(digits.format(count).as_bytes())?;
+    text.append(b"\n")
+}
+
+// Adds what is said of an entry's body, and the line feed.
+fn append_body(text: &mut Octets, body: &EntryBody) -> Result<(), Memory>
+    ensures { OnOk result (text.new ≡ text.old ++ body_words body.now) }
+{
+    match body {
+        EntryBody::Reference { name, target } => {
+            text.append(b" ref ")?;
+            text.append(name.text())?;
+            text.append(b" ")?;
+            text.append(&target.to_hex())?;
+            text.append(b"\n")
+        }
+        EntryBody::Annotation {
+            ids,
+            skip,
+            message: _,
+        } => append_count(text, *skip, ids.len()),
     }
 }
 
-/// Writes the line that tells an entry into an empty buffer with room for it: `entry `, its number, a space, its id as
-/// lower-case hexadecimal digits, and a line feed.
-pub fn write_entry_line(appended: &Appended, line: &mut Vec<u8>)
-    requires empty { line.old.items ≡ [] }
-    requires room { 92 ≤ vec_capacity line.old }
-    ensures { line.new.items ≡ entry_line appended.now }
+/// Adds the line of an entry. After a refusal a front of it may stand there.
+#[tactic(auto, unfolding(crate::specs::Lines::entry_line))]
+pub(crate) fn append_entry(text: &mut Octets, entry: &Entry) -> Result<(), Memory>
+    ensures { OnOk result (text.new ≡ text.old ++ entry_line entry.now) }
 {
     let mut digits = Buffer::new();
-    append(line, b"entry ");
-    append(line, digits.format(appended.number).as_bytes());
-    append(line, b" ");
-    append(line, &appended.id.to_hex());
-    append(line, b"\n");
-}
-
-/// Writes the line that tells where a log breaks into an empty buffer with room for it: `log-broken `, the id as
-/// lower-case hexadecimal digits, and a line feed.
-pub fn write_break_line(id: &ObjectId, line: &mut Vec<u8>)
-    requires empty { line.old.items ≡ [] }
-    requires room { 92 ≤ vec_capacity line.old }
-    ensures { line.new.items ≡ break_line id.now }
-{
-    append(line, b"log-broken ");
-    append(line, &id.to_hex());
-    append(line, b"\n");
+    text.append(b"entry ")?;
+    text.append(digits.format(entry.number).as_bytes())?;
+    text.append(b" ")?;
+    text.append(&entry.id.to_hex())?;
+    append_body(text, &entry.body)
 }

@@ -1,79 +1,20 @@
 //! The command `record`.
 
-ghost use Rattle.std.specs.Prelude.{◌≡◌, ◌≤◌, ◌+◌, [], length};
-ghost use Rattle.std.specs.Vec.{vec_capacity};
+ghost use Rattle.std.specs.Prelude.{◌≡◌, ◌≤◌, ◌+◌};
 ghost use Rattle.octets.specs.Causes.{HasCause};
-ghost use Rattle.edge_disk.specs.Moments.{LeavesOnly};
+ghost use Rattle.edge_io.specs.Moments.{LeavesOnly};
 ghost use Rattle.git_object.specs.Names.{log_name};
 ghost use Rattle.leaf_journal.specs.KeyFile.{KeepsUsed};
-ghost use Rattle.commands_log.specs.Recording.{RecordEnds, TellsUnread, clock_failed, disk_failed, keeper_failed, sink_failed, untold};
+ghost use Rattle.log_appending.specs.Recording.{RecordEnds, clock_failed, disk_failed, keeper_failed, sink_failed};
 
-use crate::lines::{LONGEST_LINE, write_break_line, write_entry_line};
-use crate::values::{NotAppended, append_value};
-use crate::{AppendFault, ReadingFault};
-use edge_clock::Clock;
-use edge_disk::Disk;
-use edge_io::{Failed, Sink, write_all};
-use git_object::{ObjectId, RefName};
+use edge_io::{Clock, Disk, Failed, Sink, write_all};
+use git_object::RefName;
 use keeper_api::Keeper;
+use log_appending::{
+    LONGEST_LINE, NotAppended, ReadingFault, RecordFault, append_value, tell_unread,
+    write_entry_line,
+};
 use std::alloc::Global;
-
-/// Why no entry was recorded, or why that was not told.
-#[derive(Clone, Copy, Debug, PartialEq, Eq)]
-pub enum RecordFault {
-    /// What is wanted was not read. Nothing changed, and of a broken log its break was printed.
-    Unread { fault: ReadingFault },
-    /// The log breaks at this commit, and that could not be told. Nothing changed.
-    BreakUntold { id: ObjectId },
-    /// All was read, and no entry was added.
-    Unappended { fault: AppendFault },
-    /// The entry was added, and could not be told.
-    SinkFailed,
-}
-
-// Tells where a log breaks.
-fn tell_break<K: Sink>(id: ObjectId, mut line: Vec<u8>, sink: &mut K) -> RecordFault
-    requires empty { line.items ≡ [] }
-    requires room { 92 ≤ vec_capacity line }
-    ensures tells { TellsUnread (K.contents sink.old) (K.contents sink.new) (ReadingFault.LogBroken id) result }
-    ensures sink { HasCause sink_failed (K.faults sink.old) (K.faults sink.new) (untold result) }
-{
-    write_break_line(&id, &mut line);
-    match write_all(sink, line.as_slice()) {
-        Ok(()) => RecordFault::Unread {
-            fault: ReadingFault::LogBroken { id },
-        },
-        Err(Failed) => RecordFault::BreakUntold { id },
-    }
-}
-
-/// Tells why nothing was read, where that is told here: of a broken log with the line of its break, into an empty buffer with
-/// room for it.
-pub fn tell_unread<K: Sink>(fault: ReadingFault, line: Vec<u8>, sink: &mut K) -> RecordFault
-    requires empty { line.items ≡ [] }
-    requires room { 92 ≤ vec_capacity line }
-    ensures tells { TellsUnread (K.contents sink.old) (K.contents sink.new) fault result }
-    ensures sink { HasCause sink_failed (K.faults sink.old) (K.faults sink.new) (untold result) }
-{
-    match fault {
-        ReadingFault::LogBroken { id } => tell_break(id, line, sink),
-        ReadingFault::KeyFile => RecordFault::Unread {
-            fault: ReadingFault::KeyFile,
-        },
-        ReadingFault::DiskFailed => RecordFault::Unread {
-            fault: ReadingFault::DiskFailed,
-        },
-        ReadingFault::TooLarge => RecordFault::Unread {
-            fault: ReadingFault::TooLarge,
-        },
-        ReadingFault::KeeperFailed => RecordFault::Unread {
-            fault: ReadingFault::KeeperFailed,
-        },
-        ReadingFault::Memory => RecordFault::Unread {
-            fault: ReadingFault::Memory,
-        },
-    }
-}
 
 /// Adds an entry to the log that records the value of a reference, `zeros` where it is not there, and prints its line.
 /// It reads the key file, then the log, then the reference, asks the clock, signs with the first unused leaf, commits

@@ -4,8 +4,8 @@ use Rattle.std.specs.Prelude.{Result, Ok, Err}
 use Rattle.std.proofs.Math.Nat.{le_refl}
 use Rattle.octets.specs.Causes.{HasCause}
 use Rattle.endings.specs.Counts.{Faults, IsCounted}
-use Rattle.commands_log.proofs.Counted as recording
-use Rattle.commands_log.specs.declared.recording.RecordFault.{RecordFault}
+use Rattle.log_appending.proofs.Counted as recording
+use Rattle.log_appending.specs.declared.telling.RecordFault.{RecordFault}
 use Rattle.commands_policy.specs.Applying.{clock_failed, disk_failed, keeper_failed, sink_failed}
 use Rattle.commands_policy.specs.Outcomes.{apply_ending}
 use Rattle.commands_policy.specs.declared.applying.ApplyFault.{ApplyFault}

@@ -7,15 +7,15 @@ use Rattle.git_object.specs.Repository.{Repository}
 use Rattle.rsl_chain.specs.Logs.{IsBrokenAs}
 use Rattle.rsl_chain.specs.declared.log_faults.LogFault.{LogFault}
 use Rattle.rsl_chain.specs.declared.log_faults.LogFault.TheVariants as log
-use Rattle.commands_history.specs.Faults.{fault_of_log}
-use Rattle.commands_history.specs.Lines.{break_line}
-use Rattle.commands_history.specs.declared.faults.LogCommandFault.{LogCommandFault}
-use Rattle.commands_history.specs.declared.faults.LogCommandFault.TheVariants.{SinkFailed}
+use Rattle.commands_log.specs.Faults.{fault_of_log}
+use Rattle.endings.specs.Breaks.{break_line}
+use Rattle.commands_log.specs.declared.faults.LogCommandFault.{LogCommandFault}
+use Rattle.commands_log.specs.declared.faults.LogCommandFault.TheVariants.{SinkFailed}
 use Rattle.policy_epochs.specs.Epochs.{policy_after}
 use Rattle.policy_epochs.specs.Succession.{succession}
 use Rattle.policy_epochs.specs.declared.epochs.Epochs.{Epochs}
 use Rattle.rule_delegations.specs.Reached.{Name}
-use Rattle.log_epochs.specs.InForce.{HasEpochs, found_of}
+use Rattle.policy_reading.specs.InForce.{HasEpochs, found_of}
 use Rattle.commands_policy.specs.Explaining.{BreaksAt, Explains, ExplainsLog, IsLastPolicy, Prints, PrintsBreakPart}
 
 last_policy : (r : Repository) (epochs : Epochs) → epochs.anchor ≡ None → HasEpochs r epochs → IsLastPolicy r epochs.current

@@ -3,20 +3,20 @@ use Rattle.std.proofs.Common.{◌≡◌, ◌<◌, ◌∙◌, ℕ, List, [], ap, 
 use Rattle.std.specs.Prelude.{Option, Some, None, Ok, Err, false}
 use Rattle.git_object.specs.Repository.{Repository, value_of}
 use Rattle.keeper_api.specs.declared.keepers.Keeper as keeper
-use Rattle.edge_disk.specs.declared.disks.Disk as disk
-use Rattle.log_entries.specs.Entries.{policy_name}
-use Rattle.log_entries.specs.declared.entries.Entry.{Entry}
-use Rattle.log_entries.specs.declared.entries.EntryBody.TheVariants.{Reference}
+use Rattle.edge_io.specs.declared.disks.Disk as disk
+use Rattle.git_object.specs.References.{policy_name}
+use Rattle.rsl_chain.specs.declared.entries.Entry.{Entry}
+use Rattle.rsl_chain.specs.declared.entries.EntryBody.TheVariants.{Reference}
 use Rattle.rsl_chain.specs.Logs.{IsBrokenAs, IsLogOf}
 use Rattle.rsl_chain.specs.declared.log_faults.LogFault.{LogFault}
 use Rattle.rsl_chain.specs.declared.log_faults.LogFault.TheVariants as log
-use Rattle.commands_history.proofs.Entered.{entries_from}
-use Rattle.commands_history.specs.Histories.{AreEntriesAt}
-use Rattle.commands_log.specs.Opening.{HoldsKey, WhyUnread, log_fault, unread_disk, unread_keeper}
-use Rattle.commands_log.specs.Untouched.{Untouched}
-use Rattle.commands_log.specs.declared.opening.ReadingFault.{ReadingFault}
+use Rattle.rsl_chain.proofs.Entered.{entries_from}
+use Rattle.rsl_chain.specs.Histories.{AreEntriesAt}
+use Rattle.log_appending.specs.Opening.{HoldsKey, WhyUnread, log_fault, unread_disk, unread_keeper}
+use Rattle.log_appending.specs.Untouched.{Untouched}
+use Rattle.log_appending.specs.declared.opening.ReadingFault.{ReadingFault}
 use Rattle.policy_epochs.specs.declared.faults.PolicyFault.{PolicyFault}
-use Rattle.log_epochs.specs.InForce.{epoch_fault}
+use Rattle.policy_reading.specs.InForce.{epoch_fault}
 use Rattle.commands_policy.specs.Applying.{HasEpochFault, HasPolicyFault, IsRefusal, Judges, PolicyEnds, RecordsEpoch, no_clock, no_disk, no_keeper, policy_line}
 use Rattle.commands_policy.specs.declared.policies.NotApplied.{NotApplied}
 use Rattle.commands_policy.specs.declared.policies.NotApplied.TheVariants as none

@@ -1,5 +1,4 @@
 pub mod Listed
-pub mod PolicyName
 pub mod Judging
 pub mod Explained
 pub mod Counted

@@ -4,21 +4,21 @@ use Rattle.std.specs.Prelude.{Option, Some, None, Result, Ok, Err}
 use Rattle.std.specs.FinMap.{get}
 use Rattle.git_object.specs.Names.{log_name}
 use Rattle.git_object.specs.Repository.{Repository, value_of}
-use Rattle.log_entries.specs.Entries.{policy_name}
-use Rattle.log_entries.specs.declared.entries.Entry.{Entry}
+use Rattle.git_object.specs.References.{policy_name}
+use Rattle.rsl_chain.specs.declared.entries.Entry.{Entry}
 use Rattle.rsl_chain.specs.Chain.{NeverBoth, OneBreak, OneLog}
 use Rattle.rsl_chain.specs.Logs.{heads_of}
-use Rattle.commands_history.proofs.OneHistory.{same_history}
-use Rattle.commands_history.specs.declared.faults.LogCommandFault.{LogCommandFault}
-use Rattle.commands_history.specs.declared.faults.LogCommandFault.TheVariants as log
-use Rattle.key_file.proofs.OneKeyFile.{not_both}
-use Rattle.commands_log.proofs.OneOutcome.{not_full, same_record}
-use Rattle.commands_log.specs.Outcomes.{RecordComes}
-use Rattle.commands_log.specs.declared.opening.ReadingFault.TheVariants as reading
-use Rattle.commands_log.specs.declared.recording.RecordFault.{RecordFault}
-use Rattle.commands_log.specs.declared.recording.RecordFault.TheVariants.{Unread, BreakUntold, Unappended, SinkFailed}
+use Rattle.commands_log.proofs.OneHistory.{same_history}
+use Rattle.commands_log.specs.declared.faults.LogCommandFault.{LogCommandFault}
+use Rattle.commands_log.specs.declared.faults.LogCommandFault.TheVariants as log
+use Rattle.leaf_journal.proofs.OneKeyFile.{not_both}
+use Rattle.log_appending.proofs.OneOutcome.{not_full, same_record}
+use Rattle.log_appending.specs.Outcomes.{RecordComes}
+use Rattle.log_appending.specs.declared.opening.ReadingFault.TheVariants as reading
+use Rattle.log_appending.specs.declared.telling.RecordFault.{RecordFault}
+use Rattle.log_appending.specs.declared.telling.RecordFault.TheVariants.{Unread, BreakUntold, Unappended, SinkFailed}
 use Rattle.policy_epochs.specs.declared.faults.PolicyFault.{PolicyFault}
-use Rattle.log_epochs.specs.InForce.{epoch_fault}
+use Rattle.policy_reading.specs.InForce.{epoch_fault}
 use Rattle.commands_policy.specs.Applying.{HasEpochFault, policy_line}
 use Rattle.commands_policy.specs.Outcomes.{ApplyComes, ExplainComes, UnrecordedComes}
 use Rattle.commands_policy.specs.declared.applying.ApplyFault.{ApplyFault}

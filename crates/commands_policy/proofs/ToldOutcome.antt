@@ -3,17 +3,17 @@ use Rattle.std.proofs.Common.{◌≡◌, ◌⊎◌, ℕ, List, ⊎_elim, inl, in
 use Rattle.std.specs.Prelude.{Option, Some, Result, Ok, Err}
 use Rattle.git_object.specs.Repository.{Repository}
 use Rattle.keeper_api.specs.declared.keepers.Keeper as keeper
-use Rattle.edge_disk.specs.declared.disks.Disk as disk
-use Rattle.log_entries.specs.Entries.{policy_name}
+use Rattle.edge_io.specs.declared.disks.Disk as disk
+use Rattle.git_object.specs.References.{policy_name}
 use Rattle.leaf_journal.specs.KeyFile.{IsKeyFile}
 use Rattle.endings.specs.Endings.{IsStopped}
-use Rattle.commands_history.specs.declared.faults.LogCommandFault.{LogCommandFault}
-use Rattle.commands_history.specs.declared.faults.LogCommandFault.TheVariants as log
-use Rattle.commands_log.proofs.ToldOutcome as recording
-use Rattle.commands_log.specs.Recording.{Records, Tries}
-use Rattle.commands_log.specs.declared.appending.AppendFault.{AppendFault}
-use Rattle.commands_log.specs.declared.appending.Appended.{Appended}
-use Rattle.commands_log.specs.declared.recording.RecordFault.TheVariants.{Unread, BreakUntold, Unappended, SinkFailed}
+use Rattle.commands_log.specs.declared.faults.LogCommandFault.{LogCommandFault}
+use Rattle.commands_log.specs.declared.faults.LogCommandFault.TheVariants as log
+use Rattle.log_appending.proofs.ToldOutcome as recording
+use Rattle.log_appending.specs.Recording.{Records, Tries}
+use Rattle.log_appending.specs.declared.appending.AppendFault.{AppendFault}
+use Rattle.log_appending.specs.declared.appending.Appended.{Appended}
+use Rattle.log_appending.specs.declared.telling.RecordFault.TheVariants.{Unread, BreakUntold, Unappended, SinkFailed}
 use Rattle.rule_delegations.specs.Reached.{Name}
 use Rattle.commands_policy.specs.Applying.{ApplyEnds, HasPolicyFault, RecordsEpoch}
 use Rattle.commands_policy.specs.Explaining.{ExplainEnds, explain_ending}

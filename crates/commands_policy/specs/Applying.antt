@@ -2,23 +2,23 @@
 use Rattle.std.specs.Prelude.{◌≡◌, ◌<◌, ◌++◌, ℕ, Bool, false, List, length, Option, Some, None, Result, Ok, Err, codes}
 use Rattle.git_object.specs.Repository.{Repository, value_of}
 use Rattle.keeper_api.specs.declared.keepers.Keeper as keeper
-use Rattle.edge_disk.specs.declared.disks.Disk as disk
-use Rattle.log_entries.specs.Entries.{policy_name}
-use Rattle.log_entries.specs.declared.entries.Entry.{Entry}
-use Rattle.log_entries.specs.declared.entries.EntryBody.{EntryBody}
+use Rattle.edge_io.specs.declared.disks.Disk as disk
+use Rattle.git_object.specs.References.{policy_name}
+use Rattle.rsl_chain.specs.declared.entries.Entry.{Entry}
+use Rattle.rsl_chain.specs.declared.entries.EntryBody.{EntryBody}
 use Rattle.rsl_chain.specs.Logs.{IsLogOf}
-use Rattle.commands_history.specs.Histories.{IsHistory}
-use Rattle.commands_log.specs.Opening.{HoldsKey, unread_disk, unread_keeper}
-use Rattle.commands_log.specs.Recording as recording
-use Rattle.commands_log.specs.Signing as append
-use Rattle.commands_log.specs.Untouched.{Untouched}
-use Rattle.commands_log.specs.declared.appending.AppendFault.{AppendFault}
-use Rattle.commands_log.specs.declared.appending.Appended.{Appended}
-use Rattle.commands_log.specs.declared.opening.ReadingFault.TheVariants as reading
-use Rattle.commands_log.specs.declared.recording.RecordFault.{RecordFault}
+use Rattle.rsl_chain.specs.Histories.{IsHistory}
+use Rattle.log_appending.specs.Opening.{HoldsKey, unread_disk, unread_keeper}
+use Rattle.log_appending.specs.Recording as recording
+use Rattle.log_appending.specs.Signing as append
+use Rattle.log_appending.specs.Untouched.{Untouched}
+use Rattle.log_appending.specs.declared.appending.AppendFault.{AppendFault}
+use Rattle.log_appending.specs.declared.appending.Appended.{Appended}
+use Rattle.log_appending.specs.declared.opening.ReadingFault.TheVariants as reading
+use Rattle.log_appending.specs.declared.telling.RecordFault.{RecordFault}
 use Rattle.policy_epochs.specs.Telling.{fault_text}
 use Rattle.policy_epochs.specs.declared.faults.PolicyFault.{PolicyFault}
-use Rattle.log_epochs.specs.InForce.{epoch_fault}
+use Rattle.policy_reading.specs.InForce.{epoch_fault}
 use Rattle.commands_policy.specs.declared.applying.ApplyFault.{ApplyFault}
 use Rattle.commands_policy.specs.declared.applying.ApplyFault.TheVariants.{Unrecorded, Refused}
 use Rattle.commands_policy.specs.declared.policies.NotApplied.{NotApplied}

@@ -3,12 +3,12 @@ use Rattle.std.specs.Prelude.{◌≡◌, ◌⊎◌, ◌++◌, ℕ, Bool, true, f
 use Rattle.std.specs.List.{flat_map}
 use Rattle.octets.specs.Content.{GainsPart, with_end}
 use Rattle.git_object.specs.Repository.{Repository}
-use Rattle.log_entries.specs.declared.entries.Entry.{Entry}
+use Rattle.rsl_chain.specs.declared.entries.Entry.{Entry}
 use Rattle.rsl_chain.specs.Logs.{IsBreakOf}
-use Rattle.commands_history.specs.Histories.{IsHistory}
-use Rattle.commands_history.specs.Lines.{break_line}
-use Rattle.commands_history.specs.declared.faults.LogCommandFault.{LogCommandFault}
-use Rattle.commands_history.specs.declared.faults.LogCommandFault.TheVariants.{Broken, KeeperFailed, SinkFailed, Memory}
+use Rattle.rsl_chain.specs.Histories.{IsHistory}
+use Rattle.endings.specs.Breaks.{break_line}
+use Rattle.commands_log.specs.declared.faults.LogCommandFault.{LogCommandFault}
+use Rattle.commands_log.specs.declared.faults.LogCommandFault.TheVariants.{Broken, KeeperFailed, SinkFailed, Memory}
 use Rattle.endings.specs.declared.ending.Ending.{Ending}
 use Rattle.endings.specs.declared.ending.Ending.TheVariants as ending
 use Rattle.endings.specs.declared.ending.Part.TheVariants as part
@@ -19,7 +19,7 @@ use Rattle.rule_delegations.specs.declared.places.RuleRef.{RuleRef}
 use Rattle.rule_delegations.specs.Chains.{rule_at}
 use Rattle.rule_delegations.specs.Reached.{AreReached, Name}
 use Rattle.policy_epochs.specs.declared.policies.Policy.{Policy}
-use Rattle.log_epochs.specs.InForce.{in_force}
+use Rattle.policy_reading.specs.InForce.{in_force}
 
 -- whether the search ends behind a rule
 abbrev pub openness : Bool → List ℕ

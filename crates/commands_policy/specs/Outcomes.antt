@@ -2,8 +2,8 @@
 use Rattle.std.specs.Prelude.{◌≡◌, ◌⊎◌, ℕ, List, Option, Some, None, Result, Ok, Err}
 use Rattle.git_object.specs.Repository.{Repository, value_of}
 use Rattle.keeper_api.specs.declared.keepers.Keeper as keeper
-use Rattle.edge_disk.specs.declared.disks.Disk as disk
-use Rattle.log_entries.specs.Entries.{policy_name}
+use Rattle.edge_io.specs.declared.disks.Disk as disk
+use Rattle.git_object.specs.References.{policy_name}
 use Rattle.hss_keys.specs.Secret.{Secret}
 use Rattle.leaf_journal.specs.KeyFile.{IsKeyFile}
 use Rattle.rsl_chain.specs.Logs.{IsBreakOf, IsLogOf}
@@ -11,11 +11,11 @@ use Rattle.endings.specs.Endings.{IsStopped}
 use Rattle.endings.specs.declared.ending.Ending.{Ending}
 use Rattle.endings.specs.declared.ending.Ending.TheVariants as ending
 use Rattle.endings.specs.declared.ending.Refusal.TheVariants as refusal
-use Rattle.commands_history.specs.declared.faults.LogCommandFault.{LogCommandFault}
-use Rattle.commands_history.specs.declared.faults.LogCommandFault.TheVariants as log
-use Rattle.commands_log.specs.Outcomes.{AppendComes, IsReady, ReadingComes, record_ending}
-use Rattle.commands_log.specs.declared.recording.RecordFault.{RecordFault}
-use Rattle.commands_log.specs.declared.recording.RecordFault.TheVariants.{Unread, BreakUntold, Unappended, SinkFailed}
+use Rattle.commands_log.specs.declared.faults.LogCommandFault.{LogCommandFault}
+use Rattle.commands_log.specs.declared.faults.LogCommandFault.TheVariants as log
+use Rattle.log_appending.specs.Outcomes.{AppendComes, IsReady, ReadingComes, record_ending}
+use Rattle.log_appending.specs.declared.telling.RecordFault.{RecordFault}
+use Rattle.log_appending.specs.declared.telling.RecordFault.TheVariants.{Unread, BreakUntold, Unappended, SinkFailed}
 use Rattle.rule_delegations.specs.Reached.{Name}
 use Rattle.commands_policy.specs.Applying.{ApplyEnds, HasEpochFault, HasPolicyFault, policy_line}
 use Rattle.commands_policy.specs.Explaining.{ExplainEnds, explain_ending}

@@ -3,7 +3,7 @@
 ghost use Rattle.std.specs.Prelude.{◌≡◌, ℕ, List, IsErrOf, OnOk, Some};
 ghost use Rattle.octets.specs.Causes.{HasCause};
 ghost use Rattle.octets.specs.Content.{Told};
-ghost use Rattle.edge_disk.specs.Moments.{LeavesOnly};
+ghost use Rattle.edge_io.specs.Moments.{LeavesOnly};
 ghost use Rattle.git_object.specs.Repository.{Repository};
 ghost use Rattle.leaf_journal.specs.KeyFile.{KeepsUsed};
 ghost use Rattle.policy_epochs.specs.declared.faults.PolicyFault.{PolicyFault};
@@ -12,13 +12,11 @@ ghost use Rattle.commands_policy.specs.Reading.{ReadsPolicies};
 ghost use Rattle.commands_policy.specs.declared.applying.ApplyFault.TheVariants as apply;
 
 use crate::policies::{NotApplied, append_policy};
-use commands_log::{
+use edge_io::{Clock, Disk, Failed, Sink, write_all};
+use keeper_api::Keeper;
+use log_appending::{
     AppendFault, LONGEST_LINE, ReadingFault, RecordFault, tell_unread, write_entry_line,
 };
-use edge_clock::Clock;
-use edge_disk::Disk;
-use edge_io::{Failed, Sink, write_all};
-use keeper_api::Keeper;
 use octets::Octets;
 use policy_epochs::PolicyFault;
 use std::alloc::Global;

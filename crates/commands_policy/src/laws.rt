@@ -2,7 +2,7 @@
 
 ghost use Rattle.commands_policy.specs.Outcomes.{OneOfPolicy, TellsOfPolicy};
 
-use edge_disk::Disk;
+use edge_io::Disk;
 use keeper_api::Keeper;
 use rsl_chain::laws::logs;
 

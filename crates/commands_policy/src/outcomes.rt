@@ -4,8 +4,8 @@ ghost use Rattle.std.specs.Prelude.{◌≡◌};
 ghost use Rattle.commands_policy.specs.Outcomes.{apply_ending};
 
 use crate::ApplyFault;
-use commands_log::record_ending;
 use endings::{Ending, Refusal};
+use log_appending::record_ending;
 
 /// How the program ends. The line of a refused policy is moved.
 pub fn apply_ending(outcome: Result<(), ApplyFault>) -> Ending

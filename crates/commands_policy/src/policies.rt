@@ -3,29 +3,26 @@
 ghost use Rattle.std.specs.Prelude.{◌≡◌, ◌≤◌, ◌+◌, ℕ, List, IfErr, IfOk, IsErrOf, OnOk, Some, sum_by};
 ghost use Rattle.octets.specs.Causes.{HasCause};
 ghost use Rattle.octets.specs.Content.{Told};
-ghost use Rattle.edge_disk.specs.Moments.{LeavesOnly};
+ghost use Rattle.edge_io.specs.Moments.{LeavesOnly};
 ghost use Rattle.git_object.specs.Repository.{Repository, value_of};
 ghost use Rattle.keeper_api.specs.Undisturbed.{Undisturbed};
 ghost use Rattle.leaf_journal.specs.KeyFile.{KeepsUsed};
-ghost use Rattle.log_entries.specs.Entries.{policy_name};
 ghost use Rattle.rsl_chain.specs.Logs.{IsBrokenAs, IsLogOf, log_failed};
 ghost use Rattle.policy_epochs.specs.declared.faults.PolicyFault.{PolicyFault};
 ghost use Rattle.policy_reading.specs.Policies.{policy_reads};
-ghost use Rattle.log_epochs.specs.Reading.{entry_reads};
+ghost use Rattle.policy_reading.specs.Reading.{entry_reads};
 ghost use Rattle.commands_policy.specs.Reading.{ReadsPolicies};
 ghost use Rattle.commands_policy.specs.Applying.{IsRefusal, Judges, PolicyEnds, no_clock, no_disk, no_keeper, policy_line};
 ghost use Rattle.commands_policy.specs.declared.policies.NotApplied.TheVariants as none;
 
-use commands_log::{AppendFault, Appended, ReadingFault, append_entry, open_log, unread_log};
-use edge_clock::Clock;
-use edge_disk::Disk;
-use git_object::{Ids, ObjectId, RefFault, RefName};
+use edge_io::{Clock, Disk};
+use git_object::{Ids, ObjectId, RefName};
 use keeper_api::{Keeper, KeeperFault};
-use log_entries::EntryBody;
-use log_epochs::epoch_fault;
+use log_appending::{AppendFault, Appended, ReadingFault, append_entry, open_log, unread_log};
 use octets::{Memory, Octets};
 use policy_epochs::PolicyFault;
-use rsl_chain::LogFault;
+use policy_reading::epoch_fault;
+use rsl_chain::{EntryBody, LogFault};
 use std::alloc::Global;
 
 /// Why no entry was added.
@@ -37,16 +34,6 @@ pub enum NotApplied {
     Refused { why: PolicyFault, line: Octets },
     /// It would be one.
     Unappended { fault: AppendFault },
-}
-
-fn policy_ref(alloc: Global) -> Result<RefName, Memory>
-    ensures { IfOk result (λ name. name ≡ policy_name) }
-{
-    match RefName::read(alloc, b"refs/gittuf/policy") {
-        Ok(name) => Ok(name),
-        Err(RefFault::Memory) => Err(Memory),
-        Err(RefFault::BadRef) => unreachable!(),
-    }
 }
 
 fn policy_line(alloc: Global, why: &PolicyFault) -> Result<Octets, Memory>
@@ -112,7 +99,7 @@ pub fn append_policy<R: Keeper, D: Disk, C: Clock>(
     ensures reads { OnOk result (Told (λ r now. ReadsPolicies r (R.reads keeper.old) (R.reads keeper.new)) (R.content keeper.old) (R.content keeper.new)) }
     ensures reads_refused { (why : PolicyFault) (line : List ℕ) → IsErrOf result (none.Refused why line) → (r : Repository) → R.content keeper.new ≡ Some r → ReadsPolicies r (R.reads keeper.old) (R.reads keeper.new) }
 {
-    let Ok(name) = policy_ref(alloc) else {
+    let Ok(name) = RefName::of_policy(alloc) else {
         return Err(NotApplied::Unread {
             fault: ReadingFault::Memory,
         });

@@ -7,8 +7,10 @@
 
 #![tactic(auto)]
 
+mod breaks;
 mod ending;
 mod messages;
 
+pub use breaks::print_break;
 pub use ending::{Ending, Part, Refusal};
 pub use messages::{Line, Message};

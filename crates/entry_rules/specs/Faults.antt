@@ -2,9 +2,9 @@
 use Rattle.std.specs.Prelude.{ℕ, [], List, Option, Some, None, if◌then◌else◌, option_and_then}
 use Rattle.std.specs.Option.{option_map}
 use Rattle.git_object.specs.Repository.{Repository}
-use Rattle.log_entries.specs.declared.entries.Entry.{Entry}
-use Rattle.log_entries.specs.declared.entries.EntryBody.{EntryBody}
-use Rattle.log_entries.specs.declared.entries.EntryBody.TheVariants.{Reference, Annotation}
+use Rattle.rsl_chain.specs.declared.entries.Entry.{Entry}
+use Rattle.rsl_chain.specs.declared.entries.EntryBody.{EntryBody}
+use Rattle.rsl_chain.specs.declared.entries.EntryBody.TheVariants.{Reference, Annotation}
 use Rattle.root_metadata.specs.Judged.{or_next}
 use Rattle.root_metadata.specs.Persons.{count_in}
 use Rattle.rule_files.specs.declared.rules.RuleFile.{RuleFile}

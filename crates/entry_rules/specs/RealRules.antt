@@ -1,7 +1,7 @@
 -- The rules of judging over policies: which policy an entry opens, which fault another one has, who may skip.
 use Rattle.std.specs.Prelude.{◌+◌, ◌&&◌, ℕ, Bool, false, List, Option, Some, None, Result, Ok, Err}
 use Rattle.std.specs.Str.{bytes_eq}
-use Rattle.log_entries.specs.Entries.{target_of}
+use Rattle.rsl_chain.specs.Entries.{target_of}
 use Rattle.judging.specs.Rules.{Rules}
 use Rattle.tree_paths.specs.Changes.{shared_reads}
 use Rattle.tree_paths.specs.Readings.{Readings}

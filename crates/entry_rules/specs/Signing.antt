@@ -5,11 +5,11 @@ use Rattle.std.specs.Str.{bytes_eq}
 use Rattle.git_object.specs.Ids.{zeros}
 use Rattle.git_object.specs.Repository.{Repository}
 use Rattle.lms_keys.specs.Deciding.{is_good}
-use Rattle.log_entries.specs.declared.entries.Entry.{Entry}
+use Rattle.rsl_chain.specs.declared.entries.Entry.{Entry}
 use Rattle.root_metadata.specs.Shapes.{only_if, set_of}
 use Rattle.root_metadata.specs.declared.keys.Key.{Key}
 use Rattle.tree_paths.specs.States.{Ended, Faulty, Gone, Sound}
-use Rattle.approval_lookup.specs.Lookups.{approvers_of}
+use Rattle.approvals.specs.Lookups.{approvers_of}
 
 -- the key has this id, and the entry's signature is good by it over what is signed
 abbrev pub is_signed_by : Entry → List ℕ → Key → Bool

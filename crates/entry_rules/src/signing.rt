@@ -10,13 +10,13 @@ ghost use Rattle.keeper_api.specs.Undisturbed.{Undisturbed};
 ghost use Rattle.entry_rules.specs.RealRules.{approval_reads};
 ghost use Rattle.entry_rules.specs.Signing.{approved, is_signed_by, joined, listed, signer_among};
 
-use approval_lookup::approvers;
+use approvals::approvers;
 use git_object::{KeyId, ObjectId, RefName};
 use keeper_api::{Keeper, KeeperFault};
 use lms_keys::verify_any;
-use log_entries::Entry;
 use octets::{Items, Memory};
 use root_metadata::{Key, KeyIds, Keys, id_set};
+use rsl_chain::Entry;
 use std::alloc::Global;
 
 // Whether the key has this id and the entry's signature is good by it.

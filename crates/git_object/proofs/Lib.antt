@@ -12,3 +12,4 @@ pub mod Runs
 pub mod TagLemmas
 pub mod Totality
 pub mod TreeLemmas
+mod ReferenceNames

@@ -14,3 +14,5 @@ pub mod Trees
 -- What a refusal of a body says, and an entry whose name is still part of a text.
 pub mod Faults
 pub mod EntryParts
+-- the references that gittuf keeps beside that of its log
+pub mod References

@@ -19,6 +19,7 @@ mod names;
 mod object_faults;
 mod object_ids;
 pub mod object_laws;
+mod references;
 mod stored_objects;
 mod tags;
 mod tree_entries;

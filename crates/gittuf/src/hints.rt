@@ -2,8 +2,7 @@
 //! formats alone.
 
 use crate::needs::Needs;
-use edge_disk::FileDisk;
-use edge_io::{StdSink, write_all};
+use edge_io::{FileDisk, StdSink, write_all};
 use std::io::IsTerminal;
 
 fn hint(rt: &HostRuntime, line: &[u8]) {

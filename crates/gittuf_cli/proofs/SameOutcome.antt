@@ -5,32 +5,34 @@ use Rattle.command_words.specs.declared.commands.Command.{Command}
 use Rattle.command_words.specs.declared.commands.Command.TheVariants as command
 use Rattle.endings.proofs.Lifted.{one_ending}
 use Rattle.endings.specs.declared.ending.Ending.{Ending}
-use Rattle.commands_approvals.specs.Outcomes.{ApproveComes, OneOfApprovals, approve_ending}
-use Rattle.commands_demo.specs.Contents.{DemoComes}
-use Rattle.commands_demo.specs.Demos.{demo_ending}
-use Rattle.commands_demo.specs.Laws.{OneOfDemo}
-use Rattle.commands_history.specs.Laws.{LogComes, OneOfHistory}
-use Rattle.commands_history.specs.Logging.{log_ending}
+use Rattle.commands_approve.specs.Outcomes.{ApproveComes, OneOfApprovals, approve_ending}
+use Rattle.demo.specs.Contents.{DemoComes}
+use Rattle.demo.specs.Demos.{demo_ending}
+use Rattle.demo.specs.Laws.{OneOfDemo}
+use Rattle.commands_log.specs.Laws.{LogComes, OneOfHistory}
+use Rattle.commands_log.specs.Logging.{log_ending}
 use Rattle.commands_keys.specs.Contents.{KeyGenComes, SealComes}
 use Rattle.commands_keys.specs.Laws.{OneOfKeys}
 use Rattle.commands_keys.specs.MakingKeys.{key_gen_ending}
 use Rattle.commands_keys.specs.Sealing.{seal_ending}
-use Rattle.commands_log.specs.Outcomes.{OneOfLog, RecordComes, record_ending}
+use Rattle.log_appending.specs.Outcomes.{OneOfLog, RecordComes, record_ending}
 use Rattle.commands_policy.specs.Explaining.{explain_ending}
 use Rattle.commands_policy.specs.Outcomes.{ApplyComes, ExplainComes, OneOfPolicy, apply_ending}
-use Rattle.commands_store.specs.Contents.{ExportComes, ImportComes, VerifyComes}
-use Rattle.commands_store.specs.Exporting.{export_ending}
-use Rattle.commands_store.specs.Importing.{import_ending}
-use Rattle.commands_store.specs.Laws.{OneOfStore}
-use Rattle.commands_store.specs.Verifying.{verify_ending}
-use Rattle.commands_trees.specs.OutcomeLaws.{OneOfTrees}
+use Rattle.commands_stream.specs.Contents.{ExportComes, ImportComes}
+use Rattle.commands_verify.specs.Contents.{VerifyComes}
+use Rattle.commands_stream.specs.Exporting.{export_ending}
+use Rattle.commands_stream.specs.Importing.{import_ending}
+use Rattle.commands_stream.specs.Laws.{OneOfStream}
+use Rattle.commands_verify.specs.Laws.{OneOfVerify}
+use Rattle.commands_verify.specs.Verifying.{verify_ending}
+use Rattle.commands_snapshot.specs.OutcomeLaws.{OneOfTrees}
 use Rattle.gittuf_cli.specs.Contents.{Comes, Content, IsSettledFor, OneOutcome}
 
-module _ (store : OneOfStore) (keys : OneOfKeys) (history : OneOfHistory) (log : OneOfLog) (trees : OneOfTrees) (policy : OneOfPolicy) (approvals : OneOfApprovals) (demos : OneOfDemo) where
+module _ (verifying : OneOfVerify) (stream : OneOfStream) (keys : OneOfKeys) (history : OneOfHistory) (log : OneOfLog) (trees : OneOfTrees) (policy : OneOfPolicy) (approvals : OneOfApprovals) (demos : OneOfDemo) where
   one_comes : (c : Command) (content : Content) → IsSettledFor c content → (x y : Ending) → Comes c content x → Comes c content y → x ≡ y
-  one_comes (command.VerifyRef name root stdin) content settled = one_ending verify_ending (VerifyComes name root stdin content.held content.bytes) (store.verify name root stdin content.held content.bytes)
-  one_comes command.Export content settled = one_ending export_ending (ExportComes content.held) (store.export content.held)
-  one_comes command.Import content settled = one_ending import_ending (ImportComes content.held content.bytes) (store.import content.held content.bytes)
+  one_comes (command.VerifyRef name root stdin) content settled = one_ending verify_ending (VerifyComes name root stdin content.held content.bytes) (verifying.verify name root stdin content.held content.bytes)
+  one_comes command.Export content settled = one_ending export_ending (ExportComes content.held) (stream.export content.held)
+  one_comes command.Import content settled = one_ending import_ending (ImportComes content.held content.bytes) (stream.import content.held content.bytes)
   one_comes (command.KeyGen height width bottom) content settled = one_ending key_gen_ending (KeyGenComes content.file) (keys.key_gen content.file)
   one_comes command.Log content settled = one_ending log_ending (LogComes content.held) (history.log content.held)
   one_comes (command.Record name) content settled = one_ending record_ending (RecordComes content.file content.held) (log.recorded content.file content.held)

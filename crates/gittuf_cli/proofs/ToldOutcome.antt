@@ -1,9 +1,9 @@
 -- What an ending means where the source and the store tell what they hold.
 use Rattle.std.proofs.Common.{◌≡◌, ◌⊎◌, inl, inr, List, ℕ, sym, subst}
 use Rattle.std.specs.Prelude.{Option, Some, Result}
-use Rattle.edge_clock.specs.declared.clocks.Clock as clock
-use Rattle.edge_disk.specs.declared.disks.Disk as disk
-use Rattle.edge_disk.specs.declared.entropies.Entropy as entropy
+use Rattle.edge_io.specs.declared.clocks.Clock as clock
+use Rattle.edge_io.specs.declared.disks.Disk as disk
+use Rattle.edge_io.specs.declared.entropies.Entropy as entropy
 use Rattle.edge_io.specs.declared.sinks.Sink as sink
 use Rattle.edge_io.specs.declared.sources.Source as source
 use Rattle.git_object.specs.Repository.{Repository}
@@ -14,41 +14,43 @@ use Rattle.command_words.specs.declared.commands.Command.TheVariants as command
 use Rattle.endings.proofs.Lifted.{told_ending}
 use Rattle.endings.specs.Endings.{IsStopped}
 use Rattle.endings.specs.declared.ending.Ending.{Ending}
-use Rattle.commands_approvals.specs.Approving.{ApproveEnds}
-use Rattle.commands_approvals.specs.Outcomes.{ApproveComes, TellsOfApprovals, approve_ending}
-use Rattle.commands_approvals.specs.declared.approving.ApproveFault.{ApproveFault}
-use Rattle.commands_demo.specs.Contents.{DemoComes}
-use Rattle.commands_demo.specs.Demos.{DemoEnds, demo_ending}
-use Rattle.commands_demo.specs.Laws.{TellsOfDemo}
-use Rattle.commands_demo.specs.declared.demos.DemoFault.{DemoFault}
-use Rattle.commands_history.specs.Laws.{LogComes, TellsOfHistory}
-use Rattle.commands_history.specs.Logging.{LogEnds, log_ending}
-use Rattle.commands_history.specs.declared.faults.LogCommandFault.{LogCommandFault}
+use Rattle.commands_approve.specs.Approving.{ApproveEnds}
+use Rattle.commands_approve.specs.Outcomes.{ApproveComes, TellsOfApprovals, approve_ending}
+use Rattle.commands_approve.specs.declared.approving.ApproveFault.{ApproveFault}
+use Rattle.demo.specs.Contents.{DemoComes}
+use Rattle.demo.specs.Demos.{DemoEnds, demo_ending}
+use Rattle.demo.specs.Laws.{TellsOfDemo}
+use Rattle.demo.specs.declared.running.DemoFault.{DemoFault}
+use Rattle.commands_log.specs.Laws.{LogComes, TellsOfHistory}
+use Rattle.commands_log.specs.Logging.{LogEnds, log_ending}
+use Rattle.commands_log.specs.declared.faults.LogCommandFault.{LogCommandFault}
 use Rattle.commands_keys.specs.Contents.{KeyGenComes, SealComes}
 use Rattle.commands_keys.specs.Laws.{TellsOfKeys}
 use Rattle.commands_keys.specs.MakingKeys.{KeyGenEnds, key_gen_ending}
 use Rattle.commands_keys.specs.Sealing.{SealEnds, seal_ending}
 use Rattle.commands_keys.specs.declared.making_keys.KeyGenFault.{KeyGenFault}
 use Rattle.commands_keys.specs.declared.sealing.SealFault.{SealFault}
-use Rattle.commands_log.specs.Outcomes.{RecordComes, TellsOfLog, record_ending}
-use Rattle.commands_log.specs.Recording.{AnnotateEnds, RecordEnds}
-use Rattle.commands_log.specs.declared.recording.RecordFault.{RecordFault}
+use Rattle.log_appending.specs.Outcomes.{RecordComes, TellsOfLog, record_ending}
+use Rattle.log_appending.specs.Recording.{AnnotateEnds, RecordEnds}
+use Rattle.log_appending.specs.declared.telling.RecordFault.{RecordFault}
 use Rattle.commands_policy.specs.Applying.{ApplyEnds}
 use Rattle.commands_policy.specs.Explaining.{ExplainEnds, explain_ending}
 use Rattle.commands_policy.specs.Outcomes.{ApplyComes, ExplainComes, TellsOfPolicy, apply_ending}
 use Rattle.commands_policy.specs.declared.applying.ApplyFault.{ApplyFault}
-use Rattle.commands_store.specs.Contents.{ExportComes, ImportComes, VerifyComes}
-use Rattle.commands_store.specs.Exporting.{ExportEnds, export_ending}
-use Rattle.commands_store.specs.Importing.{ImportEnds, import_ending}
-use Rattle.commands_store.specs.Laws.{TellsOfStore}
-use Rattle.commands_store.specs.Verifying.{VerifyEnds, verify_ending}
-use Rattle.commands_store.specs.declared.importing.ImportFault.{ImportFault}
-use Rattle.commands_store.specs.Verdicts.{RefVerdict}
-use Rattle.commands_store.specs.declared.verifying.VerifyFault.{VerifyFault}
-use Rattle.commands_trees.specs.Contents.{SnapshotComes}
-use Rattle.commands_trees.specs.OutcomeLaws.{TellsOfTrees}
-use Rattle.commands_trees.specs.Snapshots.{SnapshotEnds, snapshot_ending}
-use Rattle.commands_trees.specs.declared.snapshots.SnapshotFault.{SnapshotFault}
+use Rattle.commands_stream.specs.Contents.{ExportComes, ImportComes}
+use Rattle.commands_verify.specs.Contents.{VerifyComes}
+use Rattle.commands_stream.specs.Exporting.{ExportEnds, export_ending}
+use Rattle.commands_stream.specs.Importing.{ImportEnds, import_ending}
+use Rattle.commands_stream.specs.Laws.{TellsOfStream}
+use Rattle.commands_verify.specs.Laws.{TellsOfVerify}
+use Rattle.commands_verify.specs.Verifying.{VerifyEnds, verify_ending}
+use Rattle.commands_stream.specs.declared.importing.ImportFault.{ImportFault}
+use Rattle.commands_verify.specs.Verdicts.{RefVerdict}
+use Rattle.commands_verify.specs.declared.verifying.VerifyFault.{VerifyFault}
+use Rattle.commands_snapshot.specs.Contents.{SnapshotComes}
+use Rattle.commands_snapshot.specs.OutcomeLaws.{TellsOfTrees}
+use Rattle.commands_snapshot.specs.Snapshots.{SnapshotEnds, snapshot_ending}
+use Rattle.commands_snapshot.specs.declared.snapshots.SnapshotFault.{SnapshotFault}
 use Rattle.gittuf_cli.specs.Contents.{Comes, Content, Tells, TellsOutcome}
 use Rattle.gittuf_cli.specs.KeyTypes.{below_of, lms_of, ots_of}
 use Rattle.gittuf_cli.specs.Runs.{EndsOf}
@@ -57,7 +59,7 @@ use Rattle.gittuf_cli.specs.Worlds.{World}
 same_some : {X : Type 0} (x y : X) (told : Option X) → told ≡ Some x → told ≡ Some y → x ≡ y
 same_some x y told e f = cc
 
-module _ {S K R D E C : Type 0} (source_of : source.Ghosts S) (sink_of : sink.Ghosts K) (keeper_of : keeper.Ghosts R) (disk_of : disk.Ghosts D) (entropy_of : entropy.Ghosts E) (clock_of : clock.Ghosts C) (store : TellsOfStore keeper_of) (keys : TellsOfKeys disk_of) (history : TellsOfHistory) (log : TellsOfLog keeper_of disk_of) (trees : TellsOfTrees keeper_of) (policy : TellsOfPolicy keeper_of disk_of) (approvals : TellsOfApprovals keeper_of disk_of) (demos : TellsOfDemo keeper_of) where
+module _ {S K R D E C : Type 0} (source_of : source.Ghosts S) (sink_of : sink.Ghosts K) (keeper_of : keeper.Ghosts R) (disk_of : disk.Ghosts D) (entropy_of : entropy.Ghosts E) (clock_of : clock.Ghosts C) (verifying : TellsOfVerify keeper_of) (stream : TellsOfStream keeper_of) (keys : TellsOfKeys disk_of) (history : TellsOfHistory) (log : TellsOfLog keeper_of disk_of) (trees : TellsOfTrees keeper_of) (policy : TellsOfPolicy keeper_of disk_of) (approvals : TellsOfApprovals keeper_of disk_of) (demos : TellsOfDemo keeper_of) where
   told_comes : (c : Command) (before after : World S K R D E C) (ending : Ending) (content : Content)
       → Tells source_of sink_of keeper_of disk_of entropy_of clock_of c before after content
       → EndsOf source_of sink_of keeper_of disk_of entropy_of clock_of c before after ending → Comes c content ending ⊎ IsStopped ending
@@ -66,7 +68,7 @@ module _ {S K R D E C : Type 0} (source_of : source.Ghosts S) (sink_of : sink.Gh
       (VerifyEnds name root stdin keeper_of (source_of.left before.source) (source_of.left after.source) before.keeper after.keeper (sink_of.contents before.sink) (sink_of.contents after.sink))
       (VerifyComes name root stdin content.held content.bytes)
       (λ (outcome : Result RefVerdict VerifyFault) means.
-      store.verify name root stdin content.bytes (source_of.left after.source) content.held tells.1.now before.keeper after.keeper (sink_of.contents before.sink) (sink_of.contents after.sink) outcome tells.1.held tells.1.holds
+      verifying.verify name root stdin content.bytes (source_of.left after.source) content.held tells.1.now before.keeper after.keeper (sink_of.contents before.sink) (sink_of.contents after.sink) outcome tells.1.held tells.1.holds
       (subst (λ (l : Option (List ℕ)). VerifyEnds name root stdin keeper_of l (source_of.left after.source) before.keeper after.keeper (sink_of.contents before.sink) (sink_of.contents after.sink) outcome) tells.0 means))
       ending ends.0
   told_comes command.Export before after ending content tells ends =
@@ -75,7 +77,7 @@ module _ {S K R D E C : Type 0} (source_of : source.Ghosts S) (sink_of : sink.Gh
       (ExportEnds (keeper_of.content after.keeper) (sink_of.contents before.sink) (sink_of.contents after.sink))
       (ExportComes content.held)
       (λ (outcome : Result (Unit {0}) ExportFault) means.
-      store.export content.held (sink_of.contents before.sink) (sink_of.contents after.sink) outcome
+      stream.export content.held (sink_of.contents before.sink) (sink_of.contents after.sink) outcome
       (subst (λ (r : Repository). ExportEnds (Some r) (sink_of.contents before.sink) (sink_of.contents after.sink) outcome) same
       (subst (λ (o : Option Repository). ExportEnds o (sink_of.contents before.sink) (sink_of.contents after.sink) outcome) tells.holds means)))
       ending ends.0
@@ -84,7 +86,7 @@ module _ {S K R D E C : Type 0} (source_of : source.Ghosts S) (sink_of : sink.Gh
       (ImportEnds keeper_of (source_of.left before.source) (source_of.left after.source) before.keeper after.keeper (sink_of.contents before.sink) (sink_of.contents after.sink))
       (ImportComes content.held content.bytes)
       (λ (outcome : Result (Unit {0}) ImportFault) means.
-      store.import content.bytes (source_of.left after.source) content.held tells.1.now before.keeper after.keeper (sink_of.contents before.sink) (sink_of.contents after.sink) outcome tells.1.held tells.1.holds
+      stream.import content.bytes (source_of.left after.source) content.held tells.1.now before.keeper after.keeper (sink_of.contents before.sink) (sink_of.contents after.sink) outcome tells.1.held tells.1.holds
       (subst (λ (l : Option (List ℕ)). ImportEnds keeper_of l (source_of.left after.source) before.keeper after.keeper (sink_of.contents before.sink) (sink_of.contents after.sink) outcome) tells.0 means))
       ending ends.0
   told_comes (command.KeyGen height width bottom) before after ending content tells ends =

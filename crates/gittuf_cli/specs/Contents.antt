@@ -1,8 +1,8 @@
 -- What a run comes to where the objects tell what they hold: one ending, faults and memory aside.
 use Rattle.std.specs.Prelude.{◌≡◌, ◌⊎◌, ℕ, List, Some}
-use Rattle.edge_clock.specs.declared.clocks.Clock as clock
-use Rattle.edge_disk.specs.declared.disks.Disk as disk
-use Rattle.edge_disk.specs.declared.entropies.Entropy as entropy
+use Rattle.edge_io.specs.declared.clocks.Clock as clock
+use Rattle.edge_io.specs.declared.disks.Disk as disk
+use Rattle.edge_io.specs.declared.entropies.Entropy as entropy
 use Rattle.edge_io.specs.declared.sinks.Sink as sink
 use Rattle.edge_io.specs.declared.sources.Source as source
 use Rattle.git_object.specs.Repository.{Repository}
@@ -15,23 +15,24 @@ use Rattle.endings.specs.Endings.{IsStopped}
 use Rattle.endings.specs.declared.ending.Ending.{Ending}
 use Rattle.endings.specs.declared.ending.Ending.TheVariants.{Refused}
 use Rattle.endings.specs.declared.ending.Refusal.TheVariants as refusal
-use Rattle.commands_approvals.specs.Outcomes.{ApproveComes, approve_ending}
-use Rattle.commands_demo.specs.Contents.{DemoComes}
-use Rattle.commands_demo.specs.Demos.{demo_ending}
-use Rattle.commands_history.specs.Laws.{LogComes}
-use Rattle.commands_history.specs.Logging.{log_ending}
+use Rattle.commands_approve.specs.Outcomes.{ApproveComes, approve_ending}
+use Rattle.demo.specs.Contents.{DemoComes}
+use Rattle.demo.specs.Demos.{demo_ending}
+use Rattle.commands_log.specs.Laws.{LogComes}
+use Rattle.commands_log.specs.Logging.{log_ending}
 use Rattle.commands_keys.specs.Contents.{KeyGenComes, SealComes}
 use Rattle.commands_keys.specs.MakingKeys.{key_gen_ending}
 use Rattle.commands_keys.specs.Sealing.{seal_ending}
-use Rattle.commands_log.specs.Outcomes.{RecordComes, record_ending}
+use Rattle.log_appending.specs.Outcomes.{RecordComes, record_ending}
 use Rattle.commands_policy.specs.Explaining.{explain_ending}
 use Rattle.commands_policy.specs.Outcomes.{ApplyComes, ExplainComes, apply_ending}
-use Rattle.commands_store.specs.Contents.{ExportComes, ImportComes, VerifyComes}
-use Rattle.commands_store.specs.Exporting.{export_ending}
-use Rattle.commands_store.specs.Importing.{import_ending}
-use Rattle.commands_store.specs.Verifying.{verify_ending}
-use Rattle.commands_trees.specs.Contents.{IsSettled, SnapshotComes}
-use Rattle.commands_trees.specs.Snapshots.{snapshot_ending}
+use Rattle.commands_stream.specs.Contents.{ExportComes, ImportComes}
+use Rattle.commands_verify.specs.Contents.{VerifyComes}
+use Rattle.commands_stream.specs.Exporting.{export_ending}
+use Rattle.commands_stream.specs.Importing.{import_ending}
+use Rattle.commands_verify.specs.Verifying.{verify_ending}
+use Rattle.commands_snapshot.specs.Contents.{IsSettled, SnapshotComes}
+use Rattle.commands_snapshot.specs.Snapshots.{snapshot_ending}
 use Rattle.gittuf_cli.specs.Runs.{Ends}
 use Rattle.gittuf_cli.specs.Worlds.{World}
 

@@ -2,10 +2,10 @@
 use Rattle.std.specs.Prelude.{◌≡◌, ◌≤◌, ◌⊎◌, ℕ, List, Option, false}
 use Rattle.octets.specs.Causes.{one_more}
 use Rattle.octets.specs.Content.{GainsPart, with_end}
-use Rattle.edge_clock.specs.declared.clocks.Clock as clock
-use Rattle.edge_disk.specs.Moments.{LeavesOnly}
-use Rattle.edge_disk.specs.declared.disks.Disk as disk
-use Rattle.edge_disk.specs.declared.entropies.Entropy as entropy
+use Rattle.edge_io.specs.declared.clocks.Clock as clock
+use Rattle.edge_io.specs.Moments.{LeavesOnly}
+use Rattle.edge_io.specs.declared.disks.Disk as disk
+use Rattle.edge_io.specs.declared.entropies.Entropy as entropy
 use Rattle.edge_io.specs.declared.sinks.Sink as sink
 use Rattle.edge_io.specs.declared.sources.Source as source
 use Rattle.keeper_api.specs.Undisturbed.{Undisturbed}
@@ -19,21 +19,21 @@ use Rattle.endings.specs.Endings.{refusal_line, status_of}
 use Rattle.endings.specs.declared.ending.Ending.{Ending}
 use Rattle.endings.specs.declared.ending.Ending.TheVariants.{Done, Differs, Broken, Refused}
 use Rattle.endings.specs.declared.ending.Refusal.TheVariants as refusal
-use Rattle.commands_approvals.specs.Approving.{ApproveEnds}
-use Rattle.commands_approvals.specs.Outcomes.{approve_ending}
-use Rattle.commands_demo.specs.Demos.{DemoEnds, demo_ending}
-use Rattle.commands_history.specs.Logging.{LogEnds, log_ending}
+use Rattle.commands_approve.specs.Approving.{ApproveEnds}
+use Rattle.commands_approve.specs.Outcomes.{approve_ending}
+use Rattle.demo.specs.Demos.{DemoEnds, demo_ending}
+use Rattle.commands_log.specs.Logging.{LogEnds, log_ending}
 use Rattle.commands_keys.specs.MakingKeys.{KeyGenEnds, key_gen_ending}
 use Rattle.commands_keys.specs.Sealing.{SealEnds, seal_ending}
-use Rattle.commands_log.specs.Outcomes.{record_ending}
-use Rattle.commands_log.specs.Recording.{AnnotateEnds, RecordEnds}
+use Rattle.log_appending.specs.Outcomes.{record_ending}
+use Rattle.log_appending.specs.Recording.{AnnotateEnds, RecordEnds}
 use Rattle.commands_policy.specs.Applying.{ApplyEnds}
 use Rattle.commands_policy.specs.Explaining.{ExplainEnds, explain_ending}
 use Rattle.commands_policy.specs.Outcomes.{apply_ending}
-use Rattle.commands_store.specs.Exporting.{ExportEnds, export_ending}
-use Rattle.commands_store.specs.Importing.{ImportEnds, import_ending}
-use Rattle.commands_store.specs.Verifying.{VerifyEnds, verify_ending}
-use Rattle.commands_trees.specs.Snapshots.{SnapshotEnds, snapshot_ending}
+use Rattle.commands_stream.specs.Exporting.{ExportEnds, export_ending}
+use Rattle.commands_stream.specs.Importing.{ImportEnds, import_ending}
+use Rattle.commands_verify.specs.Verifying.{VerifyEnds, verify_ending}
+use Rattle.commands_snapshot.specs.Snapshots.{SnapshotEnds, snapshot_ending}
 use Rattle.gittuf_cli.specs.KeyTypes.{below_of, lms_of, ots_of}
 use Rattle.gittuf_cli.specs.Worlds.{World, faults_of}
 

@@ -1,7 +1,7 @@
 -- The objects that a command works on, all but the sink for faults.
-use Rattle.edge_clock.specs.declared.clocks.Clock as clock
-use Rattle.edge_disk.specs.declared.disks.Disk as disk
-use Rattle.edge_disk.specs.declared.entropies.Entropy as entropy
+use Rattle.edge_io.specs.declared.clocks.Clock as clock
+use Rattle.edge_io.specs.declared.disks.Disk as disk
+use Rattle.edge_io.specs.declared.entropies.Entropy as entropy
 use Rattle.edge_io.specs.declared.sinks.Sink as sink
 use Rattle.edge_io.specs.declared.sources.Source as source
 use Rattle.keeper_api.specs.declared.keepers.Keeper as keeper

@@ -3,25 +3,25 @@
 ghost use Rattle.gittuf_cli.specs.Contents.{OneOutcome, TellsOutcome};
 
 use command_words::laws::one_command;
-use commands_approvals::laws::{one_of_approvals, tells_of_approvals};
-use commands_demo::laws::{one_of_demo, tells_of_demo};
-use commands_history::laws::{one_of_history, tells_of_history};
+use commands_approve::laws::{one_of_approvals, tells_of_approvals};
 use commands_keys::laws::{one_of_keys, tells_of_keys};
-use commands_log::laws::{one_of_log, tells_of_log};
+use commands_log::laws::{one_of_history, tells_of_history};
 use commands_policy::laws::{one_of_policy, tells_of_policy};
-use commands_store::laws::{one_of_store, tells_of_store};
-use commands_trees::outcome_laws::{one_of_trees, tells_of_trees};
-use edge_clock::Clock;
-use edge_disk::{Disk, Entropy};
-use edge_io::{Sink, Source};
+use commands_snapshot::outcome_laws::{one_of_trees, tells_of_trees};
+use commands_stream::laws::{one_of_stream, tells_of_stream};
+use commands_verify::laws::{one_of_verify, tells_of_verify};
+use demo::laws::{one_of_demo, tells_of_demo};
+use edge_io::{Clock, Disk, Entropy, Sink, Source};
 use keeper_api::Keeper;
+use log_appending::laws::{one_of_log, tells_of_log};
 
 /// Where the objects that the command reads tell their content, an ending is the one for the words and that content,
 /// unless the run stopped for a fault or for want of memory.
 pub fn tells_outcome<S: Source, K: Sink, R: Keeper, D: Disk, E: Entropy, C: Clock>()
     ensures { TellsOutcome S.Source K.Sink R.Keeper D.Disk E.Entropy C.Clock }
 {
-    tells_of_store::<R>();
+    tells_of_verify::<R>();
+    tells_of_stream::<R>();
     tells_of_keys::<D>();
     tells_of_history();
     tells_of_log::<R, D>();
@@ -37,7 +37,8 @@ pub fn one_outcome()
     ensures { OneOutcome }
 {
     one_command();
-    one_of_store();
+    one_of_verify();
+    one_of_stream();
     one_of_keys();
     one_of_history();
     one_of_log();

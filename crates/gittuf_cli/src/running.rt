@@ -9,19 +9,18 @@ ghost use Rattle.gittuf_cli.specs.Worlds.{faults_of, world_of};
 use crate::Outside;
 use crate::key_types::{below_of, lms_of, ots_of};
 use command_words::{Command, WordsFault, read_command};
-use commands_approvals::{approve, approve_ending};
-use commands_demo::{demo, demo_ending};
-use commands_history::{log, log_ending};
+use commands_approve::{approve, approve_ending};
 use commands_keys::{key_gen, key_gen_ending, seal, seal_ending};
-use commands_log::{annotate, record, record_ending};
+use commands_log::{annotate, log, log_ending, record};
 use commands_policy::{apply_ending, explain, explain_ending, policy_apply};
-use commands_store::{export, export_ending, import, import_ending, verify_ending, verify_ref};
-use commands_trees::{snapshot, snapshot_ending};
-use edge_clock::Clock;
-use edge_disk::{Disk, Entropy};
-use edge_io::{Sink, Source, write_all};
+use commands_snapshot::{snapshot, snapshot_ending};
+use commands_stream::{export, export_ending, import, import_ending};
+use commands_verify::{verify_ending, verify_ref};
+use demo::{demo, demo_ending};
+use edge_io::{Clock, Disk, Entropy, Sink, Source, write_all};
 use endings::{Ending, Refusal};
 use keeper_api::Keeper;
+use log_appending::record_ending;
 use std::alloc::Global;
 
 // Carries a command out, over no object but those that it needs.

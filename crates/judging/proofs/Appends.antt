@@ -3,7 +3,7 @@ use Rattle.std.proofs.Common.{◌≡◌, ◌&&◌, ◌||◌, ◌<◌, ◌≤◌,
 use Rattle.std.specs.List.{list_any, slice_get}
 use Rattle.std.proofs.lemmas.Bool.{le-ltb, lt-ltb}
 use Rattle.std.proofs.lemmas.List.{length_push, take-append-le, take_at}
-use Rattle.log_entries.specs.Entries.{Taken}
+use Rattle.rsl_chain.specs.Entries.{Taken}
 use Rattle.judging.specs.Rules.{Rules}
 use Rattle.judging.specs.Logs.{above_of, authorised, before, completes, entry_at, fault_at, fault_of, numbers, pending, rescued, rescues, share, skipped, skips}
 use Rattle.judging.proofs.Counting.{any_none, any_same, any_suc}

@@ -5,7 +5,8 @@ use Rattle.std.proofs.lemmas.Bool.{true≢false}
 use Rattle.std.proofs.lemmas.List.{take_more, take_at}
 use Rattle.std.proofs.lemmas.List.Sums.{fold_push}
 use Rattle.std.proofs.lemmas.Option.{same_Some, slice_get_cases}
-use Rattle.log_entries.specs.Entries.{Taken, is_of, policy_name}
+use Rattle.rsl_chain.specs.Entries.{Taken, is_of}
+use Rattle.git_object.specs.References.{policy_name}
 use Rattle.judging.specs.Rules.{Rules}
 use Rattle.judging.specs.Logs.{before, entry_at, is_entry_of, next_policy, opened, policy_after}
 use Rattle.judging.specs.Readings.{IsInForce, OpensNone}

@@ -5,9 +5,9 @@ use Rattle.std.specs.Str.{bytes_eq}
 use Rattle.std.specs.Cmp.Lexicographic.{bytes_decides}
 use Rattle.std.proofs.lemmas.Bool.{and_parts, cases_Bool, cases_lt, le-leb, lt-leb, le-ltb, lt-ltb, true≢false}
 use Rattle.std.proofs.lemmas.List.{append-nil}
-use Rattle.log_entries.specs.Entries.{Taken, is_of, shares, skips_id}
-use Rattle.log_entries.specs.declared.entries.EntryBody.{EntryBody}
-use Rattle.log_entries.specs.declared.entries.EntryBody.TheVariants.{Reference, Annotation}
+use Rattle.rsl_chain.specs.Entries.{Taken, is_of, shares, skips_id}
+use Rattle.rsl_chain.specs.declared.entries.EntryBody.{EntryBody}
+use Rattle.rsl_chain.specs.declared.entries.EntryBody.TheVariants.{Reference, Annotation}
 use Rattle.recovery.specs.Lanes.{Lane, is_outside}
 use Rattle.judging.specs.Rules.{Rules}
 use Rattle.judging.specs.Logs.{above, above_of, body_above, may_skip, policy_after, completes, entry_at, fault_of, is_entry_of, keeps_tree, lane, numbers, pending, share, skipped, skips}

@@ -11,9 +11,10 @@ use Rattle.std.proofs.lemmas.Bool.{and_parts, cases_Bool, cases_eq, cases_lt, eq
 use Rattle.std.proofs.lemmas.Bool.Decides.{Decides-eqb, same_from_decides}
 use Rattle.std.proofs.lemmas.List.{append-nil, map_push}
 use Rattle.git_object.specs.Ids.{zeros}
-use Rattle.log_entries.specs.Entries.{Taken, attestations_name, is_of, policy_name, shares, skips_id, target_of}
-use Rattle.log_entries.specs.declared.entries.EntryBody.{EntryBody}
-use Rattle.log_entries.specs.declared.entries.EntryBody.TheVariants.{Reference, Annotation}
+use Rattle.rsl_chain.specs.Entries.{Taken, is_of, shares, skips_id, target_of}
+use Rattle.git_object.specs.References.{attestations_name, policy_name}
+use Rattle.rsl_chain.specs.declared.entries.EntryBody.{EntryBody}
+use Rattle.rsl_chain.specs.declared.entries.EntryBody.TheVariants.{Reference, Annotation}
 use Rattle.recovery.specs.Lanes.{Lane, is_in, is_skipped_in, lane_of}
 use Rattle.judging.specs.Books.{HasNote, Kept, next_number, place_of}
 use Rattle.judging.specs.Engines.{IsTaken, KeepsNote, Stands}

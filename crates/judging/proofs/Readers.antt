@@ -6,9 +6,10 @@ use Rattle.std.specs.Str.{bytes_eq}
 use Rattle.std.specs.Cmp.Lexicographic.{bytes_decides}
 use Rattle.std.proofs.lemmas.Bool.{and_parts, cases_Bool, lt-ltb, true≢false}
 use Rattle.std.proofs.lemmas.List.{length-append}
-use Rattle.log_entries.specs.Entries.{Taken, is_of, policy_name, shares, skips_id}
-use Rattle.log_entries.specs.declared.entries.EntryBody.{EntryBody}
-use Rattle.log_entries.specs.declared.entries.EntryBody.TheVariants.{Reference, Annotation}
+use Rattle.rsl_chain.specs.Entries.{Taken, is_of, shares, skips_id}
+use Rattle.git_object.specs.References.{policy_name}
+use Rattle.rsl_chain.specs.declared.entries.EntryBody.{EntryBody}
+use Rattle.rsl_chain.specs.declared.entries.EntryBody.TheVariants.{Reference, Annotation}
 use Rattle.recovery.specs.Lanes.{first_of}
 use Rattle.judging.specs.Rules.{Rules, same_tree}
 use Rattle.judging.specs.Logs.{above_of, attested_after, authorised, before, body_above, body_fault, completes, entry_at, fault_at, fault_of, from, is_entry_of, keeps_tree, lane, may_skip, ordinary_fault, pending, policy_after, prior, rescued, rescues, share, skipped, skips}

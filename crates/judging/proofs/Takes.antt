@@ -10,8 +10,9 @@ use Rattle.std.proofs.lemmas.List.{length-map, map_push}
 use Rattle.std.proofs.lemmas.Option.{slice_get-map}
 use Rattle.std.proofs.lemmas.List.Sums.{fold_push}
 use Rattle.git_object.specs.Ids.{zeros}
-use Rattle.log_entries.specs.Entries.{Taken, attestations_name, is_of, policy_name, target_of}
-use Rattle.log_entries.specs.declared.entries.EntryBody.TheVariants.{Reference}
+use Rattle.rsl_chain.specs.Entries.{Taken, is_of, target_of}
+use Rattle.git_object.specs.References.{attestations_name, policy_name}
+use Rattle.rsl_chain.specs.declared.entries.EntryBody.TheVariants.{Reference}
 use Rattle.recovery.specs.Lanes.{Lane, first_of, lane_of, last_of}
 use Rattle.judging.specs.Books.{kept_fault, kept_target, next_number, place_of}
 use Rattle.judging.specs.Rules.{Rules, same_tree}

@@ -3,8 +3,8 @@ use Rattle.std.specs.Prelude.{◌≡◌, ◌⊎◌, ◌&&◌, nat_lt, ℕ, Bool,
 use Rattle.std.specs.List.{list_any}
 use Rattle.std.specs.Str.{bytes_eq}
 use Rattle.git_object.specs.Repository.{Repository}
-use Rattle.log_entries.specs.Entries.{policy_name}
-use Rattle.log_entries.specs.declared.entries.Entry.{Entry}
+use Rattle.git_object.specs.References.{policy_name}
+use Rattle.rsl_chain.specs.declared.entries.Entry.{Entry}
 use Rattle.recovery.specs.Lanes.{lane_of}
 use Rattle.judging.specs.Books.{Kept}
 use Rattle.judging.specs.Rules.{Rules, same_tree}

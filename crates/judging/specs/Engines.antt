@@ -1,8 +1,9 @@
 -- What an engine stands for, and what its steps make of it.
 use Rattle.std.specs.Prelude.{◌≡◌, ◌≢◌, ◌&&◌, ◌↔◌, ◌<◌, ◌≤◌, ◌++◌, ℕ, Bool, true, List, [], ◌∷◌, length, map, Option, Some, None, is_some, if◌then◌else◌}
 use Rattle.std.specs.Str.{bytes_eq}
-use Rattle.log_entries.specs.Entries.{Taken, attestations_name, target_of}
-use Rattle.log_entries.specs.declared.entries.Entry.{Entry}
+use Rattle.rsl_chain.specs.Entries.{Taken, target_of}
+use Rattle.git_object.specs.References.{attestations_name}
+use Rattle.rsl_chain.specs.declared.entries.Entry.{Entry}
 use Rattle.recovery.specs.Lanes.{lane_of}
 use Rattle.judging.specs.Books.{HasLanes, HasNote, IsPut, IsSame, Kept, kept_fault, next_number, place_of}
 use Rattle.judging.specs.Hits.{IsHitBy, some_hit, without}

@@ -1,7 +1,7 @@
 -- Which entries an annotation skips, by what is kept.
 use Rattle.std.specs.Prelude.{◌≡◌, ℕ, Bool, true, false, not, List, Option, Some, None}
 use Rattle.std.specs.List.{filter, list_any}
-use Rattle.log_entries.specs.declared.entries.Entry.{Entry}
+use Rattle.rsl_chain.specs.declared.entries.Entry.{Entry}
 use Rattle.recovery.specs.Lanes.{Lane, is_in, lane_of}
 use Rattle.judging.specs.Books.{Kept, place_of}
 use Rattle.judging.specs.Rules.{Rules}

@@ -13,4 +13,4 @@ judge_failed Memory = false
 abbrev pub KeepsStore : {S : Type 0} → (S → Option Repository) → (S → Bool) → (S → Repository → Type 0) → (S → S → Type 0) → S → S → Type 0
 KeepsStore content tells_left left comes old new =
     AsBefore (content old) (content new) (tells_left old) (tells_left new) (left old) (left new)
-      (λ first. comes first old) (λ first. comes first new)
+    (λ first. comes first old) (λ first. comes first new)

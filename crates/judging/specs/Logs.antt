@@ -6,10 +6,11 @@ use Rattle.std.specs.Result.{result_err}
 use Rattle.std.specs.Option.{option_map}
 use Rattle.std.specs.Str.{bytes_eq}
 use Rattle.git_object.specs.Ids.{zeros}
-use Rattle.log_entries.specs.Entries.{Taken, attestations_name, is_of, policy_name, shares, skips_id, target_of}
-use Rattle.log_entries.specs.declared.entries.Entry.{Entry}
-use Rattle.log_entries.specs.declared.entries.EntryBody.{EntryBody}
-use Rattle.log_entries.specs.declared.entries.EntryBody.TheVariants.{Reference, Annotation}
+use Rattle.rsl_chain.specs.Entries.{Taken, is_of, shares, skips_id, target_of}
+use Rattle.git_object.specs.References.{attestations_name, policy_name}
+use Rattle.rsl_chain.specs.declared.entries.Entry.{Entry}
+use Rattle.rsl_chain.specs.declared.entries.EntryBody.{EntryBody}
+use Rattle.rsl_chain.specs.declared.entries.EntryBody.TheVariants.{Reference, Annotation}
 use Rattle.recovery.specs.Lanes.{Lane, last_of}
 use Rattle.judging.specs.Rules.{Rules, same_tree}
 

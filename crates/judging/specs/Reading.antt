@@ -1,9 +1,9 @@
 -- The reads of objects that taking an entry may cost: those of the rules that decide it.
 use Rattle.std.specs.Prelude.{◌+◌, ℕ, Bool, true, List, if◌then◌else◌, nat_lt}
 use Rattle.std.specs.List.{list_any}
-use Rattle.log_entries.specs.Entries.{Taken}
-use Rattle.log_entries.specs.declared.entries.EntryBody.{EntryBody}
-use Rattle.log_entries.specs.declared.entries.EntryBody.TheVariants.{Reference, Annotation}
+use Rattle.rsl_chain.specs.Entries.{Taken}
+use Rattle.rsl_chain.specs.declared.entries.EntryBody.{EntryBody}
+use Rattle.rsl_chain.specs.declared.entries.EntryBody.TheVariants.{Reference, Annotation}
 use Rattle.judging.specs.Rules.{Rules}
 use Rattle.judging.specs.Decisions.{decision_reads}
 use Rattle.judging.specs.Logs.{above, attested_after, from, lane, policy_after}

@@ -1,8 +1,9 @@
 -- The definitions over the list, read aloud: each as a reader would say it, without tests and filters.
 use Rattle.std.specs.Prelude.{◌≡◌, ◌≢◌, ◌⊎◌, ◌<◌, ◌≤◌, ◌++◌, ℕ, true, false, List, length, Some, None, Ok, Err}
 use Rattle.std.specs.Result.{result_err}
-use Rattle.log_entries.specs.Entries.{Taken, policy_name, skips_id}
-use Rattle.log_entries.specs.declared.entries.EntryBody.TheVariants.{Reference}
+use Rattle.rsl_chain.specs.Entries.{Taken, skips_id}
+use Rattle.git_object.specs.References.{policy_name}
+use Rattle.rsl_chain.specs.declared.entries.EntryBody.TheVariants.{Reference}
 use Rattle.judging.specs.Rules.{Rules, same_tree}
 use Rattle.judging.specs.Logs.{attested_after, authorised, before, entry_at, fault_at, from, is_entry_of, may_skip, policy_after, prior, rescued, skipped}
 

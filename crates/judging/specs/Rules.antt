@@ -2,7 +2,7 @@
 use Rattle.std.specs.Prelude.{ℕ, Bool, false, List, Option, Some, None, Result}
 use Rattle.std.specs.Str.{bytes_eq}
 use Rattle.git_object.specs.Repository.{Repository}
-use Rattle.log_entries.specs.declared.entries.Entry.{Entry}
+use Rattle.rsl_chain.specs.declared.entries.Entry.{Entry}
 
 -- each of them in the repository in which the entry is judged; the last four bound the reads of an object that a
 -- store makes where it answers for a rule

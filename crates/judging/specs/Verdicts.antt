@@ -1,8 +1,8 @@
 -- The answers of judging, by the definitions over the list.
 use Rattle.std.specs.Prelude.{◌≡◌, ◌≢◌, ℕ, List, length, Option, Some, None}
-use Rattle.log_entries.specs.Entries.{Taken}
-use Rattle.log_entries.specs.declared.entries.EntryBody.{EntryBody}
-use Rattle.log_entries.specs.declared.entries.EntryBody.TheVariants.{Reference, Annotation}
+use Rattle.rsl_chain.specs.Entries.{Taken}
+use Rattle.rsl_chain.specs.declared.entries.EntryBody.{EntryBody}
+use Rattle.rsl_chain.specs.declared.entries.EntryBody.TheVariants.{Reference, Annotation}
 use Rattle.recovery.specs.Lanes.{first_of}
 use Rattle.judging.specs.Rules.{Rules}
 use Rattle.judging.specs.Logs.{fault_at, fault_of, from, lane}

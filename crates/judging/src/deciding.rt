@@ -1,17 +1,16 @@
 //! What is found of an entry of a reference, before anything is kept.
 
-ghost use Rattle.std.specs.Prelude.{◌≡◌, ◌+◌, ◌≤◌, ℕ, Some, true, IfOk, OnOk};
+ghost use Rattle.std.specs.Prelude.{◌≡◌, ◌+◌, ◌≤◌, Some, true, IfOk, OnOk};
 ghost use Rattle.std.specs.Option.{option_copied};
-ghost use Rattle.std.specs.Str.{bytes_eq};
 ghost use Rattle.octets.specs.Causes.{HasCause};
 ghost use Rattle.git_object.specs.Repository.{Repository};
-ghost use Rattle.log_entries.specs.Entries.{policy_name, target_of};
+ghost use Rattle.rsl_chain.specs.Entries.{target_of};
 ghost use Rattle.judging.specs.Decisions.{decision, decision_reads, epoch_decision, ordinary_decision, ordinary_reads};
 ghost use Rattle.judging.specs.Judges.{KeepsStore, judge_failed};
 
 use crate::{Judge, JudgeFault, KeyIds};
 use git_object::{ObjectId, RefName};
-use log_entries::Entry;
+use rsl_chain::Entry;
 use std::alloc::Global;
 
 /// What is found of an entry: the policy that it opens, its fault, who signed for it.
@@ -20,13 +19,6 @@ pub struct Decision<P, F> {
     pub opened: Option<P>,
     pub fault: Option<F>,
     pub signers: KeyIds,
-}
-
-/// Whether a name is that of the policy's reference.
-pub fn is_policy(name: &RefName) -> bool
-    ensures { result ≡ bytes_eq name.now policy_name }
-{
-    name.text() == b"refs/gittuf/policy".as_slice()
 }
 
 // Of an entry of the policy's reference.
@@ -108,7 +100,7 @@ pub fn decide<P, F, S, J: Judge<P, F, S>>(
     ensures reads { OnOk result ((r : Repository) → J.content store.new ≡ Some r → (J.rules judge.now).bounded r from.now (target_of entry.now.body) ≡ true
         → J.reads store.new ≤ J.reads store.old + decision_reads (J.rules judge.now) r (option_copied policy.entry) entry.now name.now from.now (option_copied attested.entry)) }
 {
-    if is_policy(name) {
+    if name.is_policy() {
         return decide_epoch(alloc, judge, store, policy, entry);
     }
     decide_ordinary(alloc, judge, store, policy, entry, from, attested)

@@ -4,7 +4,7 @@ ghost use Rattle.std.specs.Prelude.{◌≡◌, ◌↔◌, ◌<◌, ◌≤◌, �
 ghost use Rattle.std.specs.Option.{option_copied};
 ghost use Rattle.octets.specs.Causes.{HasCause};
 ghost use Rattle.git_object.specs.Repository.{Repository};
-ghost use Rattle.log_entries.specs.Entries.{Taken};
+ghost use Rattle.rsl_chain.specs.Entries.{Taken};
 ghost use Rattle.judging.specs.Judges.{KeepsStore, judge_failed};
 ghost use Rattle.judging.specs.Rules.{Rules};
 ghost use Rattle.judging.specs.Logs.{is_entry_of, entry_at, last_signers, policy_after, prior_target, skipped};
@@ -16,8 +16,8 @@ use crate::references::place_before;
 use crate::taking::{look_reference, take_reference};
 use crate::{EntryVerdict, Judge, JudgeFault, KeyIds, Verdict};
 use git_object::{ObjectId, RefName};
-use log_entries::{Entry, EntryBody};
 use octets::{Copied, Memory};
+use rsl_chain::{Entry, EntryBody};
 use std::alloc::Global;
 
 /// Judges the entries of a log one after the other, under policies `P` and with faults `F`, and keeps of each what

@@ -4,13 +4,13 @@ ghost use Rattle.std.specs.Prelude.{◌≡◌, ◌+◌, ◌≤◌, ℕ, Bool, Op
 ghost use Rattle.std.specs.Option.{option_copied};
 ghost use Rattle.octets.specs.Causes.{HasCause};
 ghost use Rattle.git_object.specs.Repository.{Repository};
-ghost use Rattle.log_entries.specs.Entries.{target_of};
+ghost use Rattle.rsl_chain.specs.Entries.{target_of};
 ghost use Rattle.judging.specs.Rules.{Rules, same_tree};
 ghost use Rattle.judging.specs.Judges.{KeepsStore, judge_failed};
 
 use git_object::{Items, KeyId, ObjectId, RefName};
-use log_entries::Entry;
 use octets::Memory;
+use rsl_chain::Entry;
 use std::alloc::Global;
 
 /// Ids of keys.

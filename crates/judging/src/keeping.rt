@@ -2,7 +2,7 @@
 
 ghost use Rattle.std.specs.Prelude.{◌≡◌, ℕ, List, Some, None, if◌then◌else◌, OnOk, OnErr};
 ghost use Rattle.std.specs.Str.{bytes_eq};
-ghost use Rattle.log_entries.specs.Entries.{attestations_name};
+ghost use Rattle.git_object.specs.References.{attestations_name};
 ghost use Rattle.recovery.specs.Lanes.{with_fix};
 ghost use Rattle.judging.specs.Books.{HasLanes, place_of};
 ghost use Rattle.judging.specs.Engines.{KeepsNothing, KeepsReference, opened_or};
@@ -27,7 +27,7 @@ fn open_policy<P: Drop>(policy: &mut Option<P>, opened: Option<P>)
 fn attest(attested: &mut Option<ObjectId>, name: &RefName, target: &ObjectId)
     ensures { attested.new ≡ (if bytes_eq name.now attestations_name then Some target.now else attested.old) }
 {
-    if name.text() == b"refs/gittuf/attestations".as_slice() {
+    if name.is_attestations() {
         *attested = Some(*target);
     }
 }

@@ -2,7 +2,8 @@
 //! are the laws, over any policies `P`, any faults `F` and any rules over them.
 
 ghost use Rattle.std.specs.Prelude.{◌≡◌, ◌⊎◌, ◌↔◌, ◌<◌, ◌≤◌, ◌++◌, ℕ, List, length, true, Some, None};
-ghost use Rattle.log_entries.specs.Entries.{Taken, policy_name};
+ghost use Rattle.rsl_chain.specs.Entries.{Taken};
+ghost use Rattle.git_object.specs.References.{policy_name};
 ghost use Rattle.recovery.specs.Lanes.{first_of};
 ghost use Rattle.judging.specs.Rules.{Rules};
 ghost use Rattle.judging.specs.Logs.{entry_at, fault_at, is_entry_of, lane, policy_after, prior, rescued, skipped};

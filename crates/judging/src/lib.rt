@@ -1,6 +1,6 @@
 //! Judging the entries of a reference state log in one forward pass, over rules that are given.
 //!
-//! This crate stands on `octets`, `git_object`, `log_entries` and `recovery`. What a log says of its entries
+//! This crate stands on `octets`, `git_object`, `rsl_chain` and `recovery`. What a log says of its entries
 //! (who may skip one, where a reference stood before it, its fault, whether it was rescued, the verdict on a
 //! reference) is defined in `specs/` over the whole list of entries, for rules that are functions: which policy
 //! an entry opens, which fault another one has, who signed, which tree a target has. `laws` reads the

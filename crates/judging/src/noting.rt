@@ -10,8 +10,8 @@ use crate::book::Book;
 use crate::engine::Engine;
 use crate::{Judge, KeyIds};
 use git_object::{KeyId, ObjectId};
-use log_entries::Entry;
 use octets::Memory;
+use rsl_chain::Entry;
 use std::alloc::Global;
 
 // The number of an id, where it is a reference's of which the key may skip entries.

@@ -4,8 +4,8 @@ ghost use Rattle.std.specs.Prelude.{◌≡◌, ◌+◌, ◌≤◌, ℕ, List, Op
 ghost use Rattle.std.specs.List.{list_any};
 ghost use Rattle.octets.specs.Causes.{HasCause};
 ghost use Rattle.git_object.specs.Repository.{Repository};
-ghost use Rattle.log_entries.specs.Entries.{Taken, target_of};
-ghost use Rattle.log_entries.specs.declared.entries.EntryBody.TheVariants.{Reference};
+ghost use Rattle.rsl_chain.specs.Entries.{Taken, target_of};
+ghost use Rattle.rsl_chain.specs.declared.entries.EntryBody.TheVariants.{Reference};
 ghost use Rattle.recovery.specs.Lanes.{lane_of};
 ghost use Rattle.judging.specs.Books.{place_of};
 ghost use Rattle.judging.specs.Decisions.{decision_reads};
@@ -21,8 +21,8 @@ use crate::keeping::keep_reference;
 use crate::references::{finishes, place_before};
 use crate::{EntryVerdict, Judge, JudgeFault};
 use git_object::{ObjectId, RefName};
-use log_entries::Entry;
 use octets::{Copied, Memory};
+use rsl_chain::Entry;
 use std::alloc::Global;
 
 /// What is answered of an entry that has this fault, or none.

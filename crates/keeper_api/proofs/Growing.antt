@@ -50,4 +50,3 @@ at_one r (pair ∷ pairs) id kept own none = (none.0 id kept own, at_one r pairs
 
 pub grows : (change : Change) (r : Repository) → NoneClashes change.objects r → Larger r (changed change r)
 grows change r none id kept own = put_all change.objects r.objects id kept own (at_one r change.objects id kept own none)
-

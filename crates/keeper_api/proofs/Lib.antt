@@ -11,3 +11,4 @@ pub mod Telling
 pub mod Trees
 pub mod Undos
 pub mod Walking
+pub mod Committed

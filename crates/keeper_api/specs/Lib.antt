@@ -14,3 +14,5 @@ pub mod Trees
 pub mod Halves
 pub mod RefPlans
 pub mod Undoing
+-- what a commit does to a store
+pub mod Committing

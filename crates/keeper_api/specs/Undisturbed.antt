@@ -6,4 +6,4 @@ use Rattle.keeper_api.specs.declared.keepers.Keeper.{Ghosts}
 abbrev pub Undisturbed : {S : Type 0} → Ghosts S → S → S → Type 0
 Undisturbed keeper old new =
     AsBefore (keeper.content old) (keeper.content new) (keeper.tells_left old) (keeper.tells_left new) (keeper.left old) (keeper.left new)
-      (λ first. keeper.comes first old) (λ first. keeper.comes first new)
+    (λ first. keeper.comes first old) (λ first. keeper.comes first new)

@@ -2,8 +2,8 @@
 use Rattle.std.proofs.Common.{◌≡◌, ◌∙◌, ℕ, List, [], ap}
 use Rattle.std.specs.Prelude.{Some}
 use Rattle.octets.specs.Content.{Told}
-use Rattle.edge_disk.specs.Disk.{Follows, IsKept, Torn}
-use Rattle.edge_disk.specs.declared.disks.Disk as disk
+use Rattle.edge_io.specs.Disk.{Follows, IsKept, Torn}
+use Rattle.edge_io.specs.declared.disks.Disk as disk
 use Rattle.leaf_journal.specs.Making.{IsCutShort}
 
 module _ {D : Type 0} (disk_of : disk.Ghosts D) where

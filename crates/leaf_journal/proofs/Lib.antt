@@ -7,3 +7,6 @@ pub mod NewFile
 pub mod Once
 pub mod Reading
 pub mod Writing
+pub mod OneKeyFile
+pub mod KeyReading
+pub mod Steps

@@ -3,7 +3,7 @@ use Rattle.std.proofs.Common.{◌≡◌, ◌+◌, ◌<◌, ℕ, List, [], ◌∷
 use Rattle.std.specs.Prelude.{Option, Some}
 use Rattle.std.proofs.lemmas.List.{ext_get_or}
 use Rattle.octets.specs.Content.{Told}
-use Rattle.edge_disk.specs.Disk.{Written}
+use Rattle.edge_io.specs.Disk.{Written}
 
 -- the byte that was written
 pub written_one : (at : ℕ) (was now : List ℕ) → Written at (1 ∷ []) was now → get_or now at 0 ≡ 1

@@ -4,3 +4,7 @@ pub mod Making
 pub mod Loading
 pub mod Signing
 pub mod Runs
+pub mod Files
+pub mod Opening
+pub mod Using
+pub mod KeySigning

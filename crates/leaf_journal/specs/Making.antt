@@ -1,8 +1,8 @@
 -- What is left of a disk on which no key file was made.
 use Rattle.std.specs.Prelude.{◌≡◌, ◌⊎◌, ◌+◌, ◌^◌, ℕ, List, [], Some}
 use Rattle.octets.specs.Content.{Told}
-use Rattle.edge_disk.specs.Disk.{Follows, IsKept, Torn}
-use Rattle.edge_disk.specs.declared.disks.Disk as disk
+use Rattle.edge_io.specs.Disk.{Follows, IsKept, Torn}
+use Rattle.edge_io.specs.declared.disks.Disk as disk
 use Rattle.hss_keys.specs.Secret.{Secret, height_of}
 use Rattle.leaf_journal.specs.KeyFile.{start_of}
 

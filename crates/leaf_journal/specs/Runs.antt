@@ -1,6 +1,6 @@
 -- Key runs: what happens to the leaves of one key, and the law that none is released twice.
 use Rattle.std.specs.Prelude.{◌≡◌, ◌⊎◌, ℕ, List, [], ◌∷◌, slice_set}
-use Rattle.edge_disk.specs.declared.disks.Disk as disk
+use Rattle.edge_io.specs.declared.disks.Disk as disk
 use Rattle.leaf_journal.specs.KeyFile.{UsedInAll}
 use Rattle.leaf_journal.specs.Signing.{IsLeast, IsMarked}
 

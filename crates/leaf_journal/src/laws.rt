@@ -2,7 +2,7 @@
 
 ghost use Rattle.leaf_journal.specs.Runs.{LeavesOnce, in_use};
 
-use edge_disk::Disk;
+use edge_io::Disk;
 
 /// In every run of a key over a disk the leaves that signed are distinct: signers are opened, leaves sign or fail, and
 /// a stop comes before any next opening. `Signer::load` that is Ok is an opening, and `Signer::sign` that answers Ok

@@ -3,12 +3,11 @@
 ghost use Rattle.std.specs.Prelude.{◌≡◌, ◌+◌, ◌<◌, ◌≤◌, ◌∷◌, [], ℕ, List, length, OnOk, Some};
 ghost use Rattle.octets.specs.Causes.{HasCause, each};
 ghost use Rattle.octets.specs.Content.{Told};
-ghost use Rattle.edge_disk.specs.Disk.{Only, Torn, Written};
-ghost use Rattle.edge_disk.specs.Moments.{LeavesOnly};
+ghost use Rattle.edge_io.specs.Disk.{Only, Torn, Written};
+ghost use Rattle.edge_io.specs.Moments.{LeavesOnly};
 ghost use Rattle.leaf_journal.specs.Signing.{IsTornImage};
 
-use edge_disk::Disk;
-use edge_io::Failed;
+use edge_io::{Disk, Failed};
 
 /// Writes the byte of a leaf that is used, in a file whose leaves begin at `start`, and makes it last. After `Failed` its byte may be any.
 pub fn write_leaf<D: Disk>(disk: &mut D, start: u64, leaf: u32) -> Result<(), Failed>

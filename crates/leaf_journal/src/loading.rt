@@ -2,8 +2,8 @@
 
 ghost use Rattle.std.specs.Prelude.{◌≡◌, ◌+◌, ◌^◌, ◌≤◌, ℕ, List, length, drop, IfOk, IfErr, IsErrOf, OnOk, Some};
 ghost use Rattle.octets.specs.Causes.{HasCause};
-ghost use Rattle.edge_disk.specs.Disk.{IsKept};
-ghost use Rattle.edge_disk.specs.Moments.{LeavesOnly};
+ghost use Rattle.edge_io.specs.Disk.{IsKept};
+ghost use Rattle.edge_io.specs.Moments.{LeavesOnly};
 ghost use Rattle.lms_keys.specs.LmsType.{height};
 ghost use Rattle.hss_keys.specs.Secret.{height_below};
 ghost use Rattle.leaf_journal.specs.Faults.{load_failed};
@@ -14,7 +14,7 @@ ghost use Rattle.leaf_journal.specs.declared.faults.LoadFault.TheVariants as fau
 use crate::LoadFault;
 use crate::first_free::first_free;
 use crate::headers::{Header, read_header};
-use edge_disk::Disk;
+use edge_io::Disk;
 use hss_keys::{Below, SigningKey};
 use std::alloc::{AllocError, Global};
 

@@ -2,7 +2,7 @@
 
 ghost use Rattle.std.specs.Prelude.{◌≡◌, ◌+◌, ◌<◌, ◌≤◌, ◌↔◌, [], ℕ, List, length, IfOk, OnOk, OnErr, IsErrOf, Some, None};
 ghost use Rattle.octets.specs.Causes.{HasCause, each};
-ghost use Rattle.edge_disk.specs.Disk.{IsKept, Written};
+ghost use Rattle.edge_io.specs.Disk.{IsKept, Written};
 ghost use Rattle.lms_keys.specs.LmsType.{height};
 ghost use Rattle.lms_keys.specs.Secret.{public_key_of};
 ghost use Rattle.hss_keys.specs.Secret.{height_below, public_bytes};
@@ -15,8 +15,7 @@ ghost use Rattle.leaf_journal.specs.declared.faults.CreateFault.TheVariants as f
 
 use crate::CreateFault;
 use crate::headers::{Header, leaves_of, write_header};
-use edge_disk::Disk;
-use edge_io::Failed;
+use edge_io::{Disk, Failed};
 use hss_keys::{Below, hss_public};
 use lmots::OtsType;
 use lms_keys::{LmsType, PublicKey, SecretKey};

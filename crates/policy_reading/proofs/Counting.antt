@@ -12,7 +12,7 @@ use Rattle.tree_paths.specs.declared.heads.Peeled.TheVariants.{At, Bad, Nothing}
 use Rattle.tree_paths.specs.declared.states.State.TheVariants as state
 use Rattle.tree_paths.proofs.Pieces.{counted_dirs}
 use Rattle.tree_paths.specs.Repositories.{readings_of}
-use Rattle.policy_files.specs.Metadata.{metadata_entries, rule_files}
+use Rattle.policy_reading.specs.Metadata.{metadata_entries, rule_files}
 use Rattle.policy_reading.specs.Policies.{file_reads, policy_reads}
 
 module _ (trees : Trees) (tree : List ℕ) (paths dirs : ℕ) where

@@ -7,7 +7,7 @@ use Rattle.git_object.specs.Repository.{Repository}
 use Rattle.policy_epochs.specs.declared.faults.PolicyFault.{PolicyFault}
 use Rattle.policy_epochs.specs.declared.faults.PolicyFault.TheVariants.{BadFile}
 use Rattle.policy_reading.specs.Signed.{after, put_first, read_files, rule_file_at}
-use Rattle.policy_files.specs.declared.found_files.FileAt.{FileAt}
+use Rattle.policy_reading.specs.declared.found_files.FileAt.{FileAt}
 use Rattle.policy_reading.specs.declared.signed_files.SignedFile.{SignedFile}
 
 pub after_none : (rest : Result (List SignedFile) PolicyFault) → rest ≡ after [] rest

@@ -5,10 +5,10 @@ use Rattle.git_object.specs.declared.trees.TreeEntry.{TreeEntry}
 use Rattle.rule_files.specs.declared.rules.RuleFile.{RuleFile}
 use Rattle.policy_epochs.specs.declared.faults.PolicyFault.{PolicyFault}
 use Rattle.policy_epochs.specs.declared.policies.Policy.{Policy}
-use Rattle.policy_files.specs.Metadata.{rule_files}
-use Rattle.policy_files.specs.Orders.{AreInOrder}
-use Rattle.policy_files.specs.declared.found_files.FileAt.{FileAt}
-use Rattle.policy_files.proofs.InOrder.{files_in_order}
+use Rattle.policy_reading.specs.Metadata.{rule_files}
+use Rattle.policy_reading.specs.Orders.{AreInOrder}
+use Rattle.policy_reading.specs.declared.found_files.FileAt.{FileAt}
+use Rattle.policy_reading.proofs.FilesInOrder.{files_in_order}
 use Rattle.policy_reading.specs.Ordered.{names_of}
 use Rattle.policy_reading.specs.Validity.{assembled, by_files, by_forest, by_root, files_fault, judged, policy_file, policy_made, root_fault, sealed_of, with_top}
 use Rattle.policy_reading.specs.declared.signed_files.SignedFile.{SignedFile}

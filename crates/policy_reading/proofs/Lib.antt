@@ -3,3 +3,9 @@ pub mod FilesRead
 pub mod Counting
 pub mod TextsRead
 pub mod Assembled
+pub mod Told
+pub mod Blobs
+pub mod FilesInOrder
+pub mod Passing
+pub mod InTurn
+pub mod Joining

@@ -4,7 +4,7 @@ use Rattle.std.specs.Prelude.{IfOk, IfSome, option_and_then}
 use Rattle.std.specs.Option.{option_map}
 use Rattle.git_object.specs.Objects.{Pair}
 use Rattle.git_object.specs.Repository.{Repository}
-use Rattle.policy_files.specs.Texts.{file_text}
+use Rattle.policy_reading.specs.Texts.{file_text}
 
 module _ {A : Type 0} (f : List ℕ → Option A) (r : Repository) (id : List ℕ) (found : Option Pair) (read : option_map (λ (pair : Pair). pair.body) found ≡ file_text r id) where
   pub nothing_read : found ≡ None → None ≡ option_and_then f (file_text r id)

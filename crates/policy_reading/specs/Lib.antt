@@ -8,3 +8,12 @@ pub mod Validity
 pub mod Policies
 -- the names of a policy's files
 pub mod Ordered
+-- which files a policy has, and in which order they are gone through
+pub mod Metadata
+-- that order
+pub mod Orders
+-- the bytes of a file
+pub mod Texts
+-- the policy in force after the entries of a log
+pub mod InForce
+pub mod Reading

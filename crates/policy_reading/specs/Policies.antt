@@ -12,10 +12,10 @@ use Rattle.policy_epochs.specs.declared.faults.PolicyFault.{PolicyFault}
 use Rattle.policy_epochs.specs.declared.faults.PolicyFault.TheVariants.{BadFile, NoRoot, Unreadable}
 use Rattle.policy_epochs.specs.declared.policies.Policy.{Policy}
 use Rattle.tree_paths.specs.Repositories.{readings_of}
-use Rattle.policy_files.specs.Metadata.{is_called, metadata_entries, rule_files}
+use Rattle.policy_reading.specs.Metadata.{is_called, metadata_entries, rule_files}
 use Rattle.policy_reading.specs.Signed.{read_files, root_at}
 use Rattle.policy_reading.specs.Validity.{judged}
-use Rattle.policy_files.specs.declared.found_files.FileAt.{FileAt}
+use Rattle.policy_reading.specs.declared.found_files.FileAt.{FileAt}
 use Rattle.policy_reading.specs.declared.signed_files.SignedFile.{SignedFile}
 use Rattle.policy_reading.specs.declared.signed_files.SignedRoot.{SignedRoot}
 

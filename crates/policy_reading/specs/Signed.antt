@@ -13,8 +13,8 @@ use Rattle.rule_files.specs.Files as files
 use Rattle.rule_files.specs.declared.rules.RuleFile.{RuleFile}
 use Rattle.policy_epochs.specs.declared.faults.PolicyFault.{PolicyFault}
 use Rattle.policy_epochs.specs.declared.faults.PolicyFault.TheVariants.{BadFile}
-use Rattle.policy_files.specs.Texts.{file_text}
-use Rattle.policy_files.specs.declared.found_files.FileAt.{FileAt}
+use Rattle.policy_reading.specs.Texts.{file_text}
+use Rattle.policy_reading.specs.declared.found_files.FileAt.{FileAt}
 use Rattle.policy_reading.specs.declared.signed_files.SignedFile.{SignedFile}
 use Rattle.policy_reading.specs.declared.signed_files.SignedRoot.{SignedRoot}
 

@@ -5,17 +5,17 @@ ghost use Rattle.octets.specs.Causes.{HasCause};
 ghost use Rattle.git_object.specs.Repository.{Repository};
 ghost use Rattle.keeper_api.specs.Faults.{keeper_failed};
 ghost use Rattle.keeper_api.specs.Undisturbed.{Undisturbed};
-ghost use Rattle.policy_files.specs.Metadata.{rule_files};
-ghost use Rattle.policy_files.specs.Orders.{AreInOrder};
+ghost use Rattle.policy_reading.specs.Metadata.{rule_files};
+ghost use Rattle.policy_reading.specs.Orders.{AreInOrder};
 ghost use Rattle.policy_reading.specs.Ordered.{names_of};
 ghost use Rattle.policy_reading.specs.Policies.{policy_in, policy_of, policy_reads};
 
 use crate::judged_files::judge;
 use crate::loaded_files::{bad_file, load_files, load_root};
+use crate::{find_called, load_metadata, own_state, rule_files};
 use git_object::{ObjectId, TreeEntry};
 use keeper_api::{Keeper, KeeperFault};
 use policy_epochs::{Policy, PolicyFault};
-use policy_files::{find_called, load_metadata, own_state, rule_files};
 use std::alloc::Global;
 use tree_paths::State;
 

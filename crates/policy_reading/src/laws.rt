@@ -8,7 +8,7 @@ ghost use Rattle.tree_paths.specs.States.{state_at, walk_of};
 ghost use Rattle.tree_paths.specs.declared.states.State.TheVariants as state;
 ghost use Rattle.policy_reading.specs.Deciding.{first_fault};
 ghost use Rattle.tree_paths.specs.Repositories.{readings_of};
-ghost use Rattle.policy_files.specs.Metadata.{metadata_entries, rule_files};
+ghost use Rattle.policy_reading.specs.Metadata.{metadata_entries, rule_files};
 ghost use Rattle.policy_reading.specs.Policies.{policy_reads};
 
 /// The first fault of rule files, by which policies are defined, is theirs, or they have none and are a policy's.

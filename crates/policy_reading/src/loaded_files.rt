@@ -9,11 +9,11 @@ ghost use Rattle.policy_epochs.specs.declared.faults.PolicyFault.TheVariants as 
 ghost use Rattle.policy_reading.specs.Signed.{read_files, root_at, rule_file_at};
 
 use crate::signed_files::{SignedFile, SignedFiles, SignedRoot, signed_file, signed_root};
+use crate::{FileAt, load_blob};
 use git_object::ObjectId;
 use keeper_api::{Keeper, KeeperFault};
 use octets::{Memory, Octets};
 use policy_epochs::PolicyFault;
-use policy_files::{FileAt, load_blob};
 use std::alloc::Global;
 
 /// The root at an id; None where the object is missing, no blob, longer than 1 MiB, or refused.

@@ -14,3 +14,4 @@ pub mod WrittenMessages
 pub mod Written
 pub mod Growing
 pub mod OtherNames
+pub mod Entered

@@ -7,7 +7,7 @@ use Rattle.git_object.specs.Repository.{HasObject, Repository, object_at}
 use Rattle.git_object.specs.declared.kinds.Kind.{Kind}
 use Rattle.git_object.specs.declared.kinds.Kind.TheVariants.{Blob, Tree, Commit, Tag}
 use Rattle.git_object.proofs.ObjectAt.{object_none, object_there}
-use Rattle.log_entries.specs.declared.entries.Entry.{Entry}
+use Rattle.rsl_chain.specs.declared.entries.Entry.{Entry}
 use Rattle.rsl_chain.specs.Chain.{AreHeads, IsHead}
 use Rattle.rsl_chain.specs.Logs.{entry_at, entry_of_pair, head_from, head_in, head_of, head_of_pair, heads_of}
 use Rattle.rsl_chain.specs.Reading.{Reading, entry_as, reading}

@@ -9,9 +9,9 @@ use Rattle.std.proofs.lemmas.Slice.Eq.{bytes_eq-Decides}
 use Rattle.git_object.specs.Names.{is_ref_name, log_name}
 use Rattle.git_object.specs.declared.kinds.Kind.{Kind}
 use Rattle.git_object.specs.declared.kinds.Kind.TheVariants as kind
-use Rattle.log_entries.specs.declared.entries.Entry.{Entry}
-use Rattle.log_entries.specs.declared.entries.EntryBody.{EntryBody}
-use Rattle.log_entries.specs.declared.entries.EntryBody.TheVariants.{Reference, Annotation}
+use Rattle.rsl_chain.specs.declared.entries.Entry.{Entry}
+use Rattle.rsl_chain.specs.declared.entries.EntryBody.{EntryBody}
+use Rattle.rsl_chain.specs.declared.entries.EntryBody.TheVariants.{Reference, Annotation}
 use Rattle.rsl_chain.specs.Grammar.{author_step, first_id_step, fits, id_if, id_or_skip_step, id_step, name_step, number_if, number_step, parent_step, piece_or_end_step, piece_step, plain_if, row, signature_step, skip_step, start, step, target_step, title_step}
 use Rattle.rsl_chain.specs.Growing.{NeverTheLog}
 use Rattle.rsl_chain.specs.Lines.{lines, name_after, name_text, strip}

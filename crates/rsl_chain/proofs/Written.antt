@@ -8,8 +8,8 @@ use Rattle.hex.specs.Hex.{encode_lower}
 use Rattle.git_object.specs.Ids.{IsId, zeros}
 use Rattle.git_object.specs.Objects.{object_id}
 use Rattle.git_object.specs.declared.kinds.Kind.TheVariants.{Commit}
-use Rattle.log_entries.specs.declared.entries.EntryBody.{EntryBody}
-use Rattle.log_entries.specs.declared.entries.EntryBody.TheVariants.{Reference, Annotation}
+use Rattle.rsl_chain.specs.declared.entries.EntryBody.{EntryBody}
+use Rattle.rsl_chain.specs.declared.entries.EntryBody.TheVariants.{Reference, Annotation}
 use Rattle.text_reader.proofs.Unique.{no_byte}
 use Rattle.rsl_chain.specs.Chain.{IsHead}
 use Rattle.rsl_chain.specs.Drafts.{IsBody, IsDraft, IsParent, IsReadBack, IsReadWith, IsValid, IsValidBody, author_lines, body_lines, draft_lines, entry_line, entry_of_draft, head_lines, insert_line, joined, message_lines, number_line, signature_line, signature_lines, signature_of, signer_of, signed_text_of, skip_line, unsigned_text}

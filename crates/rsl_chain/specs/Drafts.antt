@@ -9,9 +9,9 @@ use Rattle.git_object.specs.Ids.{IsId}
 use Rattle.git_object.specs.Names.{IsRefName, log_name}
 use Rattle.git_object.specs.Objects.{object_id}
 use Rattle.git_object.specs.declared.kinds.Kind.TheVariants.{Commit}
-use Rattle.log_entries.specs.declared.entries.Entry.{Entry}
-use Rattle.log_entries.specs.declared.entries.EntryBody.{EntryBody}
-use Rattle.log_entries.specs.declared.entries.EntryBody.TheVariants.{Reference, Annotation}
+use Rattle.rsl_chain.specs.declared.entries.Entry.{Entry}
+use Rattle.rsl_chain.specs.declared.entries.EntryBody.{EntryBody}
+use Rattle.rsl_chain.specs.declared.entries.EntryBody.TheVariants.{Reference, Annotation}
 use Rattle.rsl_chain.specs.Chain.{IsHead}
 use Rattle.rsl_chain.specs.Grammar.{message_begin, message_end, tree_line}
 use Rattle.rsl_chain.specs.Lines.{lines}

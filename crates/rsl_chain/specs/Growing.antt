@@ -5,8 +5,8 @@ use Rattle.git_object.specs.Names.{log_name}
 use Rattle.git_object.specs.Repository.{Repository}
 use Rattle.git_object.specs.declared.kinds.Kind.{Kind}
 use Rattle.keeper_api.specs.Growing.{Keeps, Larger}
-use Rattle.log_entries.specs.declared.entries.Entry.{Entry}
-use Rattle.log_entries.specs.declared.entries.EntryBody.TheVariants.{Reference}
+use Rattle.rsl_chain.specs.declared.entries.Entry.{Entry}
+use Rattle.rsl_chain.specs.declared.entries.EntryBody.TheVariants.{Reference}
 use Rattle.rsl_chain.specs.Chain.{head_after}
 use Rattle.rsl_chain.specs.Logs.{IsLogOf, entry_of_pair, heads_of}
 

@@ -9,3 +9,6 @@ pub mod Logs
 pub mod Growing
 -- The text of an entry, as it is written.
 pub mod Drafts
+pub mod Entries
+-- The log of a repository with its entries, and what of it a run printed.
+pub mod Histories

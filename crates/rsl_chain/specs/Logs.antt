@@ -9,7 +9,7 @@ use Rattle.git_object.specs.declared.kinds.Kind.{Kind}
 use Rattle.git_object.specs.declared.kinds.Kind.TheVariants.{Blob, Tree, Commit, Tag}
 use Rattle.keeper_api.specs.declared.keeper_faults.KeeperFault.{KeeperFault}
 use Rattle.keeper_api.specs.declared.keeper_faults.KeeperFault.TheVariants as keeper_fault
-use Rattle.log_entries.specs.declared.entries.Entry.{Entry}
+use Rattle.rsl_chain.specs.declared.entries.Entry.{Entry}
 use Rattle.rsl_chain.specs.Chain.{Entries, IsBreak, IsLog}
 use Rattle.rsl_chain.specs.Reading.{Reading, entry_as, reading}
 use Rattle.rsl_chain.specs.declared.heads.Head.{Head}

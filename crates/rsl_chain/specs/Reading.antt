@@ -3,9 +3,9 @@ use Rattle.std.specs.Prelude.{◌≡◌, ℕ, ◌+◌, ◌==◌, ◌&&◌, ◌++
 use Rattle.git_object.specs.Ids.{zeros}
 use Rattle.git_object.specs.Objects.{object_id}
 use Rattle.git_object.specs.declared.kinds.Kind.TheVariants.{Commit}
-use Rattle.log_entries.specs.declared.entries.Entry.{Entry}
-use Rattle.log_entries.specs.declared.entries.EntryBody.{EntryBody}
-use Rattle.log_entries.specs.declared.entries.EntryBody.TheVariants.{Reference, Annotation}
+use Rattle.rsl_chain.specs.declared.entries.Entry.{Entry}
+use Rattle.rsl_chain.specs.declared.entries.EntryBody.{EntryBody}
+use Rattle.rsl_chain.specs.declared.entries.EntryBody.TheVariants.{Reference, Annotation}
 use Rattle.rsl_chain.specs.Grammar.{may_end, start, step}
 use Rattle.rsl_chain.specs.Lines.{lines}
 use Rattle.rsl_chain.specs.declared.entry_faults.EntryFault.{EntryFault}

@@ -9,13 +9,13 @@ ghost use Rattle.rsl_chain.specs.Chain.{IsBreak, IsHead, IsLog};
 ghost use Rattle.rsl_chain.specs.Logs.{IsBrokenAs, IsBrokenFrom, IsLogOf, IsNamed, IsNoEntryAs, IsUnbroken, entry_at, entry_of_pair, head_from, head_of, head_of_pair, heads_of, log_failed};
 ghost use Rattle.rsl_chain.specs.Reading.{IsBadAs, reading};
 
+use crate::Entry;
 use crate::entry_faults::EntryFault;
 use crate::heads::Head;
 use crate::log_faults::LogFault;
 use crate::reading::{read_as, read_lines};
 use git_object::{Ids, Kind, Object, ObjectId, RefName};
 use keeper_api::{Keeper, load_object};
-use log_entries::Entry;
 use octets::Memory;
 use std::alloc::Global;
 

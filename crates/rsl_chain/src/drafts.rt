@@ -8,11 +8,11 @@ ghost use Rattle.git_object.specs.Ids.{IsId};
 ghost use Rattle.git_object.specs.Names.{IsRefName};
 ghost use Rattle.rsl_chain.specs.Drafts;
 
+use crate::EntryBody;
 use crate::rows::{MESSAGE_BEGIN, MESSAGE_END, TREE_LINE};
 use base64::engine::general_purpose::STANDARD;
 use git_object::{KeyId, ObjectId, RefName};
 use itoa::Buffer;
-use log_entries::EntryBody;
 use octets::{Memory, Octets};
 use std::alloc::Global;
 use text_reader::split_line;

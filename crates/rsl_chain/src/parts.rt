@@ -3,9 +3,9 @@
 ghost use Rattle.std.specs.Prelude.{◌≡◌, true, false, OnOk};
 ghost use Rattle.rsl_chain.specs.Reading;
 
+use crate::EntryBody;
 use crate::places::Part;
 use git_object::{Ids, KeyId, ObjectId, RefName};
-use log_entries::EntryBody;
 use octets::{Memory, Octets};
 use std::alloc::Global;
 

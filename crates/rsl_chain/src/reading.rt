@@ -5,12 +5,12 @@ ghost use Rattle.rsl_chain.specs.Grammar.{may_end};
 ghost use Rattle.rsl_chain.specs.Reading;
 ghost use Rattle.rsl_chain.specs.Reading.{IsBadAs, IsReadTo, entry_as, entry_of, reading};
 
+use crate::Entry;
 use crate::entry_faults::EntryFault;
 use crate::parts::{Parts, body_of, put};
 use crate::places::{Place, Want};
 use crate::rows::{may_end, step};
 use git_object::{Kind, ObjectId, id_of};
-use log_entries::Entry;
 use octets::Memory;
 use std::alloc::Global;
 use text_reader::split_line;

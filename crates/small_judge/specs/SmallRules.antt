@@ -1,8 +1,8 @@
 -- The rules of the small judge. An entry's signature is taken as good for the key that it names.
 use Rattle.std.specs.Prelude.{ℕ, Bool, true, false, List, [], ◌∷◌, take, Option, Some, None, Result, Ok, Err, if◌then◌else◌}
 use Rattle.std.specs.Str.{bytes_eq}
-use Rattle.log_entries.specs.Entries.{target_of}
-use Rattle.log_entries.specs.declared.entries.Entry.{Entry}
+use Rattle.rsl_chain.specs.Entries.{target_of}
+use Rattle.rsl_chain.specs.declared.entries.Entry.{Entry}
 use Rattle.judging.specs.Rules.{Rules}
 use Rattle.small_judge.specs.declared.policies.Holder.{Holder}
 use Rattle.small_judge.specs.declared.policies.SmallFault.{SmallFault}

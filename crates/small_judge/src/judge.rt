@@ -7,14 +7,14 @@ ghost use Rattle.octets.specs.Causes.{HasCause};
 ghost use Rattle.git_object.specs.Repository.{empty_repository};
 ghost use Rattle.judging.specs.Judges.{judge_failed};
 ghost use Rattle.judging.specs.Rules.{same_tree};
-ghost use Rattle.log_entries.specs.Entries.{target_of};
+ghost use Rattle.rsl_chain.specs.Entries.{target_of};
 ghost use Rattle.small_judge.specs.SmallRules.{epoch, fault, opened_key, signers, signs, small_rules, tree};
 
 use crate::{Holder, SmallFault};
 use git_object::{KeyId, ObjectId, RefName};
 use judging::{Finding, Judge, JudgeFault, KeyIds};
-use log_entries::{Entry, EntryBody};
 use octets::{FailingCalls, Memory};
+use rsl_chain::{Entry, EntryBody};
 use std::alloc::Global;
 
 /// Answers the small rules.

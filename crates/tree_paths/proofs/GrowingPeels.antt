@@ -32,6 +32,7 @@ module _ (few more : Heads) (grown : MoreHeads few more) where
     by_test : (b : Bool) (object : List ℕ) (names : Kind) → cond b (next object names) (Bad id) ≡ p → cond b (after object names) (Bad id) ≡ p
     by_test true object names e = all object names e
     by_test false object names e = not_bad id p (Bad id ≡ p) e good
+
     by_head : (h : Head) → few id ≡ h → peel_step next id wanted h ≡ p → peel_step after id wanted (more id) ≡ p
     by_head Other is e = not_bad id p (peel_step after id wanted (more id) ≡ p) e good
     by_head (Root tree) is e = ap (peel_step after id wanted) (grown.roots id tree is) ∙ e

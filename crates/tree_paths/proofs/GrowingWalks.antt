@@ -86,14 +86,14 @@ module _ (few more : Trees) (grown : MoreTrees few more) where
       → SameWalk (steps few (suc n) front id) (steps more (suc n) front id) c d
   visit_same n into front id c d v =
       let now : judge few (below (steps few n) id front v.found) v.next ≡ Counted d =
-          ap (λ (t : Option (List TreeEntry)). judge few (below (steps few n) id front (listed t)) v.next) (sym v.there) ∙ v.after in
+      ap (λ (t : Option (List TreeEntry)). judge few (below (steps few n) id front (listed t)) v.next) (sym v.there) ∙ v.after in
       let under = below_same n into id front v.found v.next d now in
       let same_step : take_step more c (Visit (suc n) front id) ≡ Counted v.next =
-          ap (λ (t : Option (List TreeEntry)). visit id (is_open (suc n) (length front == 0) t) c) (grown id v.found v.there ∙ sym v.there) ∙ v.first in
+      ap (λ (t : Option (List TreeEntry)). visit id (is_open (suc n) (length front == 0) t) c) (grown id v.found v.there ∙ sym v.there) ∙ v.first in
       let opened : steps few (suc n) front id ≡ Visit (suc n) front id ∷ below (steps few n) id front v.found =
-          steps_suc few n front id ∙ ap (λ (t : Option (List TreeEntry)). Visit (suc n) front id ∷ below (steps few n) id front (listed t)) v.there in
+      steps_suc few n front id ∙ ap (λ (t : Option (List TreeEntry)). Visit (suc n) front id ∷ below (steps few n) id front (listed t)) v.there in
       let opened_more : steps more (suc n) front id ≡ Visit (suc n) front id ∷ below (steps more n) id front v.found =
-          steps_suc more n front id ∙ ap (λ (t : Option (List TreeEntry)). Visit (suc n) front id ∷ below (steps more n) id front (listed t)) (grown id v.found v.there) in
+      steps_suc more n front id ∙ ap (λ (t : Option (List TreeEntry)). Visit (suc n) front id ∷ below (steps more n) id front (listed t)) (grown id v.found v.there) in
       record {
         steps_are = opened_more ∙ ap (λ (ss : List Step). Visit (suc n) front id ∷ ss) under.steps_are ∙ sym opened;
         counts = ap (λ (ss : List Step). judge more ss c) opened ∙ ap (λ (w : Walked). goes_on w (judge more (below (steps few n) id front v.found))) same_step ∙ under.counts;

@@ -5,8 +5,9 @@ use Rattle.std.specs.List.{list_any}
 use Rattle.std.specs.Str.{bytes_eq}
 use Rattle.std.proofs.lemmas.Bool.{and_parts}
 use Rattle.git_object.specs.Repository.{Repository}
-use Rattle.log_entries.specs.Entries.{Taken, policy_name, target_of}
-use Rattle.log_entries.specs.declared.entries.EntryBody.TheVariants.{Reference}
+use Rattle.rsl_chain.specs.Entries.{Taken, target_of}
+use Rattle.git_object.specs.References.{policy_name}
+use Rattle.rsl_chain.specs.declared.entries.EntryBody.TheVariants.{Reference}
 use Rattle.tree_paths.specs.Changes.{own, shared_reads}
 use Rattle.tree_paths.specs.Listings.{visits, visits_below, walk_visits}
 use Rattle.tree_paths.specs.Pairings.{same_visit, visits_in}

@@ -2,8 +2,8 @@
 use Rattle.std.proofs.Common.{◌≡◌, ◌<◌, ◌≤◌, ◌+◌, ◌++◌, ◌∙◌, ℕ, true, List, [], ◌∷◌, length, take, get_or, Some, ap, sym, subst, append_assoc, append-nil, arith}
 use Rattle.std.specs.Option.{option_map}
 use Rattle.git_object.specs.Repository.{Repository}
-use Rattle.log_entries.specs.Entries.{Taken}
-use Rattle.log_entries.specs.declared.entries.Entry.{Entry}
+use Rattle.rsl_chain.specs.Entries.{Taken}
+use Rattle.rsl_chain.specs.declared.entries.Entry.{Entry}
 use Rattle.rsl_chain.specs.Logs.{entry_at}
 use Rattle.judging.specs.Reading.{is_bounded}
 use Rattle.judging.specs.Rules.{Rules}

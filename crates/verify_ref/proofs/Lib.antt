@@ -2,3 +2,4 @@ pub mod Walking
 pub mod OneVerdict
 pub mod Growing
 pub mod FewReads
+mod Agreeing

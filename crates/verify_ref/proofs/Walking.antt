@@ -12,8 +12,8 @@ use Rattle.git_object.specs.Objects.{Pair}
 use Rattle.git_object.specs.Repository.{Repository, object_at}
 use Rattle.git_object.specs.declared.kinds.Kind.{Kind}
 use Rattle.git_object.specs.declared.kinds.Kind.TheVariants.{Blob, Commit, Tag, Tree}
-use Rattle.log_entries.specs.Entries.{Taken, target_of}
-use Rattle.log_entries.specs.declared.entries.Entry.{Entry}
+use Rattle.rsl_chain.specs.Entries.{Taken, target_of}
+use Rattle.rsl_chain.specs.declared.entries.Entry.{Entry}
 use Rattle.rsl_chain.specs.Chain.{head_after}
 use Rattle.rsl_chain.specs.Logs.{IsLogOf, IsNamed, IsUnbroken, entry_at, entry_of_pair, head_in}
 use Rattle.rsl_chain.specs.Reading.{Reading, entry_as, reading}

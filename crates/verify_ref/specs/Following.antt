@@ -1,6 +1,6 @@
 -- What an engine followed: the entries that it took, under the rules of its anchor.
 use Rattle.std.specs.Prelude.{◌≡◌, ◌++◌, ◌∷◌, [], List}
-use Rattle.log_entries.specs.Entries.{Taken}
+use Rattle.rsl_chain.specs.Entries.{Taken}
 use Rattle.judging.specs.Engines.{Stands}
 use Rattle.judging.specs.Verdicts.{verdict_of}
 use Rattle.judging.specs.declared.verdicts.EntryVerdict.{EntryVerdict}

@@ -3,8 +3,8 @@ use Rattle.std.specs.Prelude.{◌≡◌, ◌≢◌, ◌+◌, ◌++◌, ◌∷◌
 use Rattle.std.specs.List.{AllByRecursion}
 use Rattle.std.specs.Option.{option_map}
 use Rattle.git_object.specs.Repository.{Repository}
-use Rattle.log_entries.specs.Entries.{Taken}
-use Rattle.log_entries.specs.declared.entries.Entry.{Entry}
+use Rattle.rsl_chain.specs.Entries.{Taken}
+use Rattle.rsl_chain.specs.declared.entries.Entry.{Entry}
 use Rattle.judging.specs.Engines.{Stands, has_taken, taken}
 use Rattle.judging.specs.Rules.{Rules}
 use Rattle.judging.specs.declared.engine.Engine.{Engine}

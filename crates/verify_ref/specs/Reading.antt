@@ -2,9 +2,10 @@
 use Rattle.std.specs.Prelude.{◌≡◌, ◌≤◌, ◌+◌, ◌++◌, ◌∷◌, [], ℕ, List, length, Option, true, if◌then◌else◌}
 use Rattle.std.specs.Str.{bytes_eq}
 use Rattle.git_object.specs.Repository.{Repository}
-use Rattle.log_entries.specs.Entries.{Taken, policy_name}
-use Rattle.log_entries.specs.declared.entries.EntryBody.{EntryBody}
-use Rattle.log_entries.specs.declared.entries.EntryBody.TheVariants.{Reference, Annotation}
+use Rattle.rsl_chain.specs.Entries.{Taken}
+use Rattle.git_object.specs.References.{policy_name}
+use Rattle.rsl_chain.specs.declared.entries.EntryBody.{EntryBody}
+use Rattle.rsl_chain.specs.declared.entries.EntryBody.TheVariants.{Reference, Annotation}
 use Rattle.tree_paths.specs.Listings.{walk_visits}
 use Rattle.tree_paths.specs.Readings.{Readings}
 use Rattle.tree_paths.specs.Repositories.{readings_of}
@@ -15,7 +16,7 @@ use Rattle.judging.specs.Logs.{from}
 use Rattle.judging.specs.Reading.{is_bounded, may_rescue, reads_of}
 use Rattle.judging.specs.Rules.{Rules}
 use Rattle.policy_epochs.specs.declared.policies.Policy.{Policy}
-use Rattle.policy_files.specs.Metadata.{metadata_entries, rule_files}
+use Rattle.policy_reading.specs.Metadata.{metadata_entries, rule_files}
 use Rattle.entry_rules.specs.declared.faults.Fault.{Fault}
 use Rattle.entry_rules.specs.RealRules.{real_rules}
 use Rattle.rsl_chain.specs.Logs.{IsLogOf}

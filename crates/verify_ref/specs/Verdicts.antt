@@ -1,7 +1,7 @@
 -- The verdict on a reference of a repository.
 use Rattle.std.specs.Prelude.{ℕ, List, Option, Result, Ok, Err}
 use Rattle.git_object.specs.Repository.{Repository, value_of}
-use Rattle.log_entries.specs.Entries.{Taken}
+use Rattle.rsl_chain.specs.Entries.{Taken}
 use Rattle.judging.specs.Verdicts.{IsJudged}
 use Rattle.judging.specs.declared.verdicts.Verdict.{Verdict}
 use Rattle.rsl_chain.specs.Logs.{IsBreakOf, IsLogOf}

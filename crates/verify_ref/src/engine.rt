@@ -6,7 +6,7 @@ ghost use Rattle.octets.specs.Causes.{HasCause};
 ghost use Rattle.git_object.specs.Repository.{Repository, value_of};
 ghost use Rattle.keeper_api.specs.Faults.{keeper_failed};
 ghost use Rattle.keeper_api.specs.Undisturbed.{Undisturbed};
-ghost use Rattle.log_entries.specs.Entries.{Taken};
+ghost use Rattle.rsl_chain.specs.Entries.{Taken};
 ghost use Rattle.tree_paths.specs.Known.{AreKnownIn};
 ghost use Rattle.judging.specs.Engines.{has_taken, taken};
 ghost use Rattle.judging.specs.Logs.{entry_at, is_entry_of, last_signers, policy_after, prior_target, skipped};
@@ -23,9 +23,9 @@ use entry_rules::{EntryRules, Fault};
 use git_object::{ObjectId, RefName};
 use judging::{EntryVerdict, KeyIds as KeyIdList};
 use keeper_api::{Keeper, KeeperFault};
-use log_entries::Entry;
 use policy_epochs::Policy;
 use root_metadata::KeyIds;
+use rsl_chain::Entry;
 use std::alloc::Global;
 use tree_paths::KnownTrees;
 
@@ -161,7 +161,14 @@ impl Engine {
             → is_bounded (real_rules self.now.rules.anchor) log (record { entry = entry.now; repository = r }) ≡ true
             → R.reads keeper.new ≤ R.reads keeper.old + decision_reads_of (real_rules self.now.rules.anchor) log (record { entry = entry.now; repository = r })) }
     {
-        look_by(alloc, keeper, &self.rules, &self.known, &self.entries, entry)
+        look_by(
+            alloc,
+            keeper,
+            &self.rules,
+            &self.known,
+            &self.entries,
+            entry,
+        )
     }
 
     /// The verdict on a reference by the entries taken and by its value in the store. It reads no object.

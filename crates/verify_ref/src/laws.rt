@@ -2,8 +2,8 @@
 
 ghost use Rattle.std.specs.Prelude.{◌≡◌, ◌≤◌, ◌+◌, ◌*◌, ℕ, List, Option, true};
 ghost use Rattle.git_object.specs.Repository.{Repository};
-ghost use Rattle.log_entries.specs.Entries.{Taken};
-ghost use Rattle.log_entries.specs.declared.entries.EntryBody.TheVariants.{Reference};
+ghost use Rattle.rsl_chain.specs.Entries.{Taken};
+ghost use Rattle.rsl_chain.specs.declared.entries.EntryBody.TheVariants.{Reference};
 ghost use Rattle.judging.specs.Reading.{is_bounded};
 ghost use Rattle.judging.specs.declared.verdicts.Verdict.{Verdict};
 ghost use Rattle.rsl_chain.specs.Logs.{IsBreakOf};

@@ -5,7 +5,7 @@ ghost use Rattle.octets.specs.Causes.{HasCause};
 ghost use Rattle.git_object.specs.Repository.{Repository, value_of};
 ghost use Rattle.keeper_api.specs.Faults.{keeper_failed};
 ghost use Rattle.keeper_api.specs.Undisturbed.{Undisturbed};
-ghost use Rattle.log_entries.specs.Entries.{Taken};
+ghost use Rattle.rsl_chain.specs.Entries.{Taken};
 ghost use Rattle.judging.specs.Engines.{Stands};
 ghost use Rattle.judging.specs.Rules.{Rules};
 ghost use Rattle.judging.specs.Verdicts.{IsJudged};

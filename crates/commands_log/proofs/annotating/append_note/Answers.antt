@@ -1,8 +1,8 @@
 use Rattle.std.specs.Prelude.{Ok, Err}
-use Rattle.key_file.proofs.Steps.{moments}
+use Rattle.leaf_journal.proofs.Steps.{moments}
 use Rattle.keeper_api.proofs.Coming.{as_before}
-use Rattle.commands_log.proofs.Told.{tried}
-use Rattle.commands_log.specs.Recording.{Annotates, AnyNoted}
+use Rattle.log_appending.proofs.Told.{tried}
+use Rattle.log_appending.specs.Recording.{Annotates, AnyNoted}
 use Rattle.commands_log.proofs.annotating.append_note.Goals as goal
 
 pub returns-in-Ok-append_entry-clause-ends : goal.returns-in-Ok-append_entry-clause-ends

@@ -1,19 +1,19 @@
 use Rattle.std.proofs.Common.{◌+◌, ◌≤◌, ℕ, List, ap, arith, length, refl, subst, sum_by, sym}
 use Rattle.std.specs.Prelude.{Ok, Err, Result}
-use Rattle.key_file.proofs.Steps.{moments}
-use Rattle.log_entries.specs.Entries.{policy_name}
-use Rattle.log_entries.specs.declared.entries.EntryBody.TheVariants.{Reference}
+use Rattle.leaf_journal.proofs.Steps.{moments}
+use Rattle.git_object.specs.References.{policy_name}
+use Rattle.rsl_chain.specs.declared.entries.EntryBody.TheVariants.{Reference}
 use Rattle.keeper_api.proofs.Coming.{as_before_then}
-use Rattle.commands_log.proofs.Moved.{only_read}
+use Rattle.log_appending.proofs.Moved.{only_read}
 use Rattle.git_object.specs.Repository.{value_of}
-use Rattle.commands_log.proofs.Told.{told_before, tried}
-use Rattle.commands_log.proofs.Unopened.{holds_key}
-use Rattle.commands_log.specs.Opening.{WhyUnread}
-use Rattle.commands_log.specs.Recording.{Records}
-use Rattle.commands_log.specs.declared.opening.ReadingFault.{ReadingFault}
+use Rattle.log_appending.proofs.Told.{told_before, tried}
+use Rattle.log_appending.proofs.Unopened.{holds_key}
+use Rattle.log_appending.specs.Opening.{WhyUnread}
+use Rattle.log_appending.specs.Recording.{Records}
+use Rattle.log_appending.specs.declared.opening.ReadingFault.{ReadingFault}
 use Rattle.policy_epochs.specs.declared.faults.PolicyFault.{PolicyFault}
 use Rattle.policy_reading.specs.Policies.{policy_reads}
-use Rattle.log_epochs.specs.Reading.{entry_reads}
+use Rattle.policy_reading.specs.Reading.{entry_reads}
 use Rattle.commands_policy.proofs.Judging.{opens, policy_fault, refuses, unread}
 use Rattle.commands_policy.specs.Applying.{Judges, RecordsEpoch}
 use Rattle.commands_policy.proofs.policies.append_policy.Goals as goal

@@ -2,9 +2,9 @@ use Rattle.std.proofs.Common.{◌≡◌, ◌∙◌, ℕ, List, ap, subst, sym}
 use Rattle.std.specs.Prelude.{Option, unwrap_or}
 use Rattle.std.specs.FinMap.{get}
 use Rattle.git_object.specs.Repository.{value_of}
-use Rattle.commands_history.specs.Histories.{AreEntriesAt}
-use Rattle.log_epochs.proofs.Passing.{unmissed}
-use Rattle.log_epochs.specs.InForce.{MissesEntry}
+use Rattle.rsl_chain.specs.Histories.{AreEntriesAt}
+use Rattle.policy_reading.proofs.Passing.{unmissed}
+use Rattle.policy_reading.specs.InForce.{MissesEntry}
 use Rattle.commands_policy.proofs.Judging.{judges_epoch, judges_fault}
 use Rattle.commands_policy.proofs.policies.judge_value.Goals as goal
 

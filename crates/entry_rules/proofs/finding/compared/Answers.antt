@@ -3,7 +3,7 @@ use Rattle.std.specs.Prelude.{IfOk, OnOk}
 use Rattle.std.proofs.lemmas.Result.{IfOk-weaker}
 use Rattle.tree_paths.specs.Repositories.{readings_of}
 use Rattle.tree_paths.specs.States.{walk_of}
-use Rattle.policy_files.proofs.Told.{told_readings}
+use Rattle.policy_reading.proofs.Told.{told_readings}
 use Rattle.entry_rules.proofs.Comparing.{sound_changed}
 use Rattle.entry_rules.proofs.finding.compared.Goals as goal
 

@@ -3,21 +3,21 @@ use Rattle.std.specs.Prelude.{Option}
 use Rattle.command_words.specs.FirstWords.{IsWithinLimits}
 use Rattle.lms_keys.specs.declared.lms_type.LmsType.{LmsType}
 use Rattle.endings.proofs.Counting.{as_ended}
-use Rattle.commands_approvals.proofs.Counted as approvals
-use Rattle.commands_approvals.specs.Outcomes.{approve_ending}
-use Rattle.commands_demo.specs.Demos.{demo_ending}
-use Rattle.commands_history.specs.Logging.{log_ending}
+use Rattle.commands_approve.proofs.Counted as approvals
+use Rattle.commands_approve.specs.Outcomes.{approve_ending}
+use Rattle.demo.specs.Demos.{demo_ending}
+use Rattle.commands_log.specs.Logging.{log_ending}
 use Rattle.commands_keys.specs.MakingKeys.{IsLow, key_gen_ending}
 use Rattle.commands_keys.specs.Sealing.{seal_ending}
-use Rattle.commands_log.proofs.Counted.{counted}
-use Rattle.commands_log.specs.Outcomes.{record_ending}
+use Rattle.log_appending.proofs.Counted.{counted}
+use Rattle.log_appending.specs.Outcomes.{record_ending}
 use Rattle.commands_policy.proofs.Counted as policy
 use Rattle.commands_policy.specs.Explaining.{explain_ending}
 use Rattle.commands_policy.specs.Outcomes.{apply_ending}
-use Rattle.commands_store.specs.Exporting.{export_ending}
-use Rattle.commands_store.specs.Importing.{import_ending}
-use Rattle.commands_store.specs.Verifying.{verify_ending}
-use Rattle.commands_trees.specs.Snapshots.{snapshot_ending}
+use Rattle.commands_stream.specs.Exporting.{export_ending}
+use Rattle.commands_stream.specs.Importing.{import_ending}
+use Rattle.commands_verify.specs.Verifying.{verify_ending}
+use Rattle.commands_snapshot.specs.Snapshots.{snapshot_ending}
 use Rattle.gittuf_cli.specs.KeyTypes.{lms_of}
 use Rattle.gittuf_cli.specs.Worlds.{faults_of, world_of}
 use Rattle.gittuf_cli.proofs.KeyHeights.{low}

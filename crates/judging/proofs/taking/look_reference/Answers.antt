@@ -1,6 +1,6 @@
 use Rattle.std.proofs.Common.{◌≡◌, ap, ◌∙◌}
 use Rattle.std.specs.Option.{option_copied}
-use Rattle.log_entries.specs.Entries.{Taken}
+use Rattle.rsl_chain.specs.Entries.{Taken}
 use Rattle.judging.specs.Decisions.{decision}
 use Rattle.judging.proofs.Takes.{looked}
 use Rattle.judging.proofs.taking.look_reference.Goals as goal

@@ -1,7 +1,7 @@
 use Rattle.std.proofs.Common.{◌≡◌, ap, ◌∙◌}
 use Rattle.std.specs.Option.{option_copied}
 use Rattle.git_object.specs.Repository.{empty_repository}
-use Rattle.log_entries.specs.Entries.{Taken}
+use Rattle.rsl_chain.specs.Entries.{Taken}
 use Rattle.judging.specs.Decisions.{decision}
 use Rattle.judging.proofs.Takes.{on_err, stands_still, taken_reference}
 use Rattle.judging.proofs.taking.take_reference.Goals as goal

@@ -1,6 +1,6 @@
 use Rattle.std.proofs.Common.{ℕ, List, subst, sym, ◌∙◌, arith}
 use Rattle.git_object.specs.Repository.{empty_repository}
-use Rattle.log_entries.specs.Entries.{Taken}
+use Rattle.rsl_chain.specs.Entries.{Taken}
 use Rattle.judging.specs.Books.{place_of}
 use Rattle.judging.specs.Engines.{KeepsNote}
 use Rattle.judging.proofs.Notes.{taken_note}

@@ -1,5 +1,5 @@
 use Rattle.std.proofs.Common.{ap, sym, ◌∙◌, arith}
-use Rattle.log_entries.specs.Entries.{Taken, target_of}
+use Rattle.rsl_chain.specs.Entries.{Taken, target_of}
 use Rattle.judging.specs.Standings.{standing_of}
 use Rattle.judging.proofs.Takes.{bounded_is, decision_reads_are, on_ok}
 use Rattle.judging.proofs.engine.Engine.look.Goals as goal

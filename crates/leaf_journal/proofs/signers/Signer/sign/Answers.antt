@@ -1,7 +1,7 @@
 use Rattle.std.proofs.Common.{◌≡◌, ◌+◌, List, [], ◌∷◌, ℕ, Some, sym, subst, ap, ◌∙◌}
 use Rattle.std.specs.Prelude.{Ok, Err, slice_set}
 use Rattle.octets.specs.Content.{Told}
-use Rattle.edge_disk.specs.Disk.{Torn, Written}
+use Rattle.edge_io.specs.Disk.{Torn, Written}
 use Rattle.hss_keys.specs.Secret.{Secret}
 use Rattle.leaf_journal.specs.KeyFile.{KeepsUsed, start_of}
 use Rattle.leaf_journal.specs.Runs.{Marks, in_use}

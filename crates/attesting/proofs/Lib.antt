@@ -1,9 +1,0 @@
-pub mod Puts
-pub mod AttestationsName
-pub mod Found
-pub mod Surveyed
-pub mod Alike
-pub mod Sited
-pub mod Elsewhere
-pub mod Held
-pub mod Tied

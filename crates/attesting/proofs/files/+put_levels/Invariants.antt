@@ -1,5 +1,0 @@
-use Rattle.std.proofs.Common.{length}
-use Rattle.attesting.proofs.files.+put_levels.Given as goal
-
-abbrev pub decreases-put_levels : goal.decreases-put_levels
-decreases-put_levels l = length l.path.now

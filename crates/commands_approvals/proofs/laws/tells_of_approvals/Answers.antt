@@ -1,5 +1,0 @@
-use Rattle.commands_approvals.proofs.ToldOutcome.{tells_of_approvals}
-use Rattle.commands_approvals.proofs.laws.tells_of_approvals.Goals as goal
-
-pub returns : goal.returns
-returns g c = tells_of_approvals g.R.Keeper g.D.Disk

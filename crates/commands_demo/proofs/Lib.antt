@@ -1,4 +1,0 @@
-mod FilledStores
-mod OneDemo
-mod ToldDemo
-mod CountedDemo

@@ -1,5 +1,0 @@
-use Rattle.commands_demo.proofs.OneDemo.{same_demo}
-use Rattle.commands_demo.proofs.laws.one_of_demo.Goals as goal
-
-pub returns : goal.returns
-returns c = record { demo = same_demo c.logs.ensures.one_break }

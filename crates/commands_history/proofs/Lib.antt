@@ -1,6 +1,0 @@
-pub mod Ends
-pub mod Entered
-pub mod Gathered
-pub mod Outcomes
-pub mod OneHistory
-pub mod Counted

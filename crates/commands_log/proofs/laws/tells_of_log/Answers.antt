@@ -1,5 +1,0 @@
-use Rattle.commands_log.proofs.ToldOutcome.{tells_of_log}
-use Rattle.commands_log.proofs.laws.tells_of_log.Goals as goal
-
-pub returns : goal.returns
-returns g c = tells_of_log g.R.Keeper g.D.Disk

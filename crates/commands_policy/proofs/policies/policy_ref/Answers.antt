@@ -1,7 +1,0 @@
-use Rattle.std.proofs.Common.{ap}
-use Rattle.std.specs.Prelude.{Err}
-use Rattle.commands_policy.proofs.PolicyName.{policy_is_named}
-use Rattle.commands_policy.proofs.policies.policy_ref.Goals as goal
-
-pub unreachable-requires : goal.unreachable-requires
-unreachable-requires c = c.in-Err-BadRef.ensures.bad (ap Err c.in-Err-BadRef.field-0-is) policy_is_named

@@ -1,0 +1,2 @@
+pub mod SameStream
+pub mod ToldStream

@@ -1,5 +1,0 @@
-use Rattle.commands_trees.proofs.OneSnapshot.{same_snapshot}
-use Rattle.commands_trees.proofs.outcome_laws.one_of_trees.Goals as goal
-
-pub returns : goal.returns
-returns c = record { snapshot = same_snapshot }

@@ -1,5 +1,0 @@
-use Rattle.commands_trees.proofs.ToldSnapshot.{tells_of_trees}
-use Rattle.commands_trees.proofs.outcome_laws.tells_of_trees.Goals as goal
-
-pub returns : goal.returns
-returns g c = tells_of_trees g.R.Keeper

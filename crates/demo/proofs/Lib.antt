@@ -1,0 +1,15 @@
+mod FilledStores
+mod OneDemo
+mod ToldDemo
+mod CountedDemo
+mod HexadecimalOrder
+mod RisingPersons
+mod FormedTrees
+mod KeyUses
+mod NextSteps
+mod GoodSignatures
+mod JoinedObjects
+mod NamedReferences
+mod RuleTexts
+mod NewJournals
+mod FirstLeaves

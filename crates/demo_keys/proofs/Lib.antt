@@ -1,2 +1,0 @@
-mod NewJournals
-mod FirstLeaves

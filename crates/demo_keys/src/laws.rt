@@ -1,8 +1,0 @@
-//! Laws over the keys of a demonstration. No call needs this function: its contract is the law.
-
-ghost use Rattle.demo_keys.specs.Laws.{SignWell};
-
-/// What a key signs with one of its leaves is good for the key.
-pub fn keys_sign_well()
-    ensures { SignWell }
-{}

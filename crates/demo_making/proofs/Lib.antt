@@ -1,9 +1,0 @@
-mod HexadecimalOrder
-mod RisingPersons
-mod FormedTrees
-mod KeyUses
-mod NextSteps
-mod GoodSignatures
-mod JoinedObjects
-mod NamedReferences
-mod RuleTexts

@@ -1,5 +1,0 @@
-use Rattle.demo_making.specs.Standing.{IsAt}
-use Rattle.demo_making.proofs.histories.make_change.Given as goal
-
-abbrev pub invariant-changes : goal.invariant-changes
-invariant-changes l = IsAt l.done l.history

@@ -1,5 +1,0 @@
-use Rattle.demo_making.proofs.GoodSignatures.{are_good}
-use Rattle.demo_making.proofs.laws.signatures_good.Goals as goal
-
-pub returns : goal.returns
-returns c = are_good c.keys_sign_well.ensures

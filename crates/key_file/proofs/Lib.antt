@@ -1,3 +1,0 @@
-pub mod OneKeyFile
-pub mod Reading
-pub mod Steps

@@ -1,4 +1,0 @@
-pub mod Files
-pub mod Opening
-pub mod Using
-pub mod Signing

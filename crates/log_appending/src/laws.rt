@@ -1,0 +1,20 @@
+//! Laws over the definitions of this crate. No call needs these functions: their contracts are the laws.
+
+ghost use Rattle.log_appending.specs.Outcomes.{OneOfLog, TellsOfLog};
+
+use edge_io::Disk;
+use keeper_api::Keeper;
+use rsl_chain::laws::logs;
+
+/// Each command comes to one outcome at most for the same key file and repository.
+pub fn one_of_log()
+    ensures { OneOfLog }
+{
+    logs();
+}
+
+/// Where store and disk tell their content, what ended is what the command comes to, unless it stopped for a fault or
+/// for want of memory.
+pub fn tells_of_log<R: Keeper, D: Disk>()
+    ensures { TellsOfLog R.Keeper D.Disk }
+{}

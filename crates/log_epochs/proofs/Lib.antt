@@ -1,3 +1,0 @@
-pub mod Passing
-pub mod InTurn
-pub mod Joining

@@ -1,2 +1,0 @@
--- what a commit does to a store
-pub mod Stores

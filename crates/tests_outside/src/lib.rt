@@ -1,0 +1,21 @@
+//! Rows of what is read and kept: numbers and lines of texts, the system's own streams, files, random bytes and clock, which
+//! no contract knows, Git's objects, and keepers in memory and over real files. It holds tests alone.
+
+#![tactic(auto)]
+
+#[cfg(test)]
+mod clock_rows;
+#[cfg(test)]
+mod disk_rows;
+#[cfg(test)]
+mod folder_rows;
+#[cfg(test)]
+mod keeper_rows;
+#[cfg(test)]
+mod line_rows;
+#[cfg(test)]
+mod reading_rows;
+#[cfg(test)]
+mod source_rows;
+#[cfg(test)]
+mod text_rows;

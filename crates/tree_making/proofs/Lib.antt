@@ -1,6 +1,0 @@
-pub mod Putting
-pub mod Runs
-pub mod Refusing
-pub mod Kept
-pub mod Made
-pub mod Lawful

@@ -1,5 +1,0 @@
-use Rattle.tree_making.proofs.Kept.{kept_all}
-use Rattle.tree_making.proofs.laws.kept.Goals as goal
-
-pub returns : goal.returns
-returns c = kept_all

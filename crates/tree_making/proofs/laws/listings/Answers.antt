@@ -1,5 +1,0 @@
-use Rattle.tree_making.proofs.Lawful.{listing_is}
-use Rattle.tree_making.proofs.laws.listings.Goals as goal
-
-pub returns : goal.returns
-returns c = listing_is

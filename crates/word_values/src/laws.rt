@@ -1,8 +1,0 @@
-//! Laws over the texts of values.
-
-ghost use Rattle.word_values.specs.Laws.{OneValue};
-
-/// A text writes one list of ids at most, one number at most, and one name in one space at most.
-pub fn one_value()
-    ensures { OneValue }
-{}
