@@ -116,7 +116,8 @@ def sources_of(crate):
 def is_call(name):
     """Whether a crate has a call, a type or a module that is named with the crate in front."""
     parts = name.split("::")
-    return parts[0] in crates() and all(re.search(rf"\b(?:fn|struct|enum|trait|mod|type|const) {it}\b", sources_of(parts[0])) for it in parts[1:])
+    kinds = "fn|struct|enum|trait|mod|type|const"
+    return parts[0] in crates() and all(re.search(rf"\b(?:{kinds}) {it}\b", sources_of(parts[0])) for it in parts[1:])
 
 
 def is_edit(crate, name):
