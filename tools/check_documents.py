@@ -4,7 +4,7 @@ import functools
 import os
 import re
 
-from checking import TOP, Failure, want
+from checking import TOP, Failure
 
 README_BYTES = 10_000
 # The program has its crate's name.
@@ -77,7 +77,9 @@ def lists_each_crate(repositories):
         is_list = line.startswith("|") and (is_list or cells[0] == "Crate")
         if is_list and QUOTED.fullmatch(cells[0]):
             listed.append(cells[0].strip("`"))
-    want(sorted(listed), sorted(names), "the crates of docs/ARCHITECTURE.md")
+    found = [f"{it} has no line" for it in sorted(names - set(listed))]
+    found += [f"{it} has a line, and is no crate" for it in sorted(set(listed) - names)]
+    refuse(found + [f"{it} has several lines" for it in sorted(names) if listed.count(it) > 1])
     figures = " ".join(FENCE.findall(text))
     refuse([f"a figure names {it}, which is no crate" for it in sorted(set(FIGURE_NAME.findall(figures)) - names)])
 
