@@ -135,7 +135,7 @@ def rows():
 
 def undefined_in(page, text):
     """The definitions that a page says stand in a file, and do not."""
-    for path, names in DEFINITIONS.findall(text):
+    for path, names in DEFINITIONS.findall(" ".join(text.split())):
         if not os.path.exists(os.path.join(TOP, path)):
             yield f"{page}: {path}"
             continue
