@@ -9,7 +9,7 @@ from checking import TOP, Failure
 README_BYTES = 10_000
 # The program has its crate's name.
 PROGRAM_NAME = "gittuf"
-NAMED = ("docs/THE-VERDICT.md", "docs/RULES.md")
+NAMED = ("docs/THE-VERDICT.md", "docs/RULES.md", "docs/FORMATS.md")
 RULES = "docs/RULES.md"
 ARCHITECTURE = "docs/ARCHITECTURE.md"
 
@@ -146,7 +146,7 @@ def undefined_in(page, text):
 
 
 def definitions_exist(repositories):
-    """each definition, law, call, test and edit that THE-VERDICT and RULES name is there"""
+    """each definition, law, call, test and edit that THE-VERDICT, RULES and FORMATS name is there"""
     found = []
     for page in NAMED:
         text = text_of(page)
