@@ -211,12 +211,12 @@ def keeps_the_policy_in_force(repositories):
     guarded.wants(f"accepted {MAIN} 1 entries")
 
 
-def guards_as_the_readme_says(repositories):
-    """the lines of README.md that guard a repository can be copied, and print what it says"""
-    with open(os.path.join(TOP, "README.md"), encoding="utf-8") as file:
+def guards_as_the_page_says(repositories):
+    """the lines of docs/PROGRAM.md that guard a repository can be copied, and print what it says"""
+    with open(os.path.join(TOP, "docs", "PROGRAM.md"), encoding="utf-8") as file:
         _, found, section = file.read().partition("## Guard a repository by the program alone\n")
     if not found:
-        raise Failure("README.md has no section on guarding a repository")
+        raise Failure("docs/PROGRAM.md has no section on guarding a repository")
     lines = section.split("```\n")[1]
     folder = repositories.path("reader")
     os.mkdir(folder)
@@ -237,5 +237,5 @@ CHECKS = (
     approves_by_command,
     names_a_missing_tree,
     keeps_the_policy_in_force,
-    guards_as_the_readme_says,
+    guards_as_the_page_says,
 )
