@@ -127,6 +127,26 @@ def is_edit(crate, name):
     return any(os.path.exists(place + it) for it in (".edit", ".edit.md"))
 
 
+def missing_on(crate):
+    """What a crate's page names and the crate lacks, and the edits of the crate that its page lacks."""
+    page = f"crates/{crate}/README.md"
+    if not os.path.exists(os.path.join(TOP, page)):
+        return [f"{crate} has no page"]
+    quoted = QUOTED.findall(text_of(page))
+    edits = {it.removeprefix("must-fail/") for it in quoted if it.startswith("must-fail/")}
+    folder = os.path.join(TOP, "crates", crate, "must-fail")
+    kept = {it.partition(".")[0] for it in os.listdir(folder)} if os.path.isdir(folder) else set()
+    found = [f"{page}: must-fail/{it}" for it in sorted(edits ^ kept)]
+    paths = (it for it in quoted if re.match(r"(?:src|specs|proofs)/", it))
+    found += [f"{page}: {it}" for it in paths if not os.path.exists(os.path.join(TOP, "crates", crate, it))]
+    return found + [f"{page}: {it}" for it in quoted if re.fullmatch(r"\w*laws(?:::\w+)*", it) and not is_call(f"{crate}::{it}")]
+
+
+def crates_have_pages(repositories):
+    """each crate has a page, which names its edits, and files and laws that are there"""
+    refuse([it for crate in sorted(crates()) for it in missing_on(crate)])
+
+
 def rows():
     """The names of the functions that make rows, as rows are named."""
     made = (it for it in files_below("tools", ".py") if os.path.basename(it).startswith("rows_"))
@@ -172,4 +192,4 @@ def rows_exist(repositories):
     return f"{count} rows are named"
 
 
-CHECKS = (readme_is_one_page, lists_each_crate, links_lead_somewhere, definitions_exist, rows_exist)
+CHECKS = (readme_is_one_page, lists_each_crate, crates_have_pages, links_lead_somewhere, definitions_exist, rows_exist)
