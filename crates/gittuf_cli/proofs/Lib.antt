@@ -1,3 +1,4 @@
 mod KeyHeights
 mod SameOutcome
 mod ToldOutcome
+mod Headline

@@ -1,6 +1,7 @@
 //! Laws over the definitions of this crate: how a run ends is determined by the words and the content.
 
 ghost use Rattle.gittuf_cli.specs.Contents.{OneOutcome, TellsOutcome};
+ghost use Rattle.gittuf_cli.specs.Headline.{Headline};
 
 use command_words::laws::one_command;
 use commands_approve::laws::{one_of_approvals, tells_of_approvals};
@@ -14,6 +15,17 @@ use demo::laws::{one_of_demo, tells_of_demo};
 use edge_io::{Clock, Disk, Entropy, Sink, Source};
 use keeper_api::Keeper;
 use log_appending::laws::{one_of_log, tells_of_log};
+
+/// The sentence that the program exists for. For words that ask for `verify-ref`, over a store that tells what it holds and
+/// with `--stdin` a source that does, a run in which no object counts a fault comes to one of three: memory was wanting, which is
+/// said; or the stream is refused, which is said by its number, and nothing is printed; or the repository that is held, or that
+/// the stream spells, is judged: exactly the line of the one verdict on the reference is printed, with its status, or exactly
+/// the line that names the commit at which its log breaks.
+pub fn headline<S: Source, K: Sink, R: Keeper, D: Disk, E: Entropy, C: Clock>()
+    ensures { Headline S.Source K.Sink R.Keeper D.Disk E.Entropy C.Clock }
+{
+    one_command();
+}
 
 /// Where the objects that the command reads tell their content, an ending is the one for the words and that content,
 /// unless the run stopped for a fault or for want of memory.

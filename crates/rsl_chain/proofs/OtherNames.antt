@@ -1,6 +1,6 @@
 -- No entry that is read names the log's own reference.
 use Rattle.std.proofs.Common.{◌≡◌, ◌+◌, ◌&&◌, ℕ, Bool, true, false, not, List, [], ◌∷◌, ap, refl, sym, subst, ◌∙◌}
-use Rattle.std.specs.Prelude.{IfSome, Option, Some, None, Result, Ok, Err, if◌then◌else◌, nat_lt}
+use Rattle.std.specs.Prelude.{IfSome, Option, Some, None, Result, Ok, Err, codes, if◌then◌else◌, nat_lt}
 use Rattle.std.specs.Option.{option_and_then}
 use Rattle.std.specs.Result.{result_ok}
 use Rattle.std.specs.Str.{bytes_eq}
@@ -121,7 +121,7 @@ rows SignatureOrGap line p = signed _ line p
 rows Gap line p = plain _ Title p
 rows Title line p = titled _ _ p
 rows ReferenceGap line p = plain _ ReferenceName p
-rows ReferenceName line p = named (name_after line) p (after_word _)
+rows ReferenceName line p = named (name_after line) p (after_word (strip (codes "ref: ") line))
 rows ReferenceTarget line p = target _ p
 rows ReferenceNumber line p = numbered End _ p
 rows AnnotationGap line p = plain _ FirstId p
@@ -162,13 +162,15 @@ ended : (may : Bool) (p : Place) (parts : Parts) (n : ℕ) → HasOther parts �
 ended true p parts n has = has
 ended false p parts n has = tt
 
+stepped : (found : Option Step) (n : ℕ) (more : Step → Reading) → Takes found → ((s : Step) → SaysOther s.part → ReadsOther (more s)) → ReadsOther (goes_on found n more)
+stepped None n more takes each = tt
+stepped (Some s) n more takes each = each s takes
+
 judged : (tail : List ℕ) (lines : List (List ℕ)) (p : Place) (parts : Parts) (n : ℕ) → HasOther parts → ReadsOther (judge tail lines p parts n)
 judged tail [] p parts n has = ended _ p parts n has
-judged tail (line ∷ more) p parts n has = by_step (step p line) (taken p line)
-  where
-    by_step : (found : Option Step) → Takes found → ReadsOther (goes_on found n (λ s. judge tail more s.place (put s.part line parts) (n + 1)))
-    by_step None takes = tt
-    by_step (Some s) takes = judged tail more s.place (put s.part line parts) (n + 1) (with_other s.part line parts takes has)
+judged tail (line ∷ more) p parts n has =
+    stepped (step p line) n (λ s. judge tail more s.place (put s.part line parts) (n + 1)) (taken p line)
+    (λ s says. judged tail more s.place (put s.part line parts) (n + 1) (with_other s.part line parts says has))
 
 abbrev BodyOther : EntryBody → Type 0
 BodyOther (Reference name target) = IsOther name
