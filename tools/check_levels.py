@@ -10,43 +10,11 @@ import struct
 from check_keys import bytes_of, line_of
 from checking import LAUNCHER, Skip, TOP
 from checking import run, want, want_run
-from made_keys import CHAINS, D_INNER, D_LEAF, D_MESSAGE, D_PUBLIC, LMS_TYPES, OTS_TYPES
-from made_keys import digest, digits_of, walk
+from git_gittuf.signatures import digest, length_of, root_of
 
 KEY_LINE = re.compile(rb"key ([0-9a-f]{64}) ([0-9a-f]{120})\n")
 CASTLE = "/usr/share/java/bcprov.jar"
 VECTORS = os.path.join(TOP, "tools", "lms-vectors", "LmsVectors.java")
-HEIGHTS = {code: height for height, code in LMS_TYPES.items()}
-WIDTHS = {code: width for width, code in OTS_TYPES.items()}
-
-
-def length_of(public):
-    """The bytes of a signature by an LMS key."""
-    kind, ots = struct.unpack(">II", public[:8])
-    return 4 + 36 + 32 * CHAINS[WIDTHS[ots]] + 4 + 32 * HEIGHTS[kind]
-
-
-def root_of(public, message, signature):
-    """The leaf that a signature names, and the root that it leads to (RFC 8554, algorithm 6a)."""
-    kind, ots = struct.unpack(">II", public[:8])
-    identifier, height, width = public[8:24], HEIGHTS[kind], WIDTHS[ots]
-    leaf = int.from_bytes(signature[:4], "big")
-    digits = digits_of(digest(identifier, struct.pack(">IH", leaf, D_MESSAGE), signature[8:40], message), width)
-    ends = [
-        walk(identifier + struct.pack(">IH", leaf, it), signature[40 + 32 * it : 72 + 32 * it], digit, 2**width - 1)
-        for it, digit in enumerate(digits)
-    ]
-    node = 2**height + leaf
-    value = digest(identifier, struct.pack(">IH", leaf, D_PUBLIC), *ends)
-    value = digest(identifier, struct.pack(">IH", node, D_LEAF), value)
-    path = signature[44 + 32 * CHAINS[width] :]
-    for level in range(height):
-        beside = path[32 * level : 32 * level + 32]
-        pair = (beside, value) if node & 1 else (value, beside)
-        node >>= 1
-        value = digest(identifier, struct.pack(">IH", node, D_INNER), *pair)
-    return leaf, value
-
 
 def leaves_in(public, message, signature):
     """The leaves of both levels in a signature that is good by a key of two levels, and its signed key."""

@@ -1,6 +1,7 @@
 """What the checks of tools/check share: running programs, and holding what they do to what is wanted."""
 
 import os
+import pty
 import subprocess
 
 TOP = os.path.dirname(os.path.dirname(os.path.realpath(__file__)))
@@ -13,6 +14,8 @@ EMPTY_TREE = b"object 6ef19b41225c5369f1c104d45d8d85efa9b057b53b14b4b9b939dd74de
 ZEROS = "0" * 64
 VERIFY = ("-", "-", "verify-ref", "refs/heads/main", "--stdin")
 ACCEPTED = b"accepted refs/heads/main 0 entries\n"
+# How a question ends.
+QUESTION = b"[y/N] "
 # The first call may build the program, and no other takes long.
 SECONDS = 120
 
@@ -33,6 +36,29 @@ def run(*words, input=b"", folder=None, builds=False):
     except subprocess.TimeoutExpired:
         raise Failure(f"{os.path.basename(words[0])} did not end in {SECONDS} seconds") from None
     return ran.returncode, ran.stdout, ran.stderr
+
+
+def at_terminal(script, folder, answer="y"):
+    """Runs a script of bash where all of it is a terminal, on which a person answers each question so.
+
+    Returns its status and what stands on the terminal then.
+    """
+    near, far = pty.openpty()
+    ran = subprocess.Popen(("bash", "-c", script), cwd=folder, stdin=far, stdout=far, stderr=far, start_new_session=True)
+    os.close(far)
+    told = b""
+    while True:
+        try:
+            piece = os.read(near, 1 << 16)
+        except OSError:
+            break
+        if not piece:
+            break
+        told += piece
+        if told.endswith(QUESTION):
+            os.write(near, f"{answer}\n".encode())
+    os.close(near)
+    return ran.wait(), told.decode().replace("\r\n", "\n")
 
 
 def short(found):

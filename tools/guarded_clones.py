@@ -56,6 +56,12 @@ class Clones:
         if (found, output, len(lines)) != (status, b"", 1) or part not in lines[0]:
             raise Failure(f"git gittuf {' '.join(words)} ended with {found}, {output!r} and {errors!r}, and wanted is {part!r}")
 
+    def refused_after(self, who, *words, status, part):
+        """The same where what is asked for is shown before it is refused."""
+        found, _, errors = run("git", "-C", self.path(who), "gittuf", *words)
+        if found != status or part not in errors.decode():
+            raise Failure(f"git gittuf {' '.join(words)} ended with {found} and {errors!r}, and wanted is {part!r}")
+
     def clone(self, who, key=True):
         self.git("clone", "--quiet", "server.git", who, who="")
         # Git writes a whole path, and all are copied together.
@@ -67,6 +73,13 @@ class Clones:
 
     def public(self, who):
         return self.gittuf(who, "key", "--public").decode().strip()
+
+    def shown_id(self, who):
+        """The id of what is edited, as policy show prints it."""
+        return self.gittuf(who, "policy", "show").decode().splitlines()[-1].removeprefix("id ")
+
+    def sign(self, who):
+        return self.gittuf(who, "policy", "sign", "--id", self.shown_id(who))
 
     def write(self, who, name, text):
         path = os.path.join(self.path(who), name)
@@ -113,7 +126,7 @@ def guarded(repositories, name):
     clones.gittuf("alice", "policy", "init", "alice")
     clones.gittuf("alice", "policy", "person", "bob", clones.public("bob"))
     clones.gittuf("alice", "policy", "rule", "main", MAIN, "--persons", "alice,bob")
-    clones.gittuf("alice", "policy", "sign")
+    clones.sign("alice")
     clones.gittuf("alice", "policy", "apply")
     clones.gittuf("alice", "record", "main")
     clones.git("push", "--quiet", who="alice")

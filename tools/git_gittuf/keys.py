@@ -5,11 +5,13 @@ import os
 import re
 
 from git_gittuf import program
+from git_gittuf.program import Ended
 from git_gittuf.repository import Stopped
-from git_gittuf.work import Ended
 
-LINE = re.compile(rb"key ([0-9a-f]{64}) ([0-9a-f]{112})\n")
-HEAD = 64
+# The line of a key of one level, or of two.
+LINE = re.compile(rb"key ([0-9a-f]{64}) ([0-9a-f]{112}|[0-9a-f]{120})\n")
+# Where the leaves begin, by what the file begins with.
+HEADS = {b"LMSKEY01": 64, b"LMSKEY02": 72}
 
 
 def default_path():
@@ -90,8 +92,16 @@ def id_and_public(path):
     return tuple(it.decode() for it in LINE.fullmatch(public_line(path)).groups())
 
 
+def leaves_of(path):
+    """A byte for each leaf of a key file, 0 where it is unused."""
+    with open(path, "rb") as file:
+        text = file.read()
+    if text[:8] not in HEADS:
+        raise Stopped(f"{path} is no key file: git gittuf key --file <another path> makes one", 3)
+    return text[HEADS[text[:8]] :]
+
+
 def signatures_left(path):
     """How many signatures a key file still has, and how many it had."""
-    with open(path, "rb") as file:
-        leaves = file.read()[HEAD:]
+    leaves = leaves_of(path)
     return leaves.count(0), len(leaves)
