@@ -99,6 +99,7 @@ def follows_no_tag(repositories):
     printed = clones.gittuf("bob", "approve", "main", "origin/topic")
     want(len(printed.splitlines()), 2, "the lines of approve beside approvals that no entry recorded")
     clones.git("update-ref", LOG, clones.tip("alice", LOG), who="server.git")
+    clones.git("fetch", "--quiet", who="bob")
     found = clones.gittuf("bob", "doctor", status=1).decode()
     way = f"git push origin +{ATTESTATIONS}:{ATTESTATIONS}"
     want(f"which no entry recorded, and is not followed: {way}\n" in found, True, f"whether doctor tells it: {found}")

@@ -89,7 +89,12 @@ def public_line(path):
 
 
 def id_and_public(path):
-    return tuple(it.decode() for it in LINE.fullmatch(public_line(path)).groups())
+    """The id and the public part of a key file, whose types and identifier are those of the file."""
+    key_id, public = (it.decode() for it in LINE.fullmatch(public_line(path)).groups())
+    with open(path, "rb") as file:
+        if file.read(32)[8:] != bytes.fromhex(public)[-56:][:24]:
+            raise Stopped(f"{path}.pub is the line of another key than {path}: put the right one there", 3)
+    return key_id, public
 
 
 def leaves_of(path):

@@ -5,8 +5,8 @@ it, is an older copy: what it signs next may be the second signature of a leaf, 
 """
 
 import base64
-import binascii
 import json
+import os
 import re
 
 from git_gittuf import keys, signatures
@@ -26,12 +26,44 @@ def first_unused(path):
     return len(leaves) if found < 0 else found
 
 
-def readable_objects(repository):
-    """The commits and the small files that the log, the policies and the approvals reach, also those of remotes."""
-    tips = [value for name, value in repository.references().items() if name.startswith((OWN, BESIDE)) and name.endswith(SIGNED)]
-    lines = b"".join(b"%s\n" % it for it in dict.fromkeys(tips))
-    if not lines:
+class Looked:
+    """What was looked through for a key: the commits up to which, and the greatest leaf that was seen below the unused ones."""
+
+    def __init__(self, repository, key_id):
+        self.path, self.key_id = os.path.join(repository.folder, "leaves"), key_id
+        self.tips, self.greatest = [], -1
+
+    @classmethod
+    def read(cls, repository, key_id):
+        found = cls(repository, key_id)
+        try:
+            with open(found.path, encoding="utf-8") as file:
+                noted = json.load(file)
+            if noted["key"] == key_id:
+                found.tips, found.greatest = [it.encode() for it in noted["tips"]], int(noted["greatest"])
+        except (OSError, ValueError, KeyError, TypeError, AttributeError):
+            # What is not noted is looked through again.
+            pass
+        return found
+
+    def write(self):
+        noted = {"key": self.key_id, "tips": [it.decode() for it in self.tips], "greatest": self.greatest}
+        with open(f"{self.path}.new", "w", encoding="utf-8") as file:
+            json.dump(noted, file)
+        os.rename(f"{self.path}.new", self.path)
+
+
+def tips_of(repository):
+    """Where the log, the policies and the approvals stand, also those of remotes."""
+    there = repository.references().items()
+    return sorted({value for name, value in there if name.startswith((OWN, BESIDE)) and name.endswith(SIGNED)})
+
+
+def readable_objects(repository, tips, looked):
+    """The commits and the small files that these tips reach, and those that were looked through do not."""
+    if set(tips) <= set(looked):
         return []
+    lines = b"".join(b"%s\n" % it for it in (*tips, *(b"^" + it for it in repository.there(looked))))
     words = ("rev-list", "--objects", "--no-object-names", "--stdin")
     ids = repository.lines("list what is signed, as git fsck may say", *words, input=lines)
     given = b"".join(b"%s\n" % it for it in ids)
@@ -45,31 +77,26 @@ def of_entry(body, key_id):
     head, _, rest = body.partition(b"\n\n")
     found = ENTRY_SIGNATURE.search(head + b"\n")
     if found and found[1] == key_id:
-        try:
-            unsigned = head.replace(found[0][:-1], b"", 1) + b"\n\n" + rest
-            yield unsigned, base64.b64decode(found[2], validate=True)
-        except binascii.Error:
-            pass
+        yield head.replace(found[0][:-1], b"", 1) + b"\n\n" + rest, signatures.decoded(found[2].decode())
 
 
 def of_envelope(text, key_id):
     """What an envelope has of a key: the signed bytes and each signature."""
     try:
         envelope = json.loads(text)
-        payload, kind = base64.b64decode(envelope["payload"]), envelope["payloadType"].encode()
-        signed = b"DSSEv1 %d %s %d %s" % (len(kind), kind, len(payload), payload)
+        signed = signatures.signed_bytes(envelope["payloadType"].encode(), base64.b64decode(envelope["payload"]))
         for it in envelope["signatures"]:
             if it.get("keyid") == key_id.decode():
-                yield signed, base64.b64decode(it["sig"].replace("-", "+").replace("_", "/"))
+                yield signed, signatures.decoded(it["sig"])
     except (ValueError, KeyError, TypeError, AttributeError, RecursionError):
         # It is no envelope, and nothing in it counts as signed.
         return
 
 
-def claims(repository, key_id, public):
-    """The leaves that signatures under this key's id name, each with the signed bytes and the signature."""
+def claims(repository, ids, key_id, public):
+    """The leaves that signatures under this key's id name in these objects, each with the signed bytes and the signature."""
     found = []
-    for _, kind, body in repository.bodies(readable_objects(repository)):
+    for _, kind, body in repository.bodies(ids):
         if key_id not in body:
             continue
         for signed, signature in (of_entry if kind == b"commit" else of_envelope)(body, key_id):
@@ -82,12 +109,17 @@ def claims(repository, key_id, public):
 def seen_above(repository, path):
     """The greatest leaf that is seen to have signed, and is not below the first unused one of the key file; or none."""
     key_id, public = keys.id_and_public(path)
-    public, first = bytes.fromhex(public), first_unused(path)
-    suspect = [it for it in claims(repository, key_id.encode(), public) if it[0] >= first]
+    public, first, tips = bytes.fromhex(public), first_unused(path), tips_of(repository)
+    looked = Looked.read(repository, key_id)
+    if looked.greatest >= first:
+        looked = Looked(repository, key_id)
+    found = claims(repository, readable_objects(repository, tips, looked.tips), key_id.encode(), public)
     # Whoever writes a number into a signature of his own spoils nobody's key.
-    for leaf, signed, signature in sorted(suspect, key=lambda it: -it[0]):
-        if signatures.is_good(public, signed, signature):
+    for leaf, signed, signature in sorted(found, key=lambda it: -it[0]):
+        if leaf >= first and signatures.is_good(public, signed, signature):
             return leaf
+    looked.tips, looked.greatest = tips, max([looked.greatest, *(leaf for leaf, *_ in found if leaf < first)])
+    looked.write()
     return None
 
 

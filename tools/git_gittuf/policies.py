@@ -8,14 +8,16 @@ those of some persons. Rule files of other names are carried along as they are.
 import base64
 import hashlib
 import json
+import re
 
-from git_gittuf import epochs, forms, history
+from git_gittuf import epochs, forms, history, signatures
 from git_gittuf.repository import LOG, POLICY, STAGED, Stopped
 from git_gittuf.shown import plain
 
 TYPE = "application/vnd.gittuf+json"
 FILES = ("root", "targets")
 ROLES = FILES
+HEXADECIMAL = re.compile("(?:[0-9a-f]{2})+")
 # Of LMS keys, and of keys of several levels.
 KEY_TYPES = {112: "lms", 120: "hss"}
 
@@ -40,8 +42,11 @@ class File:
         named = {"payload": payload, "payloadType": TYPE, "signatures": self.signatures}
         return json.dumps(named, separators=(",", ":")).encode() + b"\n"
 
-    def signers(self):
-        return [it.get("keyid", "") for it in self.signatures]
+    def signers(self, publics):
+        """The ids of those of these keys that signed it."""
+        signed = signatures.signed_bytes(TYPE.encode(), self.payload)
+        found = [(it["keyid"], it["sig"]) for it in self.signatures if it["keyid"] in publics]
+        return [key for key, text in found if signatures.is_good(publics[key], signed, signatures.decoded(text))]
 
 
 class Policy:
@@ -83,6 +88,11 @@ class Policy:
         for file in self.files.values():
             found.update({it["name"]: it["keyids"] for it in file.says.get("persons", [])})
         return found
+
+    def publics(self):
+        """The public keys that the files list, by their ids."""
+        listed = [it for file in self.files.values() for it in file.says["keys"]]
+        return {it["keyid"]: bytes.fromhex(it["public"]) for it in listed if HEXADECIMAL.fullmatch(it["public"])}
 
     def of_keys(self, names):
         """The ids of the keys of these persons."""

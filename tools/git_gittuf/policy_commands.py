@@ -187,7 +187,9 @@ def waits(draft, force, name):
 def files_to_sign(draft, force, key_id):
     """The files that wait for the signature of this key."""
     waiting = [it for it in policies.FILES if it in draft.files and waits(draft, force, it)]
-    return [it for it in waiting if key_id not in draft.files[it].signers() and key_id in who_signs(draft, force, it)]
+    publics = {**force.publics(), **draft.publics()}
+    unsigned = [it for it in waiting if key_id not in draft.files[it].signers(publics)]
+    return [it for it in unsigned if key_id in who_signs(draft, force, it)]
 
 
 def is_terminal():
@@ -281,6 +283,6 @@ def print_signers(draft, force):
     for name in policies.FILES:
         if name not in draft.files or not waits(draft, force, name):
             continue
-        role = draft.role(name)
-        signed = [it for it in role.get("persons", []) if set(draft.of_keys([it])) & set(draft.files[name].signers())]
+        role, signers = draft.role(name), set(draft.files[name].signers(draft.publics()))
+        signed = [it for it in role.get("persons", []) if set(draft.of_keys([it])) & signers]
         print(plain(f"{name} is signed by {len(signed)} of {role['threshold']}{': ' if signed else ''}{' '.join(signed)}"))

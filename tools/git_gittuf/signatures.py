@@ -3,6 +3,8 @@
 A public key and a signature are bytes as docs/FORMATS.md has them.
 """
 
+import base64
+import binascii
 import hashlib
 import struct
 
@@ -22,6 +24,14 @@ def numbers_of(public):
     """The height and the width of an LMS key, which its types say."""
     kind, ots = struct.unpack(">II", public[:8])
     return HEIGHTS[kind], WIDTHS[ots]
+
+
+def is_key(public):
+    """Whether these are the bytes of a public key of one level or of two."""
+    if len(public) == TWO_LEVELS:
+        return public[:4] == struct.pack(">I", 2) and is_key(public[4:])
+    number = lambda at: int.from_bytes(public[at : at + 4], "big")
+    return len(public) == ONE_LEVEL and number(0) in HEIGHTS and number(4) in WIDTHS
 
 
 def length_of(public):
@@ -68,20 +78,20 @@ def root_of(public, message, signature):
 
 def parts_of(public, signature):
     """The LMS keys and signatures in a signature, from the top one on: (public, signature), or none where it has another form."""
+    if not is_key(public):
+        return None
     if len(public) == ONE_LEVEL:
         parts = [(public, signature)]
     else:
         top, rest = public[4:], signature[4:]
         below = rest[length_of(top) :][:ONE_LEVEL]
         parts = [(top, rest[: length_of(top)]), (below, rest[length_of(top) + ONE_LEVEL :])]
-        if signature[:4] != struct.pack(">I", 1) or len(below) != ONE_LEVEL:
+        if signature[:4] != struct.pack(">I", 1) or not is_key(below):
             return None
     for key, it in parts:
-        kind, ots = struct.unpack(">II", key[:8])
-        if kind not in HEIGHTS or ots not in WIDTHS or len(it) != length_of(key):
-            return None
-        at = 40 + 32 * CHAINS[WIDTHS[ots]]
-        if it[4:8] != key[4:8] or it[at : at + 4] != key[:4] or int.from_bytes(it[:4], "big") >= 1 << HEIGHTS[kind]:
+        height, width = numbers_of(key)
+        at = 40 + 32 * CHAINS[width]
+        if len(it) != length_of(key) or it[4:8] != key[4:8] or it[at : at + 4] != key[:4] or int.from_bytes(it[:4], "big") >> height:
             return None
     return parts
 
@@ -98,8 +108,22 @@ def leaf_of(public, signature):
 
 
 def is_good(public, message, signature):
+    """Whether a signature of a message is one by this key."""
     parts = parts_of(public, signature)
     if not parts:
         return False
     messages = [key for key, _ in parts[1:]] + [message]
     return all(root_of(key, text, it)[1] == key[24:] for (key, it), text in zip(parts, messages))
+
+
+def signed_bytes(kind, payload):
+    """What the signatures of an envelope are over."""
+    return b"DSSEv1 %d %s %d %s" % (len(kind), kind, len(payload), payload)
+
+
+def decoded(text):
+    """The bytes of a signature in one of the two alphabets, and none where it is no such text."""
+    try:
+        return base64.b64decode(text.replace("-", "+").replace("_", "/"), validate=True)
+    except (binascii.Error, ValueError):
+        return b""
