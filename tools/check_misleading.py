@@ -151,6 +151,10 @@ def names_malformed_files(repositories):
         want(b"rule main" in clones.gittuf("alice", "policy", "show"), True, f"whether policy discard leads on after {what}")
 
 
+# A branch with more parts than a log takes.
+LONG = f"refs/heads/release-3/{'/'.join('abcdefghijklmnop')}"
+
+
 def judges_what_is_here(repositories):
     """verify without names judges each protected branch, also where the log was cut, and others' branches at the remote"""
     clones = another(repositories, "cut")
@@ -172,6 +176,10 @@ def judges_what_is_here(repositories):
     clones.git("fetch", "--quiet", who="auditor")
     judged.append("accepted refs/heads/release-2 1 entries")
     want(clones.gittuf("auditor", "verify").decode().splitlines(), judged, "the verdicts once all is recorded")
+    clones.git("update-ref", LONG, tip, who="server.git")
+    clones.git("fetch", "--quiet", who="auditor")
+    clones.refused_after("auditor", "verify", status=1, part=f"no log can speak of {LONG}, which a rule may protect")
+    clones.git("update-ref", "-d", LONG, who="server.git")
     clones.git("update-ref", LOG, clones.tip("alice", f"{LOG}~4"), who="server.git")
     clones.git("update-ref", POLICY, clones.tip("alice", f"{POLICY}~1"), who="server.git")
     clones.clone("deceived", key=False)
@@ -209,6 +217,14 @@ def knows_what_a_word_names(repositories):
     differs = f"tip-differs {MAIN} kept {clones.tip('alice')} recorded {recorded}\n".encode()
     want(clones.gittuf("bob", "verify", "origin/main", status=1), differs, "the verdict before a merge")
     want(clones.gittuf("bob", "verify", "main"), accepted, "the verdict on what is here")
+    # The store has a file where the other name wants a folder.
+    clones.git("branch", "topic", who="bob")
+    clones.git("push", "--quiet", "origin", "main:topic/part", who="alice")
+    clones.git("fetch", "--quiet", who="bob")
+    beside = f"tip-differs refs/heads/topic/part kept {clones.tip('alice')} recorded {'0' * 64}\n".encode()
+    want(clones.gittuf("bob", "verify", "origin/topic/part", status=1), beside, "the verdict on a name below another")
+    own = f"tip-differs refs/heads/topic kept {recorded} recorded {'0' * 64}\n".encode()
+    want(clones.gittuf("bob", "verify", "topic", status=1), own, "the verdict on the other one")
     clones.git("switch", "--quiet", "--detach", who="bob")
     clones.refused("bob", "verify", "HEAD", status=3, part="HEAD names no branch")
     clones.git("branch", "--quiet", "-D", "main", who="bob")

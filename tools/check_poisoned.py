@@ -3,14 +3,11 @@
 import base64
 import os
 import re
-import sys
 
-from checking import LAUNCHER, TOP, at_terminal, run, want
-from guarded_clones import MAIN, another, guarded
-
-sys.path.insert(0, os.path.join(TOP, "tools"))
+from checking import LAUNCHER, at_terminal, run, want
 from git_gittuf import signatures
 from git_gittuf.shown import quoted
+from guarded_clones import MAIN, another, guarded
 
 LOG, ATTESTATIONS = "refs/gittuf/reference-state-log", "refs/gittuf/attestations"
 BESIDE = "refs/gittuf-remotes/origin/reference-state-log"
@@ -22,7 +19,8 @@ ACCEPTED = f"accepted {MAIN} 1 entries\n".encode()
 def no_entry(clones, who, parent, tree=EMPTY_TREE):
     """A commit that is no entry of a log, after another one."""
     clones.git("mktree", who=who)
-    return clones.git(*COMMITTED, "commit-tree", "-m", "no entry", *(("-p", parent) if parent else ()), tree, who=who).decode().strip()
+    words = ("commit-tree", "-m", "no entry", *(("-p", parent) if parent else ()), tree)
+    return clones.git(*COMMITTED, *words, who=who).decode().strip()
 
 
 def told_and_judged(clones, who, part):

@@ -2,7 +2,10 @@
 
 import os
 import pty
+import select
+import signal
 import subprocess
+import time
 
 TOP = os.path.dirname(os.path.dirname(os.path.realpath(__file__)))
 LAUNCHER = os.path.join(TOP, "gittuf")
@@ -18,6 +21,8 @@ ACCEPTED = b"accepted refs/heads/main 0 entries\n"
 QUESTION = b"[y/N] "
 # The first call may build the program, and no other takes long.
 SECONDS = 120
+# A script has many lines.
+SCRIPT_SECONDS = 600
 
 
 class Failure(Exception):
@@ -46,19 +51,26 @@ def at_terminal(script, folder, answer="y"):
     near, far = pty.openpty()
     ran = subprocess.Popen(("bash", "-c", script), cwd=folder, stdin=far, stdout=far, stderr=far, start_new_session=True)
     os.close(far)
-    told = b""
-    while True:
-        try:
-            piece = os.read(near, 1 << 16)
-        except OSError:
-            break
-        if not piece:
-            break
+    told, end = b"", time.monotonic() + SCRIPT_SECONDS
+    while piece := read_until(near, end):
         told += piece
         if told.endswith(QUESTION):
             os.write(near, f"{answer}\n".encode())
     os.close(near)
+    if time.monotonic() >= end:
+        os.killpg(ran.pid, signal.SIGKILL)
+        ran.wait()
+        raise Failure(f"a script did not end in {SCRIPT_SECONDS} seconds, after {short(told[-400:])}")
     return ran.wait(), told.decode().replace("\r\n", "\n")
+
+
+def read_until(terminal, end):
+    """What stands on a terminal next, or nothing where it was closed, or not before this time."""
+    try:
+        ready, _, _ = select.select([terminal], [], [], max(end - time.monotonic(), 0))
+        return os.read(terminal, 1 << 16) if ready else b""
+    except OSError:
+        return b""
 
 
 def short(found):

@@ -6,7 +6,7 @@ import sys
 from git_gittuf import following, history, keys, leaves, names, remotes, sentences
 from git_gittuf.program import Ended
 from git_gittuf.repository import ATTESTATIONS, LOG, Stopped
-from git_gittuf.shown import plain, plain_lines
+from git_gittuf.shown import plain, plain_lines, plain_name
 
 
 def say(sentence):
@@ -155,9 +155,22 @@ def verdict(work, meant, root):
         return work.run(*asked)
 
 
+def unspeakable(work):
+    """The branches and tags, here or at remotes, whose names no log can have, and that no policy leaves unprotected."""
+    found = []
+    for name in names.odd_names(work.repository):
+        status, printed = work.run("explain", f"git:{os.fsdecode(name)}")
+        if status or printed.startswith(b"rule "):
+            found.append(name)
+    return found
+
+
 def verify(work, words):
     work.bring()
-    worst = 0
+    odd = [] if words.branches else unspeakable(work)
+    worst = 1 if odd else 0
+    for it in odd:
+        print(f"git-gittuf: no log can speak of {plain_name(it)}, which a rule may protect", file=sys.stderr)
     for it in meant_by(work, words):
         status, printed = verdict(work, it, words.root)
         show(printed)

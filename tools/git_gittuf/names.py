@@ -6,6 +6,7 @@ import os
 from git_gittuf import remotes
 from git_gittuf.repository import Stopped
 from git_gittuf.shown import plain, quoted
+from stream_format import is_reference_name
 
 HEADS, TAGS, REMOTES = b"refs/heads/", b"refs/tags/", b"refs/remotes/"
 
@@ -88,6 +89,16 @@ def of_word(repository, word, recorded):
     if name in references or name in recorded or tag in recorded:
         return [Meant(name if name in references or name in recorded else tag)]
     raise no_such(repository, word, recorded)
+
+
+def odd_names(repository):
+    """The branches and tags, here or at a remote, whose names are outside those that a log takes."""
+    remote_fronts = [REMOTES + os.fsencode(it) + b"/" for it in remotes.remotes(repository)]
+    for name in repository.all_references():
+        front = next((it for it in remote_fronts if name.startswith(it)), HEADS)
+        whole = HEADS + name[len(front) :] if front != HEADS else name
+        if name.startswith((HEADS, TAGS, *remote_fronts)) and not is_reference_name(whole):
+            yield whole
 
 
 def all_of(repository, recorded, is_protected):

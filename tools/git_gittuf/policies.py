@@ -90,9 +90,10 @@ class Policy:
         return found
 
     def publics(self):
-        """The public keys that the files list, by their ids."""
-        listed = [it for file in self.files.values() for it in file.says["keys"]]
-        return {it["keyid"]: bytes.fromhex(it["public"]) for it in listed if HEXADECIMAL.fullmatch(it["public"])}
+        """The public keys that the files list, by their ids, which are the hashes of them."""
+        listed = [it["public"] for file in self.files.values() for it in file.says["keys"]]
+        found = [bytes.fromhex(it) for it in listed if HEXADECIMAL.fullmatch(it)]
+        return {hashlib.sha256(it).hexdigest(): it for it in found}
 
     def of_keys(self, names):
         """The ids of the keys of these persons."""

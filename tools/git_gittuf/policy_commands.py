@@ -285,4 +285,4 @@ def print_signers(draft, force):
             continue
         role, signers = draft.role(name), set(draft.files[name].signers(draft.publics()))
         signed = [it for it in role.get("persons", []) if set(draft.of_keys([it])) & signers]
-        print(plain(f"{name} is signed by {len(signed)} of {role['threshold']}{': ' if signed else ''}{' '.join(signed)}"))
+        print(plain(f"{name} is signed by {len(signed)} of {role['threshold']}{': ' if signed else ''}{policy_lines.words(signed)}"))

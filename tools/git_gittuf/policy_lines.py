@@ -3,14 +3,19 @@
 import difflib
 import hashlib
 import json
+import os
 
 from git_gittuf import forms, policies
-from git_gittuf.shown import plain
+from git_gittuf.shown import plain, word
+
+
+def words(texts):
+    return " ".join(map(word, texts))
 
 
 def who(it, schema):
     """The persons of a role or a rule, or in schema 1 its keys."""
-    return " ".join(it["persons" if schema == 2 else "keyids"])
+    return words(it["persons" if schema == 2 else "keyids"])
 
 
 def of_roles(policy):
@@ -27,7 +32,7 @@ def of_persons(policy):
     named = {}
     for name, file in sorted(policy.files.items(), reverse=True):
         for it in file.says.get("persons", []):
-            named.setdefault((it["name"], " ".join(it["keyids"])), []).append(name)
+            named.setdefault((word(it["name"]), words(it["keyids"])), []).append(name)
     names = [name for name, _ in named]
     lines = []
     for (name, keys), files in sorted(named.items()):
@@ -41,19 +46,19 @@ def of_rules(says):
     for rule in says["rules"]:
         ends = ", and no later rule" if rule["terminating"] else ""
         named = who(rule, says.get("schema", 1))
-        lines.append(f"rule {rule['name']}: {' '.join(rule['paths'])} by {rule['threshold']} of {named}{ends}")
+        lines.append(f"rule {word(rule['name'])}: {words(rule['paths'])} by {rule['threshold']} of {named}{ends}")
     return lines
 
 
 def of_other(path, text):
     """The lines of another file: its rules where it has some, and else by what it is told from others."""
     name = path.removeprefix(b"metadata/").removesuffix(b".json").decode(errors="replace")
-    shown = path.decode(errors="replace")
+    shown = word(os.fsdecode(path))
     try:
         says = policies.File.read(name, text).says
     except (ValueError, RecursionError):
         return [f"file {shown} is {hashlib.sha256(text).hexdigest()}"]
-    persons = [f"person {it['name']} has the keys {' '.join(it['keyids'])}" for it in says.get("persons", [])]
+    persons = [f"person {word(it['name'])} has the keys {words(it['keyids'])}" for it in says.get("persons", [])]
     lines = [f"version {says['version']}", *persons, *of_rules(says), *of_more(says)]
     return [f"file {shown} has {it}" for it in lines]
 

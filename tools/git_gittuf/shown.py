@@ -27,3 +27,8 @@ def quoted(word):
         return shlex.quote(word)
     escaped = lambda it: "".join(f"\\x{byte:02x}" for byte in os.fsencode(it))
     return "$'" + "".join(it if it.isprintable() and it not in "\\'" else escaped(it) for it in word) + "'"
+
+
+def word(text):
+    """A word of others among words of a line: quoted where it would be taken for several, or for something else."""
+    return text if text.isprintable() and not set(text) & set(" '\"") and text else quoted(text)
