@@ -229,7 +229,13 @@ def knows_what_a_word_names(repositories):
     clones.refused("bob", "verify", "HEAD", status=3, part="HEAD names no branch")
     clones.git("branch", "--quiet", "-D", "main", who="bob")
     want(clones.gittuf("bob", "verify", "main", status=1), differs, "the verdict where only the remote has it")
-    want(clones.gittuf("bob", "verify", status=1).splitlines()[-1] + b"\n", differs, "the last verdict of all")
+    clones.git("tag", "main", who="bob")
+    clones.gittuf("bob", "record", "refs/tags/main")
+    both = differs + b"accepted refs/tags/main 1 entries\n"
+    want(clones.gittuf("bob", "verify", "main", status=1), both, "the verdicts where a tag here has the name of that branch")
+    clones.git("tag", "-d", "main", who="bob")
+    clones.gittuf("bob", "record", "refs/tags/main")
+    want(differs in clones.gittuf("bob", "verify", status=1), True, "whether all verdicts have that one")
 
 
 CHECKS = (

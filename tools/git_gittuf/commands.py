@@ -1,5 +1,6 @@
 """The words of git gittuf but those of its policy and of its doctor."""
 
+import functools
 import os
 import sys
 
@@ -137,9 +138,10 @@ def is_protected(work, name):
 
 def meant_by(work, words):
     """What is to be judged: what words name, or all that the log speaks of or a rule protects."""
-    recorded = recorded_names(work)
     if words.branches:
+        recorded = functools.cache(lambda: recorded_names(work))
         return [it for word in words.branches for it in names.of_word(work.repository, word, recorded)]
+    recorded = recorded_names(work)
     if not recorded:
         # Nothing judged is not to look like all is well.
         raise Stopped("there is no log here: git gittuf setup and git fetch bring one, and git gittuf record begins one", 3)

@@ -53,8 +53,8 @@ def followed_log(work, references):
         if how == "behind" and own is not None and not is_before(work.repository, own, value):
             continue
         if how == "behind" and name == LOG:
-            status, lines = work.log_at(value)
-            how, printed = ("broken", printed) if status else (how, lines)
+            lines = work.log_at(value)
+            how, printed = ("broken", printed) if lines is None else (how, lines)
         if how == "behind":
             moves[name] = (references.get(name, ZEROS), value)
         elif how in UNFIT:
@@ -67,8 +67,7 @@ def to_follow(work, changed):
     repository, references = work.repository, work.repository.references()
     moves, printed, unfit = followed_log(work, references)
     if printed is None and changed and LOG in references:
-        status, lines = work.run("log")
-        printed = None if status else lines
+        printed = work.log_at(references[LOG])
     if printed is not None:
         entries = history.entries(printed)
         moves.update(to_recorded(repository, references, entries))
@@ -89,16 +88,16 @@ def sentence(remote, name, how):
 
 def last_whole(work, tip):
     """The last commit of a log, back from its tip, up to which the program reads it, and what it printed; or none."""
-    status, printed = work.log_at(tip) if work.repository.are_commits([tip]) else (3, b"")
-    if not status:
+    printed = work.log_at(tip) if work.repository.are_commits([tip]) else None
+    if printed is not None:
         return tip, printed
     listed = work.repository.git("rev-list", "--first-parent", "--reverse", tip.decode())[1].split()
     # What goes on from a chain that is broken is broken too.
     whole, broken, found = 0, len(listed), (None, b"")
     while whole < broken:
         middle = (whole + broken) // 2
-        status, printed = work.log_at(listed[middle])
-        if status:
+        printed = work.log_at(listed[middle])
+        if printed is None:
             broken = middle
         else:
             whole, found = middle + 1, (listed[middle], printed)

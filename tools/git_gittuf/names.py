@@ -71,24 +71,33 @@ def no_such(repository, word, recorded):
     return Stopped(f"there is no branch or tag {plain(word)}, here or in the log{like}: git branch --all lists the branches", 3)
 
 
+def named_at_remote(repository, references, name):
+    """The branch of a remote that a name below refs/remotes/ is, also by the remote's HEAD."""
+    if name.endswith(b"/HEAD"):
+        status, found, _ = repository.git("symbolic-ref", "--quiet", os.fsdecode(name))
+        name = name if status else found.strip()
+    return [Meant(*it) for it in of_remotes(repository, references) if remote_branch(*it) == name]
+
+
 def of_word(repository, word, recorded):
-    """What is meant by a word, where the log speaks of these references: one or, of several remotes, more."""
+    """All that a word may mean, so that nobody is answered for something else of the same name.
+
+    A branch here comes before a tag, but a tag not before a branch that a remote or the log has. `recorded` tells of which
+    references the log speaks.
+    """
     references, name = repository.references(), own_name(repository, word)
     text = os.fsencode(word)
-    if name in references and not name.startswith(REMOTES):
-        return [Meant(name)]
-    remote_name = name if name.startswith(REMOTES) else REMOTES + text
-    if remote_name.endswith(b"/HEAD"):
-        status, found, _ = repository.git("symbolic-ref", "--quiet", os.fsdecode(remote_name))
-        remote_name = remote_name if status else found.strip()
-    named = [Meant(*it) for it in of_remotes(repository, references) if remote_branch(*it) == remote_name]
-    found = named or in_place_of(repository, references, name)
-    if found:
-        return found
-    tag = TAGS + text
-    if name in references or name in recorded or tag in recorded:
-        return [Meant(name if name in references or name in recorded else tag)]
-    raise no_such(repository, word, recorded)
+    found = named_at_remote(repository, references, name if name.startswith(REMOTES) else REMOTES + text)
+    is_tag = name == TAGS + text
+    if name in references and not is_tag:
+        return found if found and name.startswith(REMOTES) else [Meant(name), *found]
+    branch = HEADS + text if is_tag else name
+    found += in_place_of(repository, references, branch)
+    found += [Meant(it) for it in ([branch] if not found else []) if it in recorded()]
+    found += [Meant(it) for it in [TAGS + text] if it in references or not found and it in recorded()]
+    if not found:
+        raise no_such(repository, word, recorded())
+    return found
 
 
 def odd_names(repository):

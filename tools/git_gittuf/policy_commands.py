@@ -4,6 +4,7 @@ import hashlib
 import os
 import re
 import sys
+import termios
 
 from git_gittuf import keys, leaves, policies, policy_lines, program
 from git_gittuf.program import Ended
@@ -206,6 +207,8 @@ def expect_shown(words, draft, force):
     if not is_terminal():
         way = "git gittuf policy show prints it with its id, and git gittuf policy sign --id ID signs what has this id"
         raise Stopped(f"what is signed is to be seen before: {way}", 2)
+    # What was typed or pasted before the question is no answer to it.
+    termios.tcflush(0, termios.TCIFLUSH)
     print("Sign this? [y/N] ", end="", file=sys.stderr, flush=True)
     if sys.stdin.readline().strip().lower() not in ("y", "yes"):
         raise Stopped("nothing is signed", 3)

@@ -16,6 +16,8 @@ from stream_format import Git
 
 # How often the lock is tried, and how many seconds lie between: what a killed call started may need a moment to end.
 TRIES, PAUSE = 20, 0.05
+# The status of the program where the log is none.
+BROKEN = 3
 READ_ONLY = (errno.EACCES, errno.EPERM, errno.EROFS)
 
 
@@ -127,9 +129,12 @@ class Work:
                 self.kept.set_references({name: value}, way)
 
     def log_at(self, value):
-        """What the program ends with and prints of the log where it stands at this commit."""
+        """What the program prints of the log where it stands at this commit, or nothing where that is none."""
         with self.standing_at(LOG, value):
-            return self.run("log")
+            status, printed = self.run("log")
+        if status not in (0, BROKEN):
+            raise Ended(("log",), status, printed)
+        return None if status else printed
 
     def run(self, *words, key="-", input=b"", **how):
         return program.run(f"{self.kept.folder}/", key, *words, input=input, **how)
