@@ -63,11 +63,9 @@ def bears_on_the_log(repositories):
     want(found, b"+ rule docs: file:docs/* by 1 of alice\n", "what an edit shows")
     found = clones.sign("alice").splitlines()
     want(found, [b"+ rule docs: file:docs/* by 1 of alice", b"targets is signed by 1 of 1: alice"], "what sign shows")
-    found = clones.gittuf("alice", "doctor", status=1).decode()
-    way = f"git push origin +{POLICY}:{POLICY}"
-    want(f"which no entry recorded, and is not followed: {way}\n" in found, True, f"whether doctor tells it: {found}")
+    way = clones.advised("alice", f"{POLICY} of origin stands at {forged[:12]}, which no entry recorded")
     clones.gittuf("alice", "policy", "apply")
-    clones.git(*way.split()[1:], "--quiet", who="alice")
+    clones.copied("alice", way)
     clones.git("push", "--quiet", who="alice")
     clones.commit("mallory")
     clones.git("fetch", "--quiet", who="mallory")

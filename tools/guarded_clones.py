@@ -62,6 +62,20 @@ class Clones:
         if found != status or part not in errors.decode():
             raise Failure(f"git gittuf {' '.join(words)} ended with {found} and {errors!r}, and wanted is {part!r}")
 
+    def advised(self, who, part):
+        """The line to copy that doctor has after a sentence with this part."""
+        found = self.gittuf(who, "doctor", status=1).decode().splitlines()
+        lines = [it.partition(": ")[2] for it in found if part in it]
+        if len(lines) != 1:
+            raise Failure(f"doctor of {who} has {len(lines)} lines with {part!r}: {found}")
+        return lines[0]
+
+    def copied(self, who, line):
+        """Runs a line as somebody does who copies it into a shell."""
+        status, _, errors = run("bash", "-c", line, folder=self.path(who))
+        if status:
+            raise Failure(f"{line} of {who} ended with {status}: {errors.decode()}")
+
     def clone(self, who, key=True):
         self.git("clone", "--quiet", "server.git", who, who="")
         # Git writes a whole path, and all are copied together.

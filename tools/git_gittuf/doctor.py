@@ -35,6 +35,11 @@ def of_key(repository):
         yield said, "git gittuf key --file <another path>"
 
 
+def set_back(remote, name, value):
+    """The line that puts at a remote what is here, where it still has there what was fetched from it."""
+    return f"git push --force-with-lease={name}:{value.decode() if value else ''} {quoted(remote)} {name}"
+
+
 def of_remotes(work, is_whole):
     repository = work.repository
     found = remotes.remotes(repository)
@@ -46,7 +51,7 @@ def of_remotes(work, is_whole):
     unfit = {(remote, name): how for remote, name, how in work.unfit}
     for remote, name, own, value, how in remotes.standing(repository, repository.references()):
         shown, how = name.decode(), unfit.get((remote, name), how)
-        take, back = f"git gittuf doctor --take {quoted(remote)}", f"git push {quoted(remote)} +{shown}:{shown}"
+        take, back = f"git gittuf doctor --take {quoted(remote)}", set_back(remote, shown, value)
         if how == "ahead" and (name != LOG or is_whole):
             yield f"{shown} goes on here from where {remote} has it", f"git push {quoted(remote)}"
         elif how == "apart":
@@ -67,7 +72,7 @@ def of_unrecorded(work, entries):
             value, shown = references.get(beside(remote, name)), name.decode()
             if value is None or remote in unfit or value in following.targets_of(entries, name):
                 continue
-            mends = f"git push {quoted(remote)} +{shown}:{shown}" if name in references else f"ask who may write to {quoted(remote)}"
+            mends = set_back(remote, shown, value) if name in references else f"ask who may write to {quoted(remote)}"
             yield f"{shown} of {remote} stands at {value.decode()[:12]}, which no entry recorded, and is not followed", mends
 
 
@@ -84,9 +89,9 @@ def of_log(work, status, printed):
         yield "there is no log here", "git gittuf setup && git fetch, or git gittuf record <branch> begins one"
         return
     if status:
-        line = printed.decode(errors="replace").strip()
-        whole = [it for it in remotes.remotes(repository) if beside(it, LOG) in references]
-        yield f"the log here is none: {line or f'status {status}'}", f"git gittuf doctor --take {' '.join(map(quoted, whole[:1]))}".rstrip()
+        said = printed.decode(errors="replace").strip() or f"status {status}"
+        others = [quoted(it) for it in remotes.remotes(repository) if beside(it, LOG) in references]
+        yield f"the log here is none ({said})", " ".join(["git gittuf doctor --take", *others[:1]])
         return
     if POLICY not in references:
         yield "there is no policy, so nothing is lawful", "git gittuf policy init <your name>"
