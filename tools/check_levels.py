@@ -10,11 +10,13 @@ import struct
 from check_keys import bytes_of, line_of
 from checking import LAUNCHER, Skip, TOP
 from checking import run, want, want_run
-from git_gittuf.signatures import digest, length_of, root_of
+from git_gittuf.signatures import digest, is_good, leaf_of, length_of, root_of
 
 KEY_LINE = re.compile(rb"key ([0-9a-f]{64}) ([0-9a-f]{120})\n")
+ONE_LEVEL_LINE = re.compile(rb"key ([0-9a-f]{64}) ([0-9a-f]{112})\n")
 CASTLE = "/usr/share/java/bcprov.jar"
 VECTORS = os.path.join(TOP, "tools", "lms-vectors", "LmsVectors.java")
+
 
 def leaves_in(public, message, signature):
     """The leaves of both levels in a signature that is good by a key of two levels, and its signed key."""
@@ -56,6 +58,26 @@ def signs_over_a_change_of_the_key_below(repositories):
     want(bytes_of(key)[72:107], b"\1" * 34 + b"\0", "the leaves that are used")
 
 
+def reads_signatures_of_each_width(repositories):
+    """git gittuf reads the leaf of a signature of each width, and takes it for its message and key alone"""
+    for width in ("1", "2", "4", "8"):
+        key = repositories.path(f"width-{width}.key")
+        found = line_of(ONE_LEVEL_LINE, (LAUNCHER, "-", key, "key-gen", "5", width))
+        public = bytes.fromhex(found[2].decode())
+        for leaf in range(2):
+            text, signature = sealed(key, public, b"what is sealed")
+            cases = {
+                "its own": (public, text, signature),
+                "another message": (public, text + b".", signature),
+                "another key": (public[:-1] + bytes([public[-1] ^ 1]), text, signature),
+                "another leaf": (public, text, (leaf + 1).to_bytes(4, "big") + signature[4:]),
+                "cut": (public, text, signature[:-1]),
+            }
+            good = {name: is_good(*case) for name, case in cases.items()}
+            want([name for name, it in good.items() if it], ["its own"], f"of width {width}, what is good")
+            want(leaf_of(public, signature), leaf, f"the leaf of a signature of width {width}")
+
+
 def takes_no_taller_levels(repositories):
     """two heights of 10 are outside the grammar, and a header that has them is none"""
     key = repositories.path("taller.key")
@@ -91,5 +113,6 @@ def another_implementation_takes_signatures(repositories):
 CHECKS = (
     another_implementation_takes_signatures,
     signs_over_a_change_of_the_key_below,
+    reads_signatures_of_each_width,
     takes_no_taller_levels,
 )

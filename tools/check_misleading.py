@@ -8,6 +8,8 @@ from guarded_clones import MAIN, another
 
 LOG, POLICY = "refs/gittuf/reference-state-log", "refs/gittuf/policy"
 STAGED = "refs/gittuf/policy-staging"
+# A step of each kind that reads the policy.
+STEPS = (("show",), ("rule", "docs", "file:docs/*", "--persons", "alice"), ("sign", "--id", "0"), ("apply",))
 COMMITTED = ("-c", "user.name=nobody", "-c", "user.email=nobody@localhost")
 
 
@@ -92,7 +94,7 @@ def follows_no_vain_policy(repositories):
     want(clones.gittuf("alice", "verify", POLICY), f"accepted {POLICY} 3 entries\n".encode(), "the verdict once it is taken back")
     stray = commit_of_files(clones, "alice", {"root.json": b"{}"}, before)
     clones.git("update-ref", POLICY, stray, who="alice")
-    for words in (("show",), ("rule", "docs", "file:docs/*", "--persons", "alice"), ("sign", "--id", "0"), ("apply",)):
+    for words in STEPS:
         clones.refused("alice", "policy", *words, status=3, part=f"git update-ref {POLICY} {before} sets it back")
     clones.git("update-ref", POLICY, before, who="alice")
     clones.gittuf("alice", "policy", "rule", "docs", "file:docs/*", "--persons", "alice")
@@ -142,9 +144,8 @@ def names_malformed_files(repositories):
             text = json.dumps({"payload": payload, "payloadType": "application/vnd.gittuf+json", "signatures": []}).encode()
         parent = run("git", "-C", clones.path("alice"), "rev-parse", "--verify", "--quiet", STAGED)[1].decode().strip()
         clones.git("update-ref", STAGED, commit_of_files(clones, "alice", {"root.json": text}, parent), who="alice")
-        for words in (("show",), ("rule", "docs", "file:docs/*", "--persons", "alice"), ("sign", "--id", "0"), ("apply",)):
-            part = f"the file root of {STAGED} is malformed"
-            clones.refused("alice", "policy", *words, status=3, part=part)
+        for words in STEPS if what == "no object" else STEPS[:1]:
+            clones.refused("alice", "policy", *words, status=3, part=f"the file root of {STAGED} is malformed")
         clones.gittuf("alice", "policy", "discard")
         want(b"rule main" in clones.gittuf("alice", "policy", "show"), True, f"whether policy discard leads on after {what}")
 
@@ -169,6 +170,7 @@ def judges_what_is_here(repositories):
     judged = [f"accepted {POLICY} 2 entries", f"accepted {MAIN} 1 entries", "accepted refs/heads/release-1 1 entries"]
     lacks = f"tip-differs refs/heads/release-2 kept {tip} recorded {zeros}"
     want(clones.gittuf("auditor", "verify", status=1).decode().splitlines(), [*judged, lacks], "the verdicts of a new clone")
+    clones.refused_after("auditor", "verify", status=1, part="No entry of the log says where release-2 of origin stands")
     clones.gittuf("alice", "record", "release-2")
     clones.git("push", "--quiet", who="alice")
     clones.git("fetch", "--quiet", who="auditor")

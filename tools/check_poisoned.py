@@ -130,7 +130,6 @@ def bytes_of(path, text=None):
 
 
 def is_told_spoilt(clones, who):
-    clones.refused(who, "record", "main", status=3, part="is spoilt")
     clones.refused(who, "note", "1", status=3, part="is spoilt")
     found = clones.gittuf(who, "doctor", status=1)
     want(b"is spoilt: its leaf " in found, True, f"whether doctor calls the key spoilt: {found}")
@@ -151,7 +150,6 @@ def signs_with_no_older_copy(repositories):
         first = older.index(b"\0", 64)
         bytes_of(key, older[:first] + b"\1" + older[first + 1 :] if words[0] == "approve" else older)
         is_told_spoilt(clones, "alice")
-        clones.refused("alice", "policy", "apply", status=3, part="is spoilt")
         bytes_of(key, newer)
     clones.gittuf("alice", "policy", "apply")
     clones.git("push", "--quiet", who="alice")
@@ -159,8 +157,10 @@ def signs_with_no_older_copy(repositories):
     clones.commit("alice")
     clones.gittuf("alice", "record", "main")
     clones.git("push", "--quiet", who="alice")
-    # Another clone has the same key, and what was signed in the first one is not in its own log yet.
     bytes_of(key, older)
+    for words in (("record", "main"), ("approve", "main"), ("skip", "1"), ("policy", "sign", "--id", "0"), ("policy", "apply")):
+        clones.refused("alice", *words, status=3, part="is spoilt")
+    # Another clone has the same key, and what was signed in the first one is not in its own log yet.
     clones.gittuf("bob", "key", "--file", key)
     clones.git("fetch", "--quiet", who="bob")
     is_told_spoilt(clones, "bob")
@@ -182,7 +182,7 @@ def reads_both_leaves(repositories):
     want(bytes_of(key), marked(33), "the leaves that are used")
     for used in (0, 31, 32):
         bytes_of(key, marked(used))
-        is_told_spoilt(clones, "bob")
+        clones.refused("bob", "note", "1", status=3, part="is spoilt: its leaf 32 ")
     bytes_of(key, marked(33))
     clones.gittuf("bob", "note", "1")
 

@@ -177,7 +177,11 @@ def verify(work, words):
         status, printed = verdict(work, it, words.root)
         show(printed)
         line = os.fsdecode(printed).rstrip("\n")
-        say(sentences.of_line(line, it.remote) if printed else sentences.of_status("verify-ref", status))
+        said = sentences.of_line(line, it.remote) if printed else sentences.of_status("verify-ref", status)
+        if not words.branches and sentences.is_unrecorded(line):
+            print(f"git-gittuf: {said}", file=sys.stderr, flush=True)
+        else:
+            say(said)
         worst = max(worst, status)
     # A log that does not fit is of somebody who was shown another one.
     return max(worst, 3) if any(name == LOG for _, name, _ in work.unfit) else worst

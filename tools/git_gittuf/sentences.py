@@ -76,6 +76,12 @@ def of_violation(name, words):
     )
 
 
+def is_unrecorded(line):
+    """Whether a line says that no entry records where a reference stands."""
+    words = line.split(" ")
+    return words[0] == "tip-differs" and not int(words[5], 16)
+
+
 def of_line(line, remote=None):
     """The sentence for a line that verify-ref printed, of a branch here or of a remote's in its place."""
     words = line.split(" ")
