@@ -7,6 +7,8 @@ _gittuf_references() { git for-each-ref --format='%(refname)' refs/heads refs/ta
 
 _gittuf_branches() { git for-each-ref --format='%(refname:short)' refs/heads refs/tags 2> /dev/null; }
 
+_gittuf_remote_branches() { git for-each-ref --format='%(refname:short)' refs/remotes 2> /dev/null; }
+
 # The program: a store, a key file, a command and its words.
 _gittuf() {
     local cur=${COMP_WORDS[COMP_CWORD]}
@@ -42,16 +44,18 @@ _git_gittuf() {
         doctor) _gittuf_reply -W "--take $(git remote 2> /dev/null)" ;;
         key) _gittuf_reply -f -W '--file --height --width --id --public' ;;
         record | approve) _gittuf_reply -W "$(_gittuf_branches)" ;;
-        verify) _gittuf_reply -W "--root $(_gittuf_branches)" ;;
+        verify) _gittuf_reply -W "--root $(_gittuf_branches) $(_gittuf_remote_branches)" ;;
         explain) _gittuf_reply -f -W "$(_gittuf_branches)" ;;
         skip | note) _gittuf_reply -W -m ;;
         policy)
             if [ "$((COMP_CWORD - at))" -eq 2 ]; then
-                _gittuf_reply -W 'init person rule show sign apply'
+                _gittuf_reply -W 'init person rule show sign discard apply'
             elif [ "${COMP_WORDS[at + 2]}" = rule ]; then
                 _gittuf_reply -W "--persons --threshold --terminating --remove $(_gittuf_references)"
             elif [ "${COMP_WORDS[at + 2]}" = person ]; then
                 _gittuf_reply -W --remove
+            elif [ "${COMP_WORDS[at + 2]}" = sign ]; then
+                _gittuf_reply -W --id
             fi
             ;;
     esac

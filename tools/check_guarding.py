@@ -3,7 +3,7 @@
 import os
 import re
 
-from checking import TOP, Failure, run, want
+from checking import TOP, Failure, at_terminal, run, want
 from guarded_clones import MAIN, SMALL, another
 
 ENTRY_LINE = re.compile(r"entry (\d+) ([0-9a-f]{64})\n")
@@ -157,7 +157,7 @@ def follows_and_gives_up(repositories):
     want((status, b"rejected" in errors), (1, True), "the status of the second push, and whether it is rejected")
     clones.git("pull", "--quiet", "--no-rebase", "--no-edit", who="bob")
     status, _, errors = run("git", "-C", clones.path("bob"), "gittuf", "verify", "main")
-    want((status, b"went apart" in errors), (1, True), "the status of verify, and whether it says that the logs went apart")
+    want((status, b"went apart" in errors), (3, True), "the status of verify, and whether it says that the logs went apart")
     found = clones.gittuf("bob", "doctor", status=1)
     want(b"git gittuf doctor --take origin" in found, True, "whether doctor tells the way out")
     clones.gittuf("bob", "doctor", "--take", "origin")
@@ -220,7 +220,7 @@ def approves_for_two(repositories):
     """where both are wanted, a change is accepted with the other's approval, and the policy's change with both signatures"""
     clones = another(repositories, "both")
     clones.gittuf("alice", "policy", "rule", "main", "--threshold", "2")
-    clones.gittuf("alice", "policy", "sign")
+    clones.sign("alice")
     clones.gittuf("alice", "policy", "apply")
     clones.commit("alice")
     clones.git("push", "--quiet", "origin", "main:topic", "refs/gittuf/*:refs/gittuf/*", who="alice")
@@ -249,16 +249,20 @@ def begins_as_the_readme_says(repositories):
     clones = another(repositories, "reader's")
     clones.git("clone", "--quiet", repositories.needed(), "project", who="")
     home = clones.path("home")
-    shell = ("env", f"XDG_DATA_HOME={home}", f"HOME={home}", "sh")
-    status, output, errors = run(*shell, "-e", "-c", "\n".join(lines[2:]), folder=clones.path("project"))
-    want((status, errors), (0, b""), "the status and errors of the lines")
-    want(output.splitlines()[-1], f"accepted {MAIN} 1 entries".encode(), "the last line that they print")
-    status, output, errors = run(*shell, "-c", blocks[3], folder=clones.path("project"))
-    want((status, errors), (0, b""), "the status and errors of the lines on a stranger's change")
-    verdicts = [it.partition("# ")[2].strip().encode() for it in blocks[3].splitlines() if " verify " in it]
+    folder = clones.path("project")
+    shell = f"set -e; export XDG_DATA_HOME={home} HOME={home}\n"
+    status, told = at_terminal(shell + "\n".join(lines[2:]), folder)
+    want(status, 0, f"the status of the lines, which print {told}")
+    want(verdicts_of(told)[-1:], [f"accepted {MAIN} 1 entries"], "the verdict that they print last")
+    status, told = at_terminal(shell + blocks[3].replace("git gittuf verify", "! git gittuf verify", 1), folder)
+    want(status, 0, f"the status of the lines on a stranger's change, which print {told}")
+    verdicts = [it.partition("# ")[2].strip() for it in blocks[3].splitlines() if " verify " in it]
     want(len(verdicts), 2, "the number of verdicts in these lines")
-    found = [it for it in output.splitlines() if it.startswith((b"accepted", b"violation", b"tip-differs"))]
-    want(found, verdicts, "the verdicts that they print")
+    want(verdicts_of(told), verdicts, "the verdicts that they print")
+
+
+def verdicts_of(told):
+    return [it for it in told.splitlines() if it.startswith(("accepted ", "violation ", "tip-differs "))]
 
 
 CHECKS = (

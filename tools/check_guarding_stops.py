@@ -96,7 +96,7 @@ def is_quick_after_one_commit(repositories):
     clones.gittuf("many", "key", "--file", clones.path("many.key"), *SMALL)
     clones.gittuf("many", "policy", "init", "alice")
     clones.gittuf("many", "policy", "rule", "main", MAIN, "--persons", "alice")
-    clones.gittuf("many", "policy", "sign")
+    clones.sign("many")
     clones.gittuf("many", "policy", "apply")
     clones.gittuf("many", "record", "main")
     want(clones.gittuf("many", "verify", "main"), f"accepted {MAIN} 1 entries\n".encode(), "the first verdict")

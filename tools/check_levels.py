@@ -10,42 +10,12 @@ import struct
 from check_keys import bytes_of, line_of
 from checking import LAUNCHER, Skip, TOP
 from checking import run, want, want_run
-from made_keys import CHAINS, D_INNER, D_LEAF, D_MESSAGE, D_PUBLIC, LMS_TYPES, OTS_TYPES
-from made_keys import digest, digits_of, walk
+from git_gittuf.signatures import digest, is_good, leaf_of, length_of, root_of
 
 KEY_LINE = re.compile(rb"key ([0-9a-f]{64}) ([0-9a-f]{120})\n")
+ONE_LEVEL_LINE = re.compile(rb"key ([0-9a-f]{64}) ([0-9a-f]{112})\n")
 CASTLE = "/usr/share/java/bcprov.jar"
 VECTORS = os.path.join(TOP, "tools", "lms-vectors", "LmsVectors.java")
-HEIGHTS = {code: height for height, code in LMS_TYPES.items()}
-WIDTHS = {code: width for width, code in OTS_TYPES.items()}
-
-
-def length_of(public):
-    """The bytes of a signature by an LMS key."""
-    kind, ots = struct.unpack(">II", public[:8])
-    return 4 + 36 + 32 * CHAINS[WIDTHS[ots]] + 4 + 32 * HEIGHTS[kind]
-
-
-def root_of(public, message, signature):
-    """The leaf that a signature names, and the root that it leads to (RFC 8554, algorithm 6a)."""
-    kind, ots = struct.unpack(">II", public[:8])
-    identifier, height, width = public[8:24], HEIGHTS[kind], WIDTHS[ots]
-    leaf = int.from_bytes(signature[:4], "big")
-    digits = digits_of(digest(identifier, struct.pack(">IH", leaf, D_MESSAGE), signature[8:40], message), width)
-    ends = [
-        walk(identifier + struct.pack(">IH", leaf, it), signature[40 + 32 * it : 72 + 32 * it], digit, 2**width - 1)
-        for it, digit in enumerate(digits)
-    ]
-    node = 2**height + leaf
-    value = digest(identifier, struct.pack(">IH", leaf, D_PUBLIC), *ends)
-    value = digest(identifier, struct.pack(">IH", node, D_LEAF), value)
-    path = signature[44 + 32 * CHAINS[width] :]
-    for level in range(height):
-        beside = path[32 * level : 32 * level + 32]
-        pair = (beside, value) if node & 1 else (value, beside)
-        node >>= 1
-        value = digest(identifier, struct.pack(">IH", node, D_INNER), *pair)
-    return leaf, value
 
 
 def leaves_in(public, message, signature):
@@ -88,6 +58,26 @@ def signs_over_a_change_of_the_key_below(repositories):
     want(bytes_of(key)[72:107], b"\1" * 34 + b"\0", "the leaves that are used")
 
 
+def reads_signatures_of_each_width(repositories):
+    """git gittuf reads the leaf of a signature of each width, and takes it for its message and key alone"""
+    for width in ("1", "2", "4", "8"):
+        key = repositories.path(f"width-{width}.key")
+        found = line_of(ONE_LEVEL_LINE, (LAUNCHER, "-", key, "key-gen", "5", width))
+        public = bytes.fromhex(found[2].decode())
+        for leaf in range(2):
+            text, signature = sealed(key, public, b"what is sealed")
+            cases = {
+                "its own": (public, text, signature),
+                "another message": (public, text + b".", signature),
+                "another key": (public[:-1] + bytes([public[-1] ^ 1]), text, signature),
+                "another leaf": (public, text, (leaf + 1).to_bytes(4, "big") + signature[4:]),
+                "cut": (public, text, signature[:-1]),
+            }
+            good = {name: is_good(*case) for name, case in cases.items()}
+            want([name for name, it in good.items() if it], ["its own"], f"of width {width}, what is good")
+            want(leaf_of(public, signature), leaf, f"the leaf of a signature of width {width}")
+
+
 def takes_no_taller_levels(repositories):
     """two heights of 10 are outside the grammar, and a header that has them is none"""
     key = repositories.path("taller.key")
@@ -123,5 +113,6 @@ def another_implementation_takes_signatures(repositories):
 CHECKS = (
     another_implementation_takes_signatures,
     signs_over_a_change_of_the_key_below,
+    reads_signatures_of_each_width,
     takes_no_taller_levels,
 )

@@ -120,6 +120,7 @@ def completes(repositories):
         ("_git_gittuf", "git gittuf ", set(WORDS)),
         ("_git_gittuf", "git gittuf ver", {"verify"}),
         ("_git_gittuf", "git-gittuf policy s", {"show", "sign"}),
+        ("_git_gittuf", "git gittuf policy sign --", {"--id"}),
         ("_git_gittuf", "git gittuf record ma", {"main"}),
         ("_gittuf", "gittuf - - verify-ref --", {"--root", "--stdin"}),
         ("_gittuf", "gittuf kept/ my.key key-gen ", {"5", "10", "15"}),

@@ -4,12 +4,10 @@ Called by itself with --write it writes what happened into the page.
 """
 
 import os
-import pty
 import re
-import subprocess
 import sys
 
-from checking import TOP, Failure, want
+from checking import TOP, Failure, at_terminal, want
 
 PAGE = os.path.join(TOP, "docs", "TUTORIAL.md")
 BLOCK = re.compile(r"```console\n(.*?)```\n", re.DOTALL)
@@ -37,21 +35,8 @@ def blocks_of(page):
 def printed_by(commands, folder):
     """What each command prints in one shell, on a terminal."""
     script = "".join(f"{command}\nprintf '\\036'\n" for command in commands)
-    near, far = pty.openpty()
-    ran = subprocess.Popen(("bash", "-c", script), cwd=folder, stdin=subprocess.DEVNULL, stdout=far, stderr=far)
-    os.close(far)
-    told = b""
-    while True:
-        try:
-            piece = os.read(near, 1 << 16)
-        except OSError:
-            break
-        if not piece:
-            break
-        told += piece
-    os.close(near)
-    want(ran.wait() >= 0, True, "whether the shell ended by itself")
-    text = told.decode().replace("\r\n", "\n")
+    status, text = at_terminal(script, folder)
+    want(status >= 0, True, "whether the shell ended by itself")
     return WRITTEN_OVER.sub("", text).split(BETWEEN)[:-1]
 
 

@@ -1,7 +1,11 @@
 """What the checks of tools/check share: running programs, and holding what they do to what is wanted."""
 
 import os
+import pty
+import select
+import signal
 import subprocess
+import time
 
 TOP = os.path.dirname(os.path.dirname(os.path.realpath(__file__)))
 LAUNCHER = os.path.join(TOP, "gittuf")
@@ -13,8 +17,12 @@ EMPTY_TREE = b"object 6ef19b41225c5369f1c104d45d8d85efa9b057b53b14b4b9b939dd74de
 ZEROS = "0" * 64
 VERIFY = ("-", "-", "verify-ref", "refs/heads/main", "--stdin")
 ACCEPTED = b"accepted refs/heads/main 0 entries\n"
+# How a question ends.
+QUESTION = b"[y/N] "
 # The first call may build the program, and no other takes long.
 SECONDS = 120
+# A script has many lines.
+SCRIPT_SECONDS = 600
 
 
 class Failure(Exception):
@@ -33,6 +41,36 @@ def run(*words, input=b"", folder=None, builds=False):
     except subprocess.TimeoutExpired:
         raise Failure(f"{os.path.basename(words[0])} did not end in {SECONDS} seconds") from None
     return ran.returncode, ran.stdout, ran.stderr
+
+
+def at_terminal(script, folder, answer="y"):
+    """Runs a script of bash where all of it is a terminal, on which a person answers each question so.
+
+    Returns its status and what stands on the terminal then.
+    """
+    near, far = pty.openpty()
+    ran = subprocess.Popen(("bash", "-c", script), cwd=folder, stdin=far, stdout=far, stderr=far, start_new_session=True)
+    os.close(far)
+    told, end = b"", time.monotonic() + SCRIPT_SECONDS
+    while piece := read_until(near, end):
+        told += piece
+        if told.endswith(QUESTION):
+            os.write(near, f"{answer}\n".encode())
+    os.close(near)
+    if time.monotonic() >= end:
+        os.killpg(ran.pid, signal.SIGKILL)
+        ran.wait()
+        raise Failure(f"a script did not end in {SCRIPT_SECONDS} seconds, after {short(told[-400:])}")
+    return ran.wait(), told.decode().replace("\r\n", "\n")
+
+
+def read_until(terminal, end):
+    """What stands on a terminal next, or nothing where it was closed, or not before this time."""
+    try:
+        ready, _, _ = select.select([terminal], [], [], max(end - time.monotonic(), 0))
+        return os.read(terminal, 1 << 16) if ready else b""
+    except OSError:
+        return b""
 
 
 def short(found):

@@ -56,6 +56,26 @@ class Clones:
         if (found, output, len(lines)) != (status, b"", 1) or part not in lines[0]:
             raise Failure(f"git gittuf {' '.join(words)} ended with {found}, {output!r} and {errors!r}, and wanted is {part!r}")
 
+    def refused_after(self, who, *words, status, part):
+        """The same where what is asked for is shown before it is refused."""
+        found, _, errors = run("git", "-C", self.path(who), "gittuf", *words)
+        if found != status or part not in errors.decode():
+            raise Failure(f"git gittuf {' '.join(words)} ended with {found} and {errors!r}, and wanted is {part!r}")
+
+    def advised(self, who, part):
+        """The line to copy that doctor has after a sentence with this part."""
+        found = self.gittuf(who, "doctor", status=1).decode().splitlines()
+        lines = [it.partition(": ")[2] for it in found if part in it]
+        if len(lines) != 1:
+            raise Failure(f"doctor of {who} has {len(lines)} lines with {part!r}: {found}")
+        return lines[0]
+
+    def copied(self, who, line):
+        """Runs a line as somebody does who copies it into a shell."""
+        status, _, errors = run("bash", "-c", line, folder=self.path(who))
+        if status:
+            raise Failure(f"{line} of {who} ended with {status}: {errors.decode()}")
+
     def clone(self, who, key=True):
         self.git("clone", "--quiet", "server.git", who, who="")
         # Git writes a whole path, and all are copied together.
@@ -67,6 +87,13 @@ class Clones:
 
     def public(self, who):
         return self.gittuf(who, "key", "--public").decode().strip()
+
+    def shown_id(self, who):
+        """The id of what is edited, as policy show prints it."""
+        return self.gittuf(who, "policy", "show").decode().splitlines()[-1].removeprefix("id ")
+
+    def sign(self, who):
+        return self.gittuf(who, "policy", "sign", "--id", self.shown_id(who))
 
     def write(self, who, name, text):
         path = os.path.join(self.path(who), name)
@@ -113,7 +140,7 @@ def guarded(repositories, name):
     clones.gittuf("alice", "policy", "init", "alice")
     clones.gittuf("alice", "policy", "person", "bob", clones.public("bob"))
     clones.gittuf("alice", "policy", "rule", "main", MAIN, "--persons", "alice,bob")
-    clones.gittuf("alice", "policy", "sign")
+    clones.sign("alice")
     clones.gittuf("alice", "policy", "apply")
     clones.gittuf("alice", "record", "main")
     clones.git("push", "--quiet", who="alice")

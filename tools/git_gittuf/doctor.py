@@ -4,14 +4,16 @@ import os
 import stat
 
 import stream_format
-from git_gittuf import history, keys, program, remotes, sentences
-from git_gittuf.repository import LOG, POLICY, ZEROS, Stopped, plain
+from git_gittuf import following, history, keys, leaves, names, program, remotes
+from git_gittuf.remotes import beside
+from git_gittuf.repository import ATTESTATIONS, LOG, POLICY, ZEROS, Stopped
+from git_gittuf.shown import plain, quoted
 
 
 def of_program():
     places = (("program",), ("crates", "gittuf", "out", "gittuf"))
     if not any(os.access(os.path.join(program.TOP, *it), os.X_OK) for it in places):
-        yield "the program is not built", f"{program.LAUNCHER} - - verify-ref refs/heads/main"
+        yield "the program is not built", f"{quoted(program.LAUNCHER)} - - verify-ref refs/heads/main"
 
 
 def of_key(repository):
@@ -20,30 +22,58 @@ def of_key(repository):
         yield f"there is no key at {path}, which only who signs needs", "git gittuf key"
         return
     if stat.S_IMODE(os.stat(path).st_mode) & 0o077:
-        yield f"others may read or write the key {path}", f"chmod 600 '{path}'"
+        yield f"others may read or write the key {path}", f"chmod 600 {quoted(path)}"
     left, all_of_them = keys.signatures_left(path)
     if left * 20 < all_of_them:
         yield f"the key {path} has {left} of {all_of_them} signatures left", "git gittuf key --file <another path>"
     try:
         keys.expect_outside(repository, path)
-        keys.public_line(path)
+        said = leaves.spoilt(repository, path)
     except Stopped as why:
-        yield str(why), "git gittuf key --file <another path>"
+        said = str(why)
+    if said:
+        yield said, "git gittuf key --file <another path>"
 
 
-def of_remotes(repository):
+def set_back(remote, name, value):
+    """The line that puts at a remote what is here, where it still has there what was fetched from it."""
+    return f"git push --force-with-lease={name}:{value.decode() if value else ''} {quoted(remote)} {name}"
+
+
+def of_remotes(work, is_whole):
+    repository = work.repository
     found = remotes.remotes(repository)
     if not found:
         yield "there is no remote, so nobody gets the log from here", "git remote add origin <where> && git gittuf setup"
     for remote in found:
         if remotes.lacking(repository, remote):
-            yield f"git push and git fetch do not carry the log to and from {remote}", f"git gittuf setup {remote}"
-    for remote, name, _, _, how in remotes.standing(repository, repository.references()):
-        remote, name = remote.decode(), name.decode()
-        if how == "ahead":
-            yield f"{name} goes on here from where {remote} has it", f"git push {remote}"
+            yield f"git push and git fetch do not carry the log to and from {remote}", f"git gittuf setup {quoted(remote)}"
+    unfit = {(remote, name): how for remote, name, how in work.unfit}
+    for remote, name, own, value, how in remotes.standing(repository, repository.references()):
+        shown, how = name.decode(), unfit.get((remote, name), how)
+        take, back = f"git gittuf doctor --take {quoted(remote)}", set_back(remote, shown, value)
+        if how == "ahead" and (name != LOG or is_whole):
+            yield f"{shown} goes on here from where {remote} has it", f"git push {quoted(remote)}"
         elif how == "apart":
-            yield f"{name} here and that of {remote} went apart", f"git gittuf doctor --take {remote}"
+            yield f"{shown} here and that of {remote} went apart", take
+        elif how == "broken":
+            whole, _ = following.last_whole(work, value)
+            has_all = whole is None or own is not None and (own == whole or remotes.is_before(repository, whole, own))
+            yield f"{shown} of {remote} is no log after its last whole entry, and is not followed", back if has_all and own else take
+        elif how == "odd":
+            yield f"{shown} of {remote} stands at no commit, and is not followed", back if own else f"ask who may write to {quoted(remote)}"
+
+
+def of_unrecorded(work, entries):
+    """What remotes have at the places of the policy and the approvals, and no entry recorded."""
+    references, unfit = work.repository.references(), {remote for remote, name, _ in work.unfit if name == LOG}
+    for remote in remotes.remotes(work.repository):
+        for name in (POLICY, ATTESTATIONS):
+            value, shown = references.get(beside(remote, name)), name.decode()
+            if value is None or remote in unfit or value in following.targets_of(entries, name):
+                continue
+            mends = set_back(remote, shown, value) if name in references else f"ask who may write to {quoted(remote)}"
+            yield f"{shown} of {remote} stands at {value.decode()[:12]}, which no entry recorded, and is not followed", mends
 
 
 def of_names(repository):
@@ -52,37 +82,40 @@ def of_names(repository):
             yield f"no log can speak of {stream_format.readable(name)}, which is too long or has other signs", "git branch -m"
 
 
-def of_log(work):
+def of_log(work, status, printed):
     repository = work.repository
     references = repository.references()
     if LOG not in references:
         yield "there is no log here", "git gittuf setup && git fetch, or git gittuf record <branch> begins one"
         return
-    status, printed = work.run("log")
     if status:
-        line = printed.decode(errors="replace").strip()
-        yield f"the program ends with status {status} and {line or 'no line'}", "git fetch another clone, git gittuf doctor --take"
+        said = printed.decode(errors="replace").strip() or f"status {status}"
+        others = [quoted(it) for it in remotes.remotes(repository) if beside(it, LOG) in references]
+        yield f"the log here is none ({said})", " ".join(["git gittuf doctor --take", *others[:1]])
         return
     if POLICY not in references:
         yield "there is no policy, so nothing is lawful", "git gittuf policy init <your name>"
-    last = {rest[0]: rest[1] for _, _, kind, rest in history.entries(printed) if kind == b"ref"}
+    entries = history.entries(printed)
+    yield from of_unrecorded(work, entries)
+    last = {rest[0]: rest[1] for _, _, kind, rest in entries if kind == b"ref"}
     for name, target in last.items():
-        if references.get(name, ZEROS) != target:
-            word = sentences.short(name.decode())
-            yield f"{word} stands elsewhere than it was recorded last", f"git gittuf verify {word}"
+        if references.get(name, ZEROS) != target and not names.in_place_of(repository, references, name):
+            word = names.short(name)
+            yield f"{word} stands elsewhere than it was recorded last", f"git gittuf verify {quoted(word)}"
 
 
 def doctor(work, words):
-    repository = work.repository
-    if words.take:
-        moves = remotes.to_take(repository, words.take)
+    work.bring()
+    if words.take is not None:
+        moves = following.to_take(work, words.take)
         work.move(moves)
         for name, (own, value) in moves.items():
             print(f"{name.decode()} goes from {own.decode()} to {value.decode()}")
-        work.bring()
+        work.copy()
         return 0
-    work.bring()
-    found = [*of_program(), *of_key(repository), *of_remotes(repository), *of_names(repository), *of_log(work)]
+    status, printed = work.run("log")
+    found = [*of_program(), *of_key(work.repository), *of_remotes(work, not status), *of_names(work.repository)]
+    found += of_log(work, status, printed)
     for what, mends in found:
         print(plain(f"{what}: {mends}"))
     if not found:

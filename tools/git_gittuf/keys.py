@@ -5,11 +5,13 @@ import os
 import re
 
 from git_gittuf import program
+from git_gittuf.program import Ended
 from git_gittuf.repository import Stopped
-from git_gittuf.work import Ended
 
-LINE = re.compile(rb"key ([0-9a-f]{64}) ([0-9a-f]{112})\n")
-HEAD = 64
+# The line of a key of one level, or of two.
+LINE = re.compile(rb"key ([0-9a-f]{64}) ([0-9a-f]{112}|[0-9a-f]{120})\n")
+# Where the leaves begin, by what the file begins with.
+HEADS = {b"LMSKEY01": 64, b"LMSKEY02": 72}
 
 
 def default_path():
@@ -87,11 +89,24 @@ def public_line(path):
 
 
 def id_and_public(path):
-    return tuple(it.decode() for it in LINE.fullmatch(public_line(path)).groups())
+    """The id and the public part of a key file, whose types and identifier are those of the file."""
+    key_id, public = (it.decode() for it in LINE.fullmatch(public_line(path)).groups())
+    with open(path, "rb") as file:
+        if file.read(32)[8:] != bytes.fromhex(public)[-56:][:24]:
+            raise Stopped(f"{path}.pub is the line of another key than {path}: put the right one there", 3)
+    return key_id, public
+
+
+def leaves_of(path):
+    """A byte for each leaf of a key file, 0 where it is unused."""
+    with open(path, "rb") as file:
+        text = file.read()
+    if text[:8] not in HEADS:
+        raise Stopped(f"{path} is no key file: git gittuf key --file <another path> makes one", 3)
+    return text[HEADS[text[:8]] :]
 
 
 def signatures_left(path):
     """How many signatures a key file still has, and how many it had."""
-    with open(path, "rb") as file:
-        leaves = file.read()[HEAD:]
+    leaves = leaves_of(path)
     return leaves.count(0), len(leaves)

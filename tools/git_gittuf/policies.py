@@ -6,13 +6,18 @@ those of some persons. Rule files of other names are carried along as they are.
 """
 
 import base64
+import hashlib
 import json
+import re
 
-from git_gittuf.repository import POLICY, STAGED, Stopped
+from git_gittuf import epochs, forms, history, signatures
+from git_gittuf.repository import LOG, POLICY, STAGED, Stopped
+from git_gittuf.shown import plain
 
 TYPE = "application/vnd.gittuf+json"
 FILES = ("root", "targets")
 ROLES = FILES
+HEXADECIMAL = re.compile("(?:[0-9a-f]{2})+")
 # Of LMS keys, and of keys of several levels.
 KEY_TYPES = {112: "lms", 120: "hss"}
 
@@ -22,36 +27,46 @@ class File:
 
     def __init__(self, payload, signatures=()):
         self.payload, self.signatures = payload, list(signatures)
-        self.says = json.loads(payload)
+        self.says = forms.json_of(payload)
 
     @classmethod
-    def read(cls, text):
-        envelope = json.loads(text)
-        return cls(base64.b64decode(envelope["payload"]), envelope["signatures"])
+    def read(cls, name, text):
+        envelope = forms.json_of(text)
+        forms.expect(forms.is_envelope(envelope) and envelope["payloadType"] == TYPE, "its envelope")
+        found = cls(base64.b64decode(envelope["payload"], validate=True), envelope["signatures"])
+        forms.expect_says(name, found.says)
+        return found
 
     def envelope(self):
         payload = base64.b64encode(self.payload).decode()
         named = {"payload": payload, "payloadType": TYPE, "signatures": self.signatures}
         return json.dumps(named, separators=(",", ":")).encode() + b"\n"
 
-    def signers(self):
-        return [it.get("keyid", "") for it in self.signatures]
+    def signers(self, publics):
+        """The ids of those of these keys that signed it."""
+        signed = signatures.signed_bytes(TYPE.encode(), self.payload)
+        found = [(it["keyid"], it["sig"]) for it in self.signatures if it["keyid"] in publics]
+        return [key for key, text in found if signatures.is_good(publics[key], signed, signatures.decoded(text))]
 
 
 class Policy:
-    """The files at a reference, and what else is in its tree's folder `metadata`, by name."""
+    """The files of a policy's commit, or of none, and what else is in its tree's folder `metadata`, by name."""
 
-    def __init__(self, repository, reference):
-        self.files, self.others = {}, {}
-        status, listed, _ = repository.git("ls-tree", "-r", "-z", reference.decode(), "metadata/")
+    def __init__(self, repository, commit=None, place="the policy in force"):
+        self.commit, self.files, self.others = commit, {}, {}
+        status, listed, _ = repository.git("ls-tree", "-r", "-z", commit.decode(), "metadata/") if commit else (1, b"", "")
         if status:
             return
         for line in filter(None, listed.split(b"\0")):
             head, _, path = line.partition(b"\t")
-            text = repository.asked("read the policy", "cat-file", "blob", head.split(b" ")[2].decode())
+            mode, _, object_id = head.split(b" ")
+            if mode not in (b"100644", b"100755"):
+                # The program reads no others.
+                continue
+            text = repository.asked("read the policy", "cat-file", "blob", object_id.decode())
             name = path.removeprefix(b"metadata/").removesuffix(b".json").decode(errors="replace")
             if name in FILES and path.endswith(b".json"):
-                self.files[name] = read_file(name, text)
+                self.files[name] = read_file(name, text, place)
             else:
                 self.others[path] = text
 
@@ -74,29 +89,74 @@ class Policy:
             found.update({it["name"]: it["keyids"] for it in file.says.get("persons", [])})
         return found
 
+    def publics(self):
+        """The public keys that the files list, by their ids, which are the hashes of them."""
+        listed = [it["public"] for file in self.files.values() for it in file.says["keys"]]
+        found = [bytes.fromhex(it) for it in listed if HEXADECIMAL.fullmatch(it)]
+        return {hashlib.sha256(it).hexdigest(): it for it in found}
+
     def of_keys(self, names):
         """The ids of the keys of these persons."""
         persons = self.persons()
         return [key for name in names for key in persons.get(name, [])]
 
 
-def read_file(name, text):
+def read_file(name, text, place="the policy in force"):
     try:
-        return File.read(text)
-    except (ValueError, KeyError, TypeError):
-        raise Stopped(f"the policy's file {name} is none that this reads: the program's explain and seal say more", 3) from None
+        return File.read(name, text)
+    except (ValueError, RecursionError) as why:
+        said = plain(f"the file {name} of {place} is malformed: {why or 'it is no JSON'}")
+        way = "git gittuf policy discard gives up what is edited" if place == STAGED.decode() else "the program's explain says more"
+        raise Stopped(f"{said}; {way}", 3) from None
 
 
-def in_force(repository):
-    return Policy(repository, POLICY)
+def in_force(work):
+    """The policy of the log's last epoch, as the program tells it, whatever stands at the policy's reference."""
+    entries = history.entries(work.asked("log")) if LOG in work.repository.references() else []
+    found = epochs.of_entries(work.repository, entries)
+    return Policy(work.repository, found[-1][1] if found else None)
 
 
-def staged(repository):
+def metadata_of(work, commit):
+    """The id of the folder with a policy's files, or nothing."""
+    return work.repository.git("rev-parse", "--verify", "--quiet", f"{commit.decode()}:metadata")[1]
+
+
+def expect_recorded(work, force):
+    """Refuses to edit where the policy's reference stands at what no entry of the log brings into force."""
+    own = work.repository.references().get(POLICY)
+    if own is None or force.commit and metadata_of(work, own) == metadata_of(work, force.commit):
+        return
+    if force.commit:
+        where, back = f"in force is {force.commit.decode()[:12]}", f"git update-ref {POLICY.decode()} {force.commit.decode()}"
+    else:
+        where, back = "none is in force", f"git update-ref -d {POLICY.decode()}"
+    said = f"{POLICY.decode()} stands at {own.decode()[:12]}, which no entry of the log brings into force; {where}"
+    raise Stopped(f"{said}: {back} sets it back", 3)
+
+
+def edited(work):
+    """The files that are edited, as they stand."""
+    return Policy(work.repository, work.repository.references().get(STAGED), STAGED.decode())
+
+
+def staged(work, force):
     """What is edited, or else what is in force, as where that went on beside what was edited."""
-    found, force = Policy(repository, STAGED), in_force(repository)
+    found = edited(work)
     if not all(it in found.files for it in FILES) or any(is_older(found.files[it], force.files.get(it)) for it in FILES):
         return force
     return found
+
+
+def id_of(force, draft):
+    """The id of a change, by which is signed what was shown: of all that the policies say, without who signed it."""
+    found = hashlib.sha256()
+    for it in (force, draft):
+        rows = {f"metadata/{name}.json".encode(): file.payload for name, file in it.files.items()}
+        for path, text in sorted({**it.others, **rows}.items()):
+            found.update(b"%d %d " % (len(path), len(text)) + path + text)
+        found.update(b"end ")
+    return found.hexdigest()
 
 
 def is_older(file, other):
@@ -149,18 +209,3 @@ def has_person(says, name):
     return any(it["name"] == name for it in says["persons"])
 
 
-def lines_of(policy):
-    """What a policy says, a line for each thing."""
-    if not policy.files:
-        return []
-    lines = []
-    for name in ROLES:
-        role, what = policy.role(name), "the policy is signed by" if name == "root" else "its rules are signed by"
-        lines.append(f"{what} {role['threshold']} of {' '.join(role.get('persons', role.get('keyids', [])))}")
-    lines += [f"person {name} has the keys {' '.join(keys)}" for name, keys in sorted(policy.persons().items())]
-    for rule in policy.files["targets"].says["rules"] if "targets" in policy.files else []:
-        who = " ".join(rule.get("persons", rule.get("keyids", [])))
-        ends = ", and no later rule" if rule["terminating"] else ""
-        lines.append(f"rule {rule['name']}: {' '.join(rule['paths'])} by {rule['threshold']} of {who}{ends}")
-    lines += [f"file {path.decode(errors='replace')}" for path in sorted(policy.others)]
-    return lines

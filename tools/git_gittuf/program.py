@@ -14,6 +14,14 @@ LAUNCHER = os.path.join(TOP, "gittuf")
 PATIENCE = 2
 
 
+class Ended(Exception):
+    """The program ended with another status than 0, and has said why."""
+
+    def __init__(self, words, status, printed):
+        super().__init__(words[0])
+        self.words, self.status, self.printed = words, status, printed
+
+
 class Progress:
     """A line on a terminal that is written over, and nothing elsewhere."""
 

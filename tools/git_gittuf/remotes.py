@@ -1,14 +1,15 @@
 """How the log, the policies and the approvals go to other clones and come from them.
 
-What a remote has below refs/gittuf/ is fetched beside the own references, and never over them. Each call lets the own
-ones follow where that takes nothing back.
+What a remote has below refs/gittuf/ is fetched beside the own references, and never over them. `following` says which of
+it is taken over.
 """
 
-from git_gittuf.repository import ATTESTATIONS, LOG, OWN, POLICY, STAGED, TARGETS, ZEROS, Stopped
+import os
+
+from git_gittuf.repository import LOG, OWN, STAGED, Stopped
+from git_gittuf.shown import plain, quoted
 
 BESIDE = b"refs/gittuf-remotes/"
-# These speak of each other, and so follow together.
-TOGETHER = (LOG, POLICY, ATTESTATIONS)
 
 
 def refspecs(remote):
@@ -36,18 +37,18 @@ def set_up(repository, remote):
 
 
 def remotes(repository):
-    return [it.decode() for it in repository.asked("list the remotes", "remote").splitlines()]
+    return [os.fsdecode(it) for it in repository.asked("list the remotes", "remote").splitlines()]
 
 
 def remote_named(repository, word):
     """The remote that is meant: the named one, origin, or the only one; nothing where there is none."""
     found = remotes(repository)
     if word and word not in found:
-        raise Stopped(f"there is no remote {word}: git remote -v lists them", 3)
+        raise Stopped(f"there is no remote {plain(word)}: git remote -v lists them", 3)
     if word or not found:
         return word
     if "origin" not in found and len(found) > 1:
-        raise Stopped(f"which remote is meant? git gittuf setup {found[0]}, for one", 2)
+        raise Stopped(f"which remote is meant? git gittuf setup {quoted(found[0])}, for one", 2)
     return "origin" if "origin" in found else found[0]
 
 
@@ -56,56 +57,32 @@ def is_before(repository, first, second):
     return repository.git("merge-base", "--is-ancestor", first.decode(), second.decode())[0] == 0
 
 
-def own_name(name):
-    """The remote and the own name for what a remote has; nothing for what has no meaning here."""
-    # A remote's name may have slashes, and a server may have anything below refs/gittuf/.
-    for own in (*TOGETHER, STAGED):
-        rest = own[len(OWN) - 1 :]
-        if name.endswith(rest) and len(name) > len(BESIDE) + len(rest):
-            return name[len(BESIDE) : -len(rest)], own
-    remote, found, rest = name[len(BESIDE) :].rpartition(TARGETS[len(OWN) - 1 :])
-    return (remote, TARGETS + rest) if found else (None, None)
+def beside(remote, name):
+    """Where that stands which a remote has at an own name."""
+    return BESIDE + os.fsencode(remote) + name[len(OWN) - 1 :]
+
+
+def stands(repository, own, value):
+    """How an own value stands to a remote's, of which each is a commit that goes on from the one before."""
+    if value is None or own == value:
+        return "same"
+    if not repository.are_commits([value]):
+        return "odd"
+    if own is None or is_before(repository, own, value):
+        return "behind"
+    return "ahead" if is_before(repository, value, own) else "apart"
 
 
 def standing(repository, references):
-    """For each reference of a remote: the remote, the own name, both values, and how the own one stands to it."""
+    """For the log of each remote, and for what is edited there: the remote, the own name, both values, and how these stand."""
     found = []
-    for name, value in references.items():
-        remote, ours = own_name(name) if name.startswith(BESIDE) else (None, None)
-        if not ours:
-            continue
-        own = references.get(ours)
-        if own is None or own == value:
-            how = "missing" if own is None else "same"
-        elif is_before(repository, own, value):
-            how = "behind"
-        else:
-            how = "ahead" if is_before(repository, value, own) else "apart"
-        found.append((remote, ours, own, value, how))
+    for remote in remotes(repository):
+        for name in (LOG, STAGED):
+            own, value = references.get(name), references.get(beside(remote, name))
+            found.append((remote, name, own, value, stands(repository, own, value)))
     return found
-
-
-def to_follow(repository):
-    """The moves of the own references to where a remote's go on from them, and those that went apart."""
-    stands = standing(repository, repository.references())
-    apart = [it for it in stands if it[4] == "apart"]
-    held_back = {remote for remote, name, *_ in apart if name in TOGETHER}
-    moves = {}
-    for remote, name, own, value, how in stands:
-        if how in ("missing", "behind") and not (remote in held_back and name in TOGETHER):
-            moves[name] = (own or ZEROS, value)
-    return moves, apart
 
 
 def move(repository, moves):
     lines = b"".join(b"update %s\0%s\0%s\0" % (name, value, own) for name, (own, value) in moves.items())
     repository.asked("move the references below refs/gittuf/", "update-ref", "--stdin", "-z", input=lines)
-
-
-def to_take(repository, remote):
-    """The moves by which the own references stand where a remote's do, and what it does not have is given up."""
-    stands = standing(repository, repository.references())
-    wanted = [it for it in stands if it[0] == remote.encode() and it[1] in (*TOGETHER, STAGED)]
-    if not wanted:
-        raise Stopped(f"nothing below refs/gittuf/ was fetched from {remote}: git gittuf setup {remote}, git fetch {remote}", 3)
-    return {name: (own or ZEROS, value) for _, name, own, value, how in wanted if how != "same"}

@@ -29,11 +29,6 @@ class Stopped(Refused):
         self.status = status
 
 
-def plain(text):
-    """A text that may come from anybody, for a terminal: what is not printed as itself is escaped."""
-    return "".join(it if it.isprintable() else f"\\x{ord(it):02x}" for it in text)
-
-
 def asked_here(*words):
     """What git answers in the folder of the call, for the repository that the caller's environment names."""
     try:
@@ -157,15 +152,16 @@ class Repository:
         """The values of a setting, none where it is not set."""
         return [os.fsdecode(it) for it in self.git("config", *how, "--get-all", name)[1].splitlines()]
 
-    def full_name(self, word):
-        """The reference that a word names: a branch before a tag, or a whole name below refs/."""
-        if word.startswith("refs/"):
-            return os.fsencode(word)
-        there = self.references()
-        for front in (b"refs/heads/", b"refs/tags/"):
-            if front + os.fsencode(word) in there:
-                return front + os.fsencode(word)
-        return b"refs/heads/" + os.fsencode(word)
+    def head(self):
+        """The reference that HEAD names, or nothing where it names a commit alone."""
+        status, found, _ = self.git("symbolic-ref", "--quiet", "HEAD")
+        return None if status else found.strip()
+
+    def are_commits(self, ids):
+        """Whether each of these ids is that of a commit that is here, and not of a tag of one."""
+        given = b"".join(b"%s\n" % it for it in ids)
+        found = self.asked("look objects up", "cat-file", "--batch-check=%(objecttype)", input=given).split(b"\n")
+        return all(it == b"commit" for it in found[:-1])
 
     def commit_of(self, word):
         """The id of the commit or tag that a word of Git's names."""

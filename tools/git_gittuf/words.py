@@ -1,6 +1,7 @@
 """The words that git gittuf takes, and its page of use."""
 
 import argparse
+import re
 
 from git_gittuf import commands, doctor, policy_commands
 
@@ -16,8 +17,9 @@ Begin
   key [--file PATH]             make a key, or print the line of the one that is there; PATH becomes gittuf.key, which
       [--height H] [--width W]  is ~/.local/share/gittuf/key where it is not set; --id and --public print a word of it
       [--id | --public]
-  doctor [--take REMOTE]        say what is missing or odd, each with the line that mends it; --take gives up what was
-                                recorded here and not pushed, where another was faster
+  doctor [--take [REMOTE]]      say what is missing or odd, each with the line that mends it; --take gives up what was
+                                recorded here and not pushed, where another was faster, and goes to the last entry
+                                up to which the remote's log is whole, or without REMOTE the log here
 
 The policy, edited at refs/gittuf/policy-staging until it is applied
   policy init NAME              begin one: NAME signs it, by the key here
@@ -26,15 +28,18 @@ The policy, edited at refs/gittuf/policy-staging until it is applied
       --persons A,B             --persons are asked, and --threshold of them suffice, or 1; --terminating lets no later
       [--threshold N]           rule count; --remove takes the rule out. The rules root and targets have no pattern: they
       [--terminating]           say who signs the policy, and its rules
-  policy show                   print the policy, what is edited, and who signed that
-  policy sign                   sign what is edited
+  policy show                   print the policy in force, what is edited, who signed that, and its id
+  policy sign [--id ID]         print what is edited and sign it: at a terminal it asks before, and elsewhere it wants
+                                the id of what policy show printed
+  policy discard                give up what is edited
   policy apply                  bring it into force, and record that
 
 Every day
   record BRANCH                 sign that a branch or tag stands where it stands now
   approve BRANCH [COMMIT]       sign that it may go to this commit's files, or to where it stands here
-  verify [BRANCH ..]            say whether each change was lawful; with no name, of all that the log speaks of
-      [--root KEYID,..]         the first policy must have just these keys
+  verify [BRANCH ..]            say whether each change was lawful; with no name, of all that the log speaks of and of
+      [--root KEYID,..]         each branch and tag that a rule protects. A remote's branch stands for one that is not
+                                here, and is named as origin/main. With --root the first policy must have these keys
   skip ENTRY .. [-m TEXT]       sign that entries, by number or id, are to be skipped
   note ENTRY .. [-m TEXT]       sign a note on entries
   log                           print the log, a line for each entry
@@ -60,7 +65,7 @@ class Parser(argparse.ArgumentParser):
 
 
 def policy_words(parser):
-    words = parser.add_subparsers(dest="step", required=True, metavar="init, person, rule, show, sign or apply")
+    words = parser.add_subparsers(dest="step", required=True, metavar="init, person, rule, show, sign, discard or apply")
     it = words.add_parser("init")
     it.add_argument("name")
     it.set_defaults(work=policy_commands.init)
@@ -77,8 +82,20 @@ def policy_words(parser):
     it.add_argument("--terminating", action="store_true")
     it.add_argument("--remove", action="store_true")
     it.set_defaults(work=policy_commands.rule)
-    for name, work in (("show", policy_commands.show), ("sign", policy_commands.sign), ("apply", policy_commands.apply)):
-        words.add_parser(name).set_defaults(work=work)
+    it = words.add_parser("sign")
+    it.add_argument("--id")
+    it.set_defaults(work=policy_commands.sign)
+    for name in ("show", "discard", "apply"):
+        words.add_parser(name).set_defaults(work=getattr(policy_commands, name))
+
+
+def key_ids(text):
+    """The ids of keys that a text names, with a comma between each two, as the program takes them."""
+    ids = [it.strip() for it in text.split(",")]
+    for it in ids:
+        if not re.fullmatch("[0-9a-f]{64}", it):
+            raise argparse.ArgumentTypeError(f"{it!r} is no id of a key: git gittuf key --id prints one, of 64 digits")
+    return ",".join(ids)
 
 
 def key_words(it):
@@ -106,13 +123,13 @@ def read(words):
     take["setup"].add_argument("remote", nargs="?")
     take["setup"].add_argument("--anew", action="store_true")
     key_words(take["key"])
-    take["doctor"].add_argument("--take", metavar="REMOTE")
+    take["doctor"].add_argument("--take", metavar="REMOTE", nargs="?", const="")
     take["doctor"].set_defaults(work=doctor.doctor)
     take["record"].add_argument("branch")
     take["approve"].add_argument("branch")
     take["approve"].add_argument("commit", nargs="?")
     take["verify"].add_argument("branches", nargs="*")
-    take["verify"].add_argument("--root")
+    take["verify"].add_argument("--root", type=key_ids)
     take["explain"].add_argument("name")
     for name in ("skip", "note"):
         annotate_words(take[name])

@@ -1,27 +1,23 @@
 """One call at work: alone in the repository, with a store that is what Git is, and a change whole or not at all."""
 
+import contextlib
 import errno
 import fcntl
 import os
 import sys
 import time
 
-from git_gittuf import copying, giving, program, remotes
+from git_gittuf import copying, following, giving, program, remotes
 from git_gittuf.kept import Kept
-from git_gittuf.repository import OWN, Repository, Stopped, plain
+from git_gittuf.program import Ended
+from git_gittuf.repository import LOG, OWN, Repository, Stopped
 from stream_format import Git
-
-
-class Ended(Exception):
-    """The program ended with another status than 0, and has said why."""
-
-    def __init__(self, words, status, printed):
-        super().__init__(words[0])
-        self.words, self.status, self.printed = words, status, printed
 
 
 # How often the lock is tried, and how many seconds lie between: what a killed call started may need a moment to end.
 TRIES, PAUSE = 20, 0.05
+# The status of the program where the log is none.
+BROKEN = 3
 READ_ONLY = (errno.EACCES, errno.EPERM, errno.EROFS)
 
 
@@ -44,6 +40,11 @@ def only_run(folder):
     Git.kept_open = (file,)
 
 
+def of_gittuf(references):
+    """Those below refs/gittuf/, and those that remotes have there."""
+    return {name: value for name, value in references.items() if name.startswith((OWN, remotes.BESIDE))}
+
+
 class Work:
     def __init__(self):
         self.repository = Repository()
@@ -56,16 +57,17 @@ class Work:
             raise Stopped(f"{error.filename} cannot be written: git clone it, and verify it there") from None
         self.kept = Kept(self.repository.folder)
         self.journal = giving.Journal(self.repository.folder)
+        # What remotes have that does not fit what is here, once that was looked at: remote, name, how it stands.
+        self.unfit = None
         self.mend()
-        self.follow()
 
-    def follow(self):
-        """Lets the log, the policy and the approvals go on to where a remote has them."""
-        moves, apart = remotes.to_follow(self.repository)
+    def follow(self, changed):
+        """Lets the log, the policy and the approvals go on to where a remote has them. Returns whether they moved."""
+        moves, self.unfit = following.to_follow(self, changed)
         self.move(moves)
-        for remote, name, *_ in apart:
-            line = f"{plain(name.decode())} here and that of {plain(remote.decode())} went apart, and neither is taken back"
-            print(f"git-gittuf: {line}: git gittuf doctor says more", file=sys.stderr)
+        for it in self.unfit:
+            print(f"git-gittuf: {following.sentence(*it)}", file=sys.stderr)
+        return bool(moves)
 
     def move(self, moves):
         """Moves own references, each from its value to the next."""
@@ -93,6 +95,14 @@ class Work:
         self.journal.clear()
 
     def bring(self, extra=()):
+        """Makes the store what Git is, after the own references went on where they may. Returns how many objects came."""
+        changed = of_gittuf(self.repository.references()) != of_gittuf(self.kept.references())
+        count = self.copy(extra)
+        if self.unfit is None and self.follow(changed):
+            count += self.copy()
+        return count
+
+    def copy(self, extra=()):
         progress = program.Progress()
         try:
             count, too_large = copying.bring(self.repository, self.kept, progress, extra)
@@ -101,6 +111,30 @@ class Work:
         for it in too_large:
             print(f"git-gittuf: the object {it.decode()} has more than 16 MiB and is judged to be broken", file=sys.stderr)
         return count
+
+    @contextlib.contextmanager
+    def standing_at(self, name, value):
+        """Lets a reference stand elsewhere in the store, and nowhere else, while the program looks at it."""
+        held = self.kept.references()
+        way = {it: at for it, at in held.items() if it == name or it.startswith(name + b"/") or name.startswith(it + b"/")}
+        if way == {name: value}:
+            yield
+            return
+        with self.kept.opened():
+            self.kept.set_references(way, {name: value})
+        try:
+            yield
+        finally:
+            with self.kept.opened():
+                self.kept.set_references({name: value}, way)
+
+    def log_at(self, value):
+        """What the program prints of the log where it stands at this commit, or nothing where that is none."""
+        with self.standing_at(LOG, value):
+            status, printed = self.run("log")
+        if status not in (0, BROKEN):
+            raise Ended(("log",), status, printed)
+        return None if status else printed
 
     def run(self, *words, key="-", input=b"", **how):
         return program.run(f"{self.kept.folder}/", key, *words, input=input, **how)

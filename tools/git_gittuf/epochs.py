@@ -1,0 +1,74 @@
+"""Which entries of the log brought a policy into force, as the program tells it.
+
+Whether an entry of the policy's reference does so hangs on its policy and on the one in force before, and on no other
+entry nor on who signed it. So the program judges the policy's reference in a stream that has a log of these entries
+alone, and each that it calls none is left out of the next stream.
+"""
+
+import re
+
+import stream_format
+from git_gittuf import copying, program
+from git_gittuf.program import Ended
+from git_gittuf.repository import LOG, POLICY, ZEROS
+from packs import EMPTY_TREE
+
+NO_EPOCH = re.compile(rb"violation refs/gittuf/policy (\d+) not-epoch [^\n]+\n")
+# The largest file of a policy that the program reads.
+MAX_FILE = 1 << 20
+
+
+def entry(number, parent, target):
+    """The id and the body of an unsigned entry that records the policy."""
+    lines = [b"tree " + EMPTY_TREE, *([b"parent " + parent] if parent else [])]
+    lines += [it + b" gittuf <gittuf@localhost> 0 +0000" for it in (b"author", b"committer")]
+    lines += [b"", b"RSL Reference Entry", b"", b"ref: " + POLICY, b"targetID: " + target, b"number: %d" % number]
+    body = b"".join(b"%s\n" % it for it in lines)
+    found = stream_format.hash_of(b"commit", len(body))
+    found.update(body)
+    return found.hexdigest().encode(), body
+
+
+def files_of(repository, target):
+    """The ids of the files that the program reads of a policy."""
+    status, listed, _ = repository.git("ls-tree", "-z", "-l", f"{target.decode()}:metadata")
+    rows = [it.partition(b"\t")[0].split() for it in listed.split(b"\0") if it.endswith(b".json")] if not status else []
+    return [it[2] for it in rows if it[1] == b"blob" and int(it[3]) <= MAX_FILE]
+
+
+def objects_of(repository, targets):
+    """What the program reads of the policies at these targets, as far as it is here, by their ids."""
+    ids = set()
+    for it in repository.there(targets):
+        ids.update(copying.states_of(repository, [it]))
+        ids.update(files_of(repository, it))
+    return {object_id: (kind, body) for object_id, kind, body in repository.bodies(sorted(ids)) if body is not None}
+
+
+def stream_of(objects, targets):
+    """The stream of a repository with these objects, whose log records these policies one after the other."""
+    objects, tip = dict(objects), None
+    for number, target in enumerate(targets, start=1):
+        tip, body = entry(number, tip, target)
+        objects[tip] = (b"commit", body)
+    pieces = [stream_format.HEADER]
+    for object_id, (kind, body) in sorted(objects.items()):
+        pieces += [b"object %s %s %d\n" % (object_id, kind, len(body)), body, b"\n"]
+    pieces += [b"ref %s %s\n" % it for it in ((POLICY, targets[-1]), (LOG, tip))]
+    return b"".join([*pieces, stream_format.END])
+
+
+def of_entries(repository, entries):
+    """The entries that brought a policy into force, oldest first, each as its number and the policy's id."""
+    left = [(number, rest[1]) for number, _, kind, rest in entries if kind == b"ref" and rest[0] == POLICY]
+    objects = objects_of(repository, {target for _, target in left if target != ZEROS})
+    while left:
+        words = ("verify-ref", POLICY.decode(), "--stdin")
+        status, printed = program.run("-", "-", *words, input=stream_of(objects, [it[1] for it in left]))
+        if not status:
+            break
+        found = NO_EPOCH.fullmatch(printed)
+        if not found:
+            raise Ended(words, status, printed)
+        del left[int(found[1]) - 1]
+    return left

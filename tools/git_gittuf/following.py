@@ -1,0 +1,122 @@
+"""How the own log, policy and approvals go on to where a remote has them: only as far as the program has read that.
+
+A remote's log is followed where the program reads it as a chain that goes on from the own one. The policy and the
+approvals stand where the own log records them, and nowhere else. What a remote has beside that stays beside.
+"""
+
+from git_gittuf import epochs, history
+from git_gittuf.remotes import beside, is_before, remotes, standing
+from git_gittuf.repository import ATTESTATIONS, LOG, POLICY, STAGED, TARGETS, ZEROS, Stopped
+from git_gittuf.shown import plain, quoted
+
+# How what a remote has may stand so that it does not fit what is here.
+UNFIT = ("apart", "odd", "broken")
+
+
+def targets_of(entries, name):
+    """What entries recorded of a reference, in their order."""
+    return [rest[1] for _, _, kind, rest in entries if kind == b"ref" and rest[0] == name]
+
+
+def where_recorded(repository, entries):
+    """Where the log has the policy, which is the one in force, and the approvals."""
+    in_force = [target for _, target in epochs.of_entries(repository, entries)]
+    found = {POLICY: in_force, ATTESTATIONS: targets_of(entries, ATTESTATIONS)}
+    return {name: targets[-1] for name, targets in found.items() if targets and targets[-1] != ZEROS}
+
+
+def to_recorded(repository, references, entries):
+    """The moves of the policy and the approvals from an older place that the log recorded to where it has them now."""
+    moves = {}
+    for name, target in where_recorded(repository, entries).items():
+        own = references.get(name)
+        # What no entry recorded is not taken away either.
+        if own != target and (own is None or own in targets_of(entries, name)) and repository.are_commits([target]):
+            moves[name] = (own or ZEROS, target)
+    return moves
+
+
+def kept_targets(references, remote, entries):
+    """The moves that keep here what a remote keeps of what entries recorded."""
+    front = beside(remote, TARGETS)
+    recorded = {rest[1] for _, _, kind, rest in entries if kind == b"ref"}
+    there = {name[len(front) :]: value for name, value in references.items() if name.startswith(front)}
+    wanted = {TARGETS + rest: value for rest, value in there.items() if rest == value and rest in recorded}
+    return {name: (ZEROS, value) for name, value in wanted.items() if name not in references}
+
+
+def followed_log(work, references):
+    """The moves of the log and of what is edited, what the program printed of the log then, and what does not fit."""
+    moves, printed, unfit = {}, None, []
+    for remote, name, _, value, how in standing(work.repository, references):
+        own = moves[name][1] if name in moves else references.get(name)
+        if how == "behind" and own is not None and not is_before(work.repository, own, value):
+            continue
+        if how == "behind" and name == LOG:
+            lines = work.log_at(value)
+            how, printed = ("broken", printed) if lines is None else (how, lines)
+        if how == "behind":
+            moves[name] = (references.get(name, ZEROS), value)
+        elif how in UNFIT:
+            unfit.append((remote, name, how))
+    return moves, printed, unfit
+
+
+def to_follow(work, changed):
+    """The moves of the own references to where remotes' go on from them, and what of remotes does not fit."""
+    repository, references = work.repository, work.repository.references()
+    moves, printed, unfit = followed_log(work, references)
+    if printed is None and changed and LOG in references:
+        printed = work.log_at(references[LOG])
+    if printed is not None:
+        entries = history.entries(printed)
+        moves.update(to_recorded(repository, references, entries))
+        for remote in remotes(repository):
+            moves.update(kept_targets(references, remote, entries))
+    return moves, unfit
+
+
+def sentence(remote, name, how):
+    """What is told of something that a remote has and that does not fit."""
+    name, whose = plain(name.decode()), plain(remote)
+    if how == "apart":
+        return f"{name} here and that of {whose} went apart, and neither is taken back: git gittuf doctor says more"
+    if how == "broken":
+        return f"{name} of {whose} is no log, and is not followed: git gittuf doctor says more"
+    return f"{name} of {whose} stands at no commit, and is not followed: git gittuf doctor says more"
+
+
+def last_whole(work, tip):
+    """The last commit of a log, back from its tip, up to which the program reads it, and what it printed; or none."""
+    printed = work.log_at(tip) if work.repository.are_commits([tip]) else None
+    if printed is not None:
+        return tip, printed
+    listed = work.repository.git("rev-list", "--first-parent", "--reverse", tip.decode())[1].split()
+    # What goes on from a chain that is broken is broken too.
+    whole, broken, found = 0, len(listed), (None, b"")
+    while whole < broken:
+        middle = (whole + broken) // 2
+        printed = work.log_at(listed[middle])
+        if printed is None:
+            broken = middle
+        else:
+            whole, found = middle + 1, (listed[middle], printed)
+    return found
+
+
+def to_take(work, remote):
+    """The moves by which the own log stands where a remote's is whole, or its own is, and policy and approvals as it records."""
+    repository, references = work.repository, work.repository.references()
+    tip = references.get(beside(remote, LOG) if remote else LOG)
+    if tip is None and remote:
+        setup = f"git gittuf setup {quoted(remote)}, git fetch {quoted(remote)}"
+        raise Stopped(f"no log was fetched from {plain(remote)}: {setup}", 3)
+    whole, printed = last_whole(work, tip) if tip else (None, b"")
+    if not whole:
+        raise Stopped(f"no part of the log {'of ' + plain(remote) if remote else 'here'} is one: ask another clone for its log", 3)
+    wanted = {LOG: whole, **where_recorded(repository, history.entries(printed))}
+    staged = references.get(beside(remote, STAGED)) if remote else None
+    if staged and repository.are_commits([staged]):
+        wanted[STAGED] = staged
+    there = {name: value for name, value in wanted.items() if repository.are_commits([value])}
+    return {name: (references.get(name, ZEROS), value) for name, value in there.items() if references.get(name) != value}
