@@ -179,7 +179,7 @@ def definitions_exist(repositories):
 
 
 def rows_exist(repositories):
-    """what docs/RULES.md says tries a rule is a row of tools/rows_*.py, a law, a test or an edit"""
+    """what docs/RULES.md says tries a rule is a row of tools/tests/rows_*.py, a law, a test or an edit"""
     known, found, count = rows(), [], 0
     for line in text_of(RULES).splitlines():
         if line.startswith("| ") and not line.startswith(("| The rule", "| Number")):

@@ -100,7 +100,7 @@ def has_pages(repositories):
             raise Skip("neither mandoc nor groff is here")
         found = run(*words)
         want(found, (0, b"", b""), f"what {words[0]} says of {it}")
-    page, use = text_of("man", "git-gittuf.1"), text_of("tools", "git_gittuf", "words.py")
+    page, use = text_of("man", "git-gittuf.1"), text_of("tools", "bridge", "git_gittuf", "words.py")
     for it in WORDS:
         want(bool(re.search(rf"\.(It )?Cm .*\b{it}\b", page)), True, f"whether the page has the word {it}")
         want(bool(re.search(rf"^  {it}\b", use, re.MULTILINE)), True, f"whether -h has the word {it}")

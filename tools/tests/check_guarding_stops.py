@@ -7,7 +7,7 @@ import subprocess
 import sys
 import time
 
-from checking import LAUNCHER, TOP, Failure, run, want
+from checking import BRIDGE, LAUNCHER, TOP, Failure, run, want
 from guarded_clones import MAIN, SMALL, TOOL, another
 
 STOPS = 20
@@ -117,7 +117,7 @@ def one_at_a_time(repositories):
     """while one git gittuf is at work another ends at once, and names the process"""
     clones = another(repositories, "waiting")
     script = "import sys, time; sys.path.insert(0, sys.argv[1]); from git_gittuf.work import Work; Work(); print(1, flush=True); time.sleep(60)"
-    words = (sys.executable, "-B", "-c", script, os.path.join(TOP, "tools"))
+    words = (sys.executable, "-B", "-c", script, BRIDGE)
     with subprocess.Popen(words, cwd=clones.path("bob"), stdout=subprocess.PIPE) as first:
         try:
             first.stdout.read(1)
@@ -150,7 +150,7 @@ def leaves_what_git_has(repositories):
     log = "refs/gittuf/reference-state-log"
     clones.gittuf("alice", "record", "main")
     before = clones.tip("alice", f"{log}~1")
-    words = (sys.executable, "-B", "-c", MOVED, os.path.join(TOP, "tools"), repositories.first_guarded.path("alice.key"), before)
+    words = (sys.executable, "-B", "-c", MOVED, BRIDGE, repositories.first_guarded.path("alice.key"), before)
     status, output, errors = run(*words, folder=clones.path("alice"))
     want((status, errors, b"was moved meanwhile" in output), (0, b"", True), "the status, the errors, and whether it is told")
     want(clones.tip("alice", log), before, "where the log stands")

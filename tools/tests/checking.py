@@ -5,9 +5,13 @@ import pty
 import select
 import signal
 import subprocess
+import sys
 import time
 
-TOP = os.path.dirname(os.path.dirname(os.path.realpath(__file__)))
+TOP = os.path.dirname(os.path.dirname(os.path.dirname(os.path.realpath(__file__))))
+BRIDGE = os.path.join(TOP, "tools", "bridge")
+# Some checks ask modules of git gittuf itself.
+sys.path.insert(1, BRIDGE)
 LAUNCHER = os.path.join(TOP, "gittuf")
 PROGRAM = os.path.join(TOP, "crates", "gittuf", "out", "gittuf")
 GIT_TO_STREAM = os.path.join(TOP, "tools", "git-to-stream")

@@ -8,7 +8,7 @@ import time
 from git_gittuf.repository import Stopped
 from stream_format import Git
 
-TOP = os.path.dirname(os.path.dirname(os.path.dirname(os.path.realpath(__file__))))
+TOP = os.path.dirname(os.path.dirname(os.path.dirname(os.path.dirname(os.path.realpath(__file__)))))
 LAUNCHER = os.path.join(TOP, "gittuf")
 # A person waits so many seconds before something is said.
 PATIENCE = 2

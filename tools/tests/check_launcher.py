@@ -105,7 +105,7 @@ def copy_of_the_product(repositories, name):
         paths = file.read().splitlines()
     beside = [os.path.relpath(it, TOP) for it in (PROGRAM, SMALL_PROGRAM, LIST, SOURCES, f"{PROGRAM}.cpu")]
     # The program comes first, so that every source is newer.
-    for path in (*beside, "gittuf", "tools/build-program", "tools/cpu", *paths):
+    for path in (*beside, "gittuf", "tools/build/build-program", "tools/build/cpu", *paths):
         os.makedirs(os.path.dirname(os.path.join(top, path)), exist_ok=True)
         shutil.copy(os.path.join(TOP, path), os.path.join(top, path))
     # Nothing can be built there.
@@ -196,8 +196,8 @@ def builds_where_a_part_is_missing(repositories):
     """where the program, the small one, the list of the sources or their sum is missing the launcher has it built"""
     launcher = stand_in(repositories, "a copy in parts", "#!/bin/sh\necho ran\n")
     top = os.path.dirname(launcher)
-    os.mkdir(os.path.join(top, "tools"))
-    with open(os.path.join(top, "tools", "build-program"), "w", encoding="utf-8") as file:
+    os.makedirs(os.path.join(top, "tools", "build"))
+    with open(os.path.join(top, "tools", "build", "build-program"), "w", encoding="utf-8") as file:
         file.write("#!/bin/sh\necho built \"$@\"\n")
     os.chmod(file.name, 0o755)
     want_run((launcher, "-"), 0, b"ran\n")

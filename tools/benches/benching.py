@@ -7,6 +7,9 @@ import sys
 import tempfile
 import time
 
+TOOLS = os.path.dirname(os.path.dirname(os.path.realpath(__file__)))
+sys.path[1:1] = [os.path.join(TOOLS, it) for it in ("tests", "bridge")]
+
 from checking import EMPTY_STREAM, LAUNCHER, TOP, VERIFY
 
 RUNS = 3
@@ -96,7 +99,7 @@ def most_memory(*words):
 
 def processor():
     """The processor that the program is built for on this machine."""
-    ran = subprocess.run([os.path.join(TOP, "tools", "cpu")], stdout=subprocess.PIPE, check=True)
+    ran = subprocess.run([os.path.join(TOOLS, "build", "cpu")], stdout=subprocess.PIPE, check=True)
     return ran.stdout.decode().strip()
 
 
@@ -169,7 +172,7 @@ def head():
 
 
 ENDING = """
-Ratios are of processor time. It builds what is not built, for the processor that tools/cpu prints, and makes its files in
+Ratios are of processor time. It builds what is not built, for the processor that tools/build/cpu prints, and makes its files in
 a temporary folder below TMPDIR or /tmp, which goes.
 
 Status 0: every bound is met. Status 1: one is not, or something failed. Status 2: the words are not as above.
