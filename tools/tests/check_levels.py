@@ -15,7 +15,7 @@ from git_gittuf.signatures import digest, is_good, leaf_of, length_of, root_of
 KEY_LINE = re.compile(rb"key ([0-9a-f]{64}) ([0-9a-f]{120})\n")
 ONE_LEVEL_LINE = re.compile(rb"key ([0-9a-f]{64}) ([0-9a-f]{112})\n")
 CASTLE = "/usr/share/java/bcprov.jar"
-VECTORS = os.path.join(TOP, "tools", "tests", "lms-vectors", "LmsVectors.java")
+VECTORS = os.path.join(TOP, "tools", "lms-vectors", "LmsVectors.java")
 
 
 def leaves_in(public, message, signature):
