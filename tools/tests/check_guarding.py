@@ -209,6 +209,8 @@ def tells_a_used_key(repositories):
     with open(clones.path("used.key"), "r+b") as file:
         file.seek(64)
         file.write(b"\1" * 1024)
+    # Each call first goes on to where the server's log is.
+    clones.gittuf("bob", "log")
     before = clones.git("for-each-ref", who="bob")
     found = run("git", "-C", clones.path("bob"), "gittuf", "record", "main")
     want(found, (6, b"", b"exhausted\n"), "the status, output and errors of record")
