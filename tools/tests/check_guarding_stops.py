@@ -198,7 +198,7 @@ def speaks_to_a_person(repositories):
         "it.tell('5 objects copied, of 9')\n"
         "it.end()\n"
     )
-    words = f"'{sys.executable}' -B -c \"{script}\" '{os.path.join(TOP, 'tools')}'; echo >&2"
+    words = f"'{sys.executable}' -B -c \"{script}\" '{BRIDGE}'; echo >&2"
     _, told = on_terminal(words, clones.path("bob"))
     want(told, b"\r\x1b[K5 objects copied, of 9\r\x1b[K\r\n", "what is told of long work")
 
