@@ -7,7 +7,7 @@ import subprocess
 import sys
 import time
 
-from checking import BRIDGE, LAUNCHER, TOP, Failure, run, want
+from checking import BRIDGE, LAUNCHER, Failure, run, want
 from guarded_clones import MAIN, SMALL, TOOL, another
 
 STOPS = 20

@@ -9,7 +9,7 @@ import time
 
 from check_folders import END, HEADER, IMPORTED, command, expect_same, files_below, is_no_store, small_store
 from check_folders import stream_of, write
-from checking import LAUNCHER, PROGRAM, Failure, Skip, run, want, want_run
+from checking import PROGRAM, Failure, Skip, run, want, want_run
 
 TURNS = 30
 # Calls that change what is in the file system, and those that read the stream and write the answer.
