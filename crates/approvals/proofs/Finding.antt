@@ -2,30 +2,21 @@
 use Rattle.std.proofs.Common.{◌≡◌, ℕ, Bool, true, false, List, Option, Some, None, refl, sym, ap, ◌∙◌}
 use Rattle.std.specs.Prelude.{option_and_then, if◌then◌else◌}
 use Rattle.std.specs.Result.{result_ok}
-use Rattle.git_object.specs.Objects.{Pair}
-use Rattle.git_object.specs.Repository.{HasObject, Repository, object_at}
-use Rattle.git_object.proofs.ObjectAt.{object_none, object_there}
+use Rattle.git_object.specs.Repository.{Repository}
 use Rattle.dsse_envelope.specs.Envelopes.{reading}
 use Rattle.dsse_envelope.specs.declared.envelope.Envelope.{Envelope}
 use Rattle.root_metadata.specs.Shapes.{only_if}
+use Rattle.tree_paths.specs.Blobs.{blob_at}
 use Rattle.tree_paths.specs.Readings.{Told}
 use Rattle.tree_paths.specs.Repositories.{readings_of}
 use Rattle.tree_paths.specs.States.{PathValue}
 use Rattle.tree_paths.proofs.Existence.{are_readings}
 use Rattle.approvals.specs.Approvals.{approval_path, is_approval}
-use Rattle.approvals.specs.Lookups.{approval_at, approval_of, blob_bytes, entry_in, file_bytes, file_in, is_file}
+use Rattle.approvals.specs.Lookups.{approval_at, approval_of, entry_in, file_bytes, file_in, is_file}
 
 -- what is told has its readings
 pub told_by : {content : Option Repository} (r : Repository) → content ≡ Some r → Told content (readings_of r)
 told_by r told = record { repository = r; told = told; are = are_readings r }
-
--- ---- a blob
-
-pub no_blob : (r : Repository) (id : List ℕ) → ((pair : Pair) → HasObject r id pair → ⊥) → None ≡ blob_bytes (object_at r id)
-no_blob r id never = sym (ap blob_bytes (object_none r id never))
-
-pub blob_is : (r : Repository) (id : List ℕ) (pair : Pair) (b : Bool) → HasObject r id pair → blob_bytes (Some pair) ≡ only_if b pair.body → only_if b pair.body ≡ blob_bytes (object_at r id)
-blob_is r id pair b has is = sym is ∙ sym (ap blob_bytes (object_there r id pair has))
 
 -- ---- a file
 
@@ -36,13 +27,13 @@ module _ (r : Repository) (target path : List ℕ) where
 
   pub other_entry : (value : PathValue) → Some value ≡ entry_in (readings_of r) target path → is_file value.0 ≡ false → None ≡ file_in r target path
   unfolding file_in
-  other_entry value is other = ap (λ (b : Bool). if b then blob_bytes (object_at r value.1) else None) (sym other) ∙ ap (option_and_then (file_bytes r)) is
+  other_entry value is other = ap (λ (b : Bool). if b then blob_at r value.1 else None) (sym other) ∙ ap (option_and_then (file_bytes r)) is
 
-  pub file_entry : (value : PathValue) (found : Option (List ℕ)) → Some value ≡ entry_in (readings_of r) target path → is_file value.0 ≡ true → found ≡ blob_bytes (object_at r value.1)
+  pub file_entry : (value : PathValue) (found : Option (List ℕ)) → Some value ≡ entry_in (readings_of r) target path → is_file value.0 ≡ true → found ≡ blob_at r value.1
       → found ≡ file_in r target path
   unfolding file_in
   file_entry value found is file bytes =
-      bytes ∙ ap (λ (b : Bool). if b then blob_bytes (object_at r value.1) else None) (sym file) ∙ ap (option_and_then (file_bytes r)) is
+      bytes ∙ ap (λ (b : Bool). if b then blob_at r value.1 else None) (sym file) ∙ ap (option_and_then (file_bytes r)) is
 
 -- ---- an envelope
 

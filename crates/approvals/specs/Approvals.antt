@@ -29,8 +29,10 @@ lets_go name from tree (Some d) = has_fields name from tree d
 
 -- the envelope is an approval for this reference, from this target to this tree
 abbrev pub is_approval : List ℕ → List ℕ → List ℕ → Envelope → Bool
-is_approval name from tree envelope = bytes_eq envelope.payload_type approval_type && lets_go name from tree (json_of envelope.payload)
+is_approval name from tree envelope = bytes_eq envelope.payload_type approval_type && lets_go name from tree
+    (json_of envelope.payload)
 
 -- where an approval stands in the tree of the attestations
 abbrev pub approval_path : List ℕ → List ℕ → List ℕ → List ℕ
-approval_path name from tree = codes "reference-authorizations/" ++ (name ++ 47 ∷ (encode_lower from ++ 45 ∷ encode_lower tree))
+approval_path name from tree = codes "reference-authorizations/"
+    ++ (name ++ 47 ∷ (encode_lower from ++ 45 ∷ encode_lower tree))

@@ -1,5 +1,6 @@
 -- The change that puts an approval into the attestations.
-use Rattle.std.specs.Prelude.{◌≤◌, ◌++◌, ◌∷◌, ◌≡◌, [], true, ℕ, List, length, Option, Some, None, Result, Ok, Err, codes}
+use Rattle.std.specs.Prelude.{◌≤◌, ◌++◌, ◌∷◌, ◌≡◌, [], true, ℕ, List, length, Option, Some, None, Result, Ok, Err}
+use Rattle.std.specs.Prelude.{codes}
 use Rattle.std.specs.List.{AllByRecursion}
 use Rattle.git_object.specs.Commits.{commit_lines}
 use Rattle.git_object.specs.Ids.{zeros}
@@ -33,7 +34,8 @@ approval_pair envelope = record { kind = kind.Blob; body = text_of envelope }
 
 -- what stands in the commit after its tree and its parent
 abbrev pub commit_rest : List ℕ → List ℕ
-commit_rest author = codes "author " ++ (author ++ 10 ∷ (codes "committer " ++ (author ++ 10 ∷ 10 ∷ (codes "approve" ++ 10 ∷ []))))
+commit_rest author = codes "author "
+    ++ (author ++ 10 ∷ (codes "committer " ++ (author ++ 10 ∷ 10 ∷ (codes "approve" ++ 10 ∷ []))))
 
 -- the commit as an object
 abbrev pub commit_pair : List ℕ → List (List ℕ) → List ℕ → Pair
@@ -61,20 +63,25 @@ attested_with blob author parent (Ok made) = Ok (record {
 -- the attestations after the old target was peeled: nothing was there, or a commit of a tree
 abbrev pub attested_after : Trees → Pair → List ℕ → List (List ℕ) → Peeled → Result Attested (List ℕ)
 attested_after trees blob author names (Bad id) = Err id
-attested_after trees blob author names Nothing = attested_with blob author None (put_file trees (pair_id blob) names None)
-attested_after trees blob author names (At commit tree) = attested_with blob author (Some commit) (put_file trees (pair_id blob) names (Some tree))
+attested_after trees blob author names Nothing =
+    attested_with blob author None (put_file trees (pair_id blob) names None)
+attested_after trees blob author names (At commit tree) =
+    attested_with blob author (Some commit) (put_file trees (pair_id blob) names (Some tree))
 
 -- the id at which a reference stands, zeros where it is not there
 abbrev pub target_in : Option (List ℕ) → List ℕ
 target_in None = zeros
 target_in (Some id) = id
 
--- the change that puts an approval at its path among the attestations of a target, or the first object that is in the way
+-- the change that puts an approval at its path among the attestations of a target, or the first object that is in the
+-- way
 unfoldable pub attested : Repository → List ℕ → List ℕ → List ℕ → List ℕ → Envelope → List ℕ → Result Attested (List ℕ)
 attested r attestations name from tree envelope author =
-    attested_after (readings_of r).trees (approval_pair envelope) author (components (approval_path name from tree)) (root_of (readings_of r).heads attestations)
+    attested_after (readings_of r).trees (approval_pair envelope) author (components (approval_path name from tree))
+    (root_of (readings_of r).heads attestations)
 
--- whatever is told of the old attestations: a new blob, new trees and a commit of one of them, to which the one reference
+-- whatever is told of the old attestations: a new blob, new trees and a commit of one of them, to which the one
+-- reference
 -- is set
 pub record HasChange (blob : Pair) (author : List ℕ) (parent : Option (List ℕ)) (a : Attested) : Type 0 where
   pub trees : List Pair

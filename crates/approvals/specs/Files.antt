@@ -1,5 +1,6 @@
 -- Trees with a file put at a path, and nothing else changed.
-use Rattle.std.specs.Prelude.{◌++◌, ◌∷◌, [], ℕ, List, length, nat_le, Option, Some, None, Result, Ok, Err, if◌then◌else◌}
+use Rattle.std.specs.Prelude.{◌++◌, ◌∷◌, [], ℕ, List, length, nat_le, Option, Some, None, Result, Ok, Err}
+use Rattle.std.specs.Prelude.{if◌then◌else◌}
 use Rattle.git_object.specs.EntryParts.{entry_of}
 use Rattle.git_object.specs.Objects.{Pair, pair_id}
 use Rattle.git_object.specs.Repository.{largest_body}
@@ -38,13 +39,15 @@ old_entries trees (Some id) = entries_or id (trees id)
 abbrev pub with_tree : Option (List ℕ) → List Pair → Pair → Putting
 with_tree None below pair = Ok (record { objects = below ++ pair ∷ []; root = pair_id pair })
 with_tree (Some old) below pair =
-    (if nat_le (length pair.body) largest_body then Ok (record { objects = below ++ pair ∷ []; root = pair_id pair }) else Err old)
+    (if nat_le (length pair.body) largest_body then Ok (record { objects = below ++ pair ∷ []; root = pair_id pair })
+    else Err old)
 
 -- a file in a tree: a directory is in its way
 abbrev pub put_last : Option (List ℕ) → List ℕ → List ℕ → List TreeEntry → Option TreeEntry → Putting
 put_last old name blob entries None = with_tree old [] (tree_pair (put_entry (entry_of File name blob) entries))
 put_last old name blob entries (Some found) =
-    (if is_dir found.mode then Err found.id else with_tree old [] (tree_pair (put_entry (entry_of File name blob) entries)))
+    (if is_dir found.mode then Err found.id else with_tree old []
+    (tree_pair (put_entry (entry_of File name blob) entries)))
 
 -- what is below a directory on the way, which may not be there yet: another thing is in its way
 abbrev pub put_below : (Option (List ℕ) → Putting) → Option TreeEntry → Putting
@@ -53,17 +56,22 @@ put_below next (Some found) = (if is_dir found.mode then next (Some found.id) el
 
 abbrev pub put_dir : Option (List ℕ) → List ℕ → List TreeEntry → Putting → Putting
 put_dir old name entries (Err id) = Err id
-put_dir old name entries (Ok below) = with_tree old below.objects (tree_pair (put_entry (entry_of Dir name below.root) entries))
+put_dir old name entries (Ok below) =
+    with_tree old below.objects (tree_pair (put_entry (entry_of Dir name below.root) entries))
 
 abbrev pub in_entries : Result (List TreeEntry) (List ℕ) → (List TreeEntry → Putting) → Putting
 in_entries (Err id) next = Err id
 in_entries (Ok entries) next = next entries
 
 -- a file at these names of an old tree: new trees on the way, each the old one with one entry put in its place; or the
--- first object on the way that is no tree, is no directory, is a directory where the file shall stand, or is a tree that
+-- first object on the way that is no tree, is no directory, is a directory where the file shall stand, or is a tree
+-- that
 -- would grow past 16 MiB
 abbrev pub put_file : Trees → List ℕ → List (List ℕ) → Option (List ℕ) → Putting
 put_file trees blob [] old = Ok (record { objects = []; root = blob })
-put_file trees blob (name ∷ []) old = in_entries (old_entries trees old) (λ entries. put_last old name blob entries (entry_named name entries))
+put_file trees blob (name ∷ []) old =
+    in_entries (old_entries trees old) (λ entries. put_last old name blob entries (entry_named name entries))
 put_file trees blob (name ∷ next ∷ names) old =
-    in_entries (old_entries trees old) (λ entries. put_dir old name entries (put_below (put_file trees blob (next ∷ names)) (entry_named name entries)))
+    in_entries (old_entries trees old)
+    (λ entries. put_dir old name entries
+    (put_below (put_file trees blob (next ∷ names)) (entry_named name entries)))

@@ -21,7 +21,8 @@ AreRead trees = (id : List ℕ) → AreEntries (listed (trees id))
 -- in trees that keep the new objects, the file stands at its path from the new root
 abbrev pub IsFilePut : Trees → List ℕ → List (List ℕ) → Option (List ℕ) → Type 0
 IsFilePut trees blob names old =
-    (made : NewTrees) (after : Trees) → AreRead trees → IsId blob → AllByRecursion IsEntryName names → names ≢ [] → put_file trees blob names old ≡ Ok made → Keeps after made.objects
+    (made : NewTrees) (after : Trees) → AreRead trees → IsId blob → AllByRecursion IsEntryName names → names ≢ []
+    → put_file trees blob names old ≡ Ok made → Keeps after made.objects
     → entry_at after names made.root ≡ Some (File, blob)
 
 -- what stands at a path: nothing, or what is no directory
@@ -36,10 +37,13 @@ abbrev pub path_from : Trees → List (List ℕ) → Option (List ℕ) → Optio
 path_from trees names None = None
 path_from trees names (Some root) = path_at trees names root
 
--- in trees that keep the new objects and have the old trees, every other path has from the new root what it has from the old one
+-- in trees that keep the new objects and have the old trees, every other path has from the new root what it has from
+-- the old one
 abbrev pub IsAllElseKept : Trees → List ℕ → List (List ℕ) → Option (List ℕ) → Type 0
 IsAllElseKept trees blob names old =
-    (made : NewTrees) (after : Trees) (others : List (List ℕ)) → AreRead trees → IsId blob → AllByRecursion IsEntryName names → names ≢ [] → put_file trees blob names old ≡ Ok made → Keeps after made.objects
+    (made : NewTrees) (after : Trees) (others : List (List ℕ)) → AreRead trees → IsId blob
+    → AllByRecursion IsEntryName names → names ≢ [] → put_file trees blob names old ≡ Ok made
+    → Keeps after made.objects
     → ((id : List ℕ) (entries : List TreeEntry) → trees id ≡ Some entries → after id ≡ Some entries) → others ≢ names
     → path_at after others made.root ≡ path_from after others old
 
@@ -50,4 +54,6 @@ pub record IsHeld (old new : Trees) : Type 0 where
 
 abbrev pub AreHeld : Repository → Repository → Type 0
 AreHeld before after =
-    (old new : Readings) → AreReadings before old → AreReadings after new → ((id : List ℕ) (pair : Pair) → HasObject before id pair → HasObject after id pair) → IsHeld old.trees new.trees
+    (old new : Readings) → AreReadings before old → AreReadings after new
+    → ((id : List ℕ) (pair : Pair) → HasObject before id pair → HasObject after id pair)
+    → IsHeld old.trees new.trees

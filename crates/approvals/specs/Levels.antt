@@ -20,16 +20,20 @@ AreLevels (name ∷ names) (level ∷ levels) = AreWellFormed level.entries × A
 abbrev pub put_levels : List ℕ → List (List ℕ) → List Level → Putting
 put_levels blob [] levels = Ok (record { objects = []; root = blob })
 put_levels blob (name ∷ names) [] = Ok (record { objects = []; root = blob })
-put_levels blob (name ∷ []) (level ∷ levels) = put_last level.old name blob level.entries (entry_named name level.entries)
+put_levels blob (name ∷ []) (level ∷ levels) =
+    put_last level.old name blob level.entries (entry_named name level.entries)
 put_levels blob (name ∷ next ∷ names) (level ∷ levels) =
-    put_dir level.old name level.entries (put_below (λ dir. put_levels blob (next ∷ names) levels) (entry_named name level.entries))
+    put_dir level.old name level.entries
+    (put_below (λ dir. put_levels blob (next ∷ names) levels) (entry_named name level.entries))
 
 -- the directories for these names of an old tree were added: a file is put there as it is by them
-pub record HasLevels (content : Option Repository) (names : List (List ℕ)) (old : Option (List ℕ)) (before after : List Level) : Type 0 where
+pub record HasLevels (content : Option Repository) (names : List (List ℕ)) (old : Option (List ℕ))
+    (before after : List Level) : Type 0 where
   pub levels : List Level
   pub added : after ≡ before ++ levels
   pub are : AreLevels names levels
-  pub same : (readings : Readings) → Told content readings → (blob : List ℕ) → put_file readings.trees blob names old ≡ put_levels blob names levels
+  pub same : (readings : Readings) → Told content readings → (blob : List ℕ) → put_file readings.trees blob names old
+      ≡ put_levels blob names levels
 
 -- a file can be put at the path: a directory stands for each of its names, and no new tree is too large
 pub record IsFit (path : List ℕ) (levels : List Level) : Type 0 where

@@ -6,17 +6,19 @@ pub mod Payloads
 pub mod Approvals
 -- where an approval stands in the attestations, and who signed it
 pub mod Lookups
--- why an approval is not put into the attestations
+-- a repository with the new objects finds the approval
+pub mod Tied
+-- the change that puts an approval into the attestations
+pub mod Attesting
+-- why an approval is not put there
 pub mod Faults
+-- where among the attestations an approval is put
+pub mod Sites
 -- trees with a file put at a path, and nothing else changed
 pub mod Files
 -- the directories on the way to a file, as they were read
 pub mod Levels
+-- the new trees, from the file up
 pub mod Placing
+-- the file that is found there
 pub mod Finding
--- the change that puts an approval into the attestations
-pub mod Attesting
--- where an approval is put among the attestations
-pub mod Sites
--- a repository with the new objects finds the approval
-pub mod Tied

@@ -1,17 +1,15 @@
 -- The approval for a reference, a target and a tree among the attestations, and who signed it.
-use Rattle.std.specs.Prelude.{ℕ, ◌&&◌, [], Bool, true, false, List, length, Option, Some, None, nat_le, option_and_then, if◌then◌else◌}
+use Rattle.std.specs.Prelude.{ℕ, [], Bool, true, false, List, Option, Some, None, option_and_then, if◌then◌else◌}
 use Rattle.std.specs.Result.{result_ok}
 use Rattle.git_object.specs.Names.{components}
-use Rattle.git_object.specs.Objects.{Pair}
-use Rattle.git_object.specs.Repository.{Repository, object_at}
-use Rattle.git_object.specs.declared.kinds.Kind.{Kind}
-use Rattle.git_object.specs.declared.kinds.Kind.TheVariants as kind
+use Rattle.git_object.specs.Repository.{Repository}
 use Rattle.git_object.specs.declared.modes.Mode.{Mode}
 use Rattle.git_object.specs.declared.modes.Mode.TheVariants.{Dir, Exec, File, Link, Module}
 use Rattle.dsse_envelope.specs.Envelopes.{reading}
 use Rattle.dsse_envelope.specs.declared.envelope.Envelope.{Envelope}
 use Rattle.root_metadata.specs.Shapes.{only_if}
 use Rattle.root_metadata.specs.declared.keys.Key.{Key}
+use Rattle.tree_paths.specs.Blobs.{blob_at}
 use Rattle.tree_paths.specs.Lookups.{entry_at}
 use Rattle.tree_paths.specs.Readings.{Readings}
 use Rattle.tree_paths.specs.Repositories.{readings_of}
@@ -34,24 +32,14 @@ is_file Dir = false
 is_file Link = false
 is_file Module = false
 
-abbrev pub is_blob : Kind → Bool
-is_blob kind.Blob = true
-is_blob kind.Tree = false
-is_blob kind.Commit = false
-is_blob kind.Tag = false
-
--- the bytes of a blob of at most 1 MiB
-abbrev pub blob_bytes : Option Pair → Option (List ℕ)
-blob_bytes None = None
-blob_bytes (Some pair) = only_if (is_blob pair.kind && nat_le (length pair.body) 1048576) pair.body
-
 -- the bytes of a file, executable or not
 abbrev pub file_bytes : Repository → PathValue → Option (List ℕ)
-file_bytes r value = (if is_file value.0 then blob_bytes (object_at r value.1) else None)
+file_bytes r value = (if is_file value.0 then blob_at r value.1 else None)
 
 -- the mode and the id at a path of the tree of a target
 abbrev pub entry_in : Readings → List ℕ → List ℕ → Option PathValue
-entry_in readings target path = option_and_then (entry_at readings.trees (components path)) (tree_of (root_of readings.heads target))
+entry_in readings target path = option_and_then (entry_at readings.trees (components path))
+    (tree_of (root_of readings.heads target))
 
 -- the bytes of the file at a path of the tree of a target
 unfoldable pub file_in : Repository → List ℕ → List ℕ → Option (List ℕ)
@@ -59,7 +47,8 @@ file_in r target path = option_and_then (file_bytes r) (entry_in (readings_of r)
 
 -- the approval that bytes are
 unfoldable pub approval_of : List ℕ → List ℕ → List ℕ → List ℕ → Option Envelope
-approval_of name from tree bytes = option_and_then (λ envelope. only_if (is_approval name from tree envelope) envelope) (result_ok (reading bytes))
+approval_of name from tree bytes = option_and_then (λ envelope. only_if (is_approval name from tree envelope) envelope)
+    (result_ok (reading bytes))
 
 -- the approval among the attestations of a target, which lets a reference go from a target to a tree
 unfoldable pub approval_at : Repository → List ℕ → List ℕ → List ℕ → List ℕ → Option Envelope

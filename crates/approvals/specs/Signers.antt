@@ -29,9 +29,11 @@ signed_by text signatures key = list_any (is_by text key) signatures
 
 -- the ids of the keys that signed, as a set
 abbrev pub env_signers : Envelope → List Key → List (List ℕ)
-env_signers envelope keys = set_of (map (λ key. key.id) (filter (signed_by (signed_text envelope) envelope.signatures) keys))
+env_signers envelope keys = set_of
+    (map (λ key. key.id) (filter (signed_by (signed_text envelope) envelope.signatures) keys))
 
--- the same in the words of the standard: the key of this id is one of these, and some signature, which names it or names
+-- the same in the words of the standard: the key of this id is one of these, and some signature, which names it or
+-- names
 -- no key, is good over the envelope's encoding
 pub record IsSigner (envelope : Envelope) (keys : List Key) (id : List ℕ) : Type 0 where
   pub key : Key

@@ -22,14 +22,17 @@ put_at site blob = put_levels blob (components site.path) site.levels
 -- whatever approval is put, and whoever writes the commit, the change is the one by what was read
 abbrev pub GivesAfter : Trees → List (List ℕ) → Peeled → Site → Type 0
 GivesAfter trees names root site =
-    (envelope : Envelope) (author : List ℕ) → attested_after trees (approval_pair envelope) author names root ≡ attested_with (approval_pair envelope) author site.parent (put_at site (pair_id (approval_pair envelope)))
+    (envelope : Envelope) (author : List ℕ) → attested_after trees (approval_pair envelope) author names root
+    ≡ attested_with (approval_pair envelope) author site.parent (put_at site (pair_id (approval_pair envelope)))
 
 abbrev pub RefusesAfter : Trees → List (List ℕ) → Peeled → List ℕ → Type 0
-RefusesAfter trees names root id = (envelope : Envelope) (author : List ℕ) → attested_after trees (approval_pair envelope) author names root ≡ Err id
+RefusesAfter trees names root id = (envelope : Envelope) (author : List ℕ)
+    → attested_after trees (approval_pair envelope) author names root ≡ Err id
 
 -- the same of the attestations of a target
 pub record IsSiteOf (r : Repository) (target name from tree : List ℕ) (site : Site) : Type 0 where
-  pub gives : (envelope : Envelope) (author : List ℕ) → attested r target name from tree envelope author ≡ attested_with (approval_pair envelope) author site.parent (put_at site (pair_id (approval_pair envelope)))
+  pub gives : (envelope : Envelope) (author : List ℕ) → attested r target name from tree envelope author
+      ≡ attested_with (approval_pair envelope) author site.parent (put_at site (pair_id (approval_pair envelope)))
 
 -- an object is in the way of each
 pub record IsInWayOf (r : Repository) (target name from tree id : List ℕ) : Type 0 where

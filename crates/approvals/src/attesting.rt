@@ -7,7 +7,8 @@ ghost use Rattle.git_object.specs.Repository.{Repository};
 ghost use Rattle.keeper_api.specs.Undisturbed.{Undisturbed};
 ghost use Rattle.dsse_envelope.specs.Envelopes.{reading};
 ghost use Rattle.dsse_envelope.specs.Written.{IsWritable, text_of};
-ghost use Rattle.approvals.specs.Attesting.{IsAttestable, IsChange, approval_pair, attested, commit_pair, commit_rest, parents_of, target_in};
+ghost use Rattle.approvals.specs.Attesting.{IsAttestable, IsChange, approval_pair, attested, commit_pair, commit_rest};
+ghost use Rattle.approvals.specs.Attesting.{parents_of, target_in};
 ghost use Rattle.git_object.specs.References.{attestations_name};
 ghost use Rattle.approvals.specs.Faults.{IfUnreadable, attest_failed};
 ghost use Rattle.approvals.specs.Sites.{IsFitSite, IsSiteOf};
@@ -98,7 +99,8 @@ pub fn attest_at(
 ) -> Result<Attested, Memory>
     requires fit { IsFitSite site.now }
     requires writable { IsWritable envelope.now }
-    ensures attested { IfOk result (λ a. (r : Repository) (target name from tree : List ℕ) → IsSiteOf r target name from tree site.now → attested r target name from tree envelope.now author.now ≡ Ok a) }
+    ensures attested { IfOk result (λ a. (r : Repository) (target name from tree : List ℕ)
+        → IsSiteOf r target name from tree site.now → attested r target name from tree envelope.now author.now ≡ Ok a) }
     ensures change { IfOk result (IsChange (approval_pair envelope.now) author.now) }
     ensures reads_back { OnOk result (reading (text_of envelope.now) ≡ Ok envelope.now) }
 {
@@ -138,11 +140,14 @@ pub fn attest<R: Keeper>(
 ) -> Result<Attested, AttestFault>
     requires approval { IsAttestable name.now from.now tree.now envelope.now }
     requires author { length author.now ≤ 1048576 }
-    ensures attested { IfOk result (λ a. (r : Repository) → R.content keeper.new ≡ Some r → attested r (target_in (option_copied attestations.entry)) name.now from.now tree.now envelope.now author.now ≡ Ok a) }
+    ensures attested { IfOk result (λ a. (r : Repository) → R.content keeper.new ≡ Some r
+        → attested r (target_in (option_copied attestations.entry)) name.now from.now tree.now envelope.now author.now
+        ≡ Ok a) }
     ensures change { IfOk result (IsChange (approval_pair envelope.now) author.now) }
     ensures reads_back { OnOk result (reading (text_of envelope.now) ≡ Ok envelope.now) }
     ensures unreadable { IfErr result (λ e. IfUnreadable e (λ id. (r : Repository) → R.content keeper.new ≡ Some r
-        → attested r (target_in (option_copied attestations.entry)) name.now from.now tree.now envelope.now author.now ≡ Err id)) }
+        → attested r (target_in (option_copied attestations.entry)) name.now from.now tree.now envelope.now author.now
+        ≡ Err id)) }
     ensures same { Undisturbed R.Keeper keeper.old keeper.new }
     ensures cause { HasCause attest_failed (R.faults keeper.old) (R.faults keeper.new) result }
     ensures reads { R.reads keeper.new ≤ R.reads keeper.old + 27 }

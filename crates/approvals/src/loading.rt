@@ -5,20 +5,16 @@ ghost use Rattle.std.specs.Option.{option_map};
 ghost use Rattle.octets.specs.Causes.{HasCause};
 ghost use Rattle.git_object.specs.Names.{components};
 ghost use Rattle.git_object.specs.Objects.{Pair};
-ghost use Rattle.git_object.specs.Repository.{Repository, object_at};
+ghost use Rattle.git_object.specs.Repository.{Repository};
 ghost use Rattle.keeper_api.specs.Faults.{keeper_failed};
 ghost use Rattle.keeper_api.specs.Undisturbed.{Undisturbed};
-ghost use Rattle.root_metadata.specs.Shapes.{only_if};
 ghost use Rattle.tree_paths.specs.Readings.{Readings, Told};
-ghost use Rattle.approvals.specs.Lookups.{blob_bytes, entry_in, file_in, is_file};
+ghost use Rattle.approvals.specs.Lookups.{entry_in, file_in, is_file};
 
-use git_object::{Kind, Mode, Object, ObjectId};
-use keeper_api::{Keeper, KeeperFault, load_object};
+use git_object::{Mode, Object, ObjectId};
+use keeper_api::{Keeper, KeeperFault};
 use std::alloc::Global;
-use tree_paths::{Peeled, load_at, root_of};
-
-// The most bytes of a file that is read.
-const LARGEST_FILE: usize = 1048576;
+use tree_paths::{Peeled, load_at, load_blob, root_of};
 
 // Whether the mode is a file's.
 fn is_file(mode: Mode) -> bool
@@ -30,16 +26,6 @@ fn is_file(mode: Mode) -> bool
     }
 }
 
-// Whether an object is a blob of at most 1 MiB.
-fn is_small_blob(object: &Object) -> bool
-    ensures { blob_bytes (Some object.now) ≡ only_if result object.now.body }
-{
-    match object.kind() {
-        Kind::Blob => object.body().len() <= LARGEST_FILE,
-        Kind::Tree | Kind::Commit | Kind::Tag => false,
-    }
-}
-
 // The mode and the id at a path of the tree of a target.
 fn find_entry<R: Keeper>(
     alloc: Global,
@@ -47,7 +33,8 @@ fn find_entry<R: Keeper>(
     target: &ObjectId,
     path: &[u8],
 ) -> Result<Option<(Mode, ObjectId)>, KeeperFault>
-    ensures found { IfOk result (λ found. (readings : Readings) → Told (R.content keeper.new) readings → found ≡ entry_in readings target.now path.now) }
+    ensures found { IfOk result (λ found. (readings : Readings) → Told (R.content keeper.new) readings
+        → found ≡ entry_in readings target.now path.now) }
     ensures same { Undisturbed R.Keeper keeper.old keeper.new }
     ensures cause { HasCause keeper_failed (R.faults keeper.old) (R.faults keeper.new) result }
     ensures reads { R.reads keeper.new ≤ R.reads keeper.old + (9 + length (components path.now)) }
@@ -62,26 +49,6 @@ fn find_entry<R: Keeper>(
     }
 }
 
-// The blob of an id, of at most 1 MiB.
-fn load_blob<R: Keeper>(
-    alloc: Global,
-    keeper: &mut R,
-    id: &ObjectId,
-) -> Result<Option<Object>, KeeperFault>
-    ensures found { IfOk result (λ found. (r : Repository) → R.content keeper.new ≡ Some r → option_map (λ (pair : Pair). pair.body) found ≡ blob_bytes (object_at r id.now)) }
-    ensures same { Undisturbed R.Keeper keeper.old keeper.new }
-    ensures cause { HasCause keeper_failed (R.faults keeper.old) (R.faults keeper.new) result }
-    ensures reads { R.reads keeper.new ≤ R.reads keeper.old + 1 }
-{
-    let Some(object) = load_object(alloc, keeper, id)? else {
-        return Ok(None);
-    };
-    if !is_small_blob(&object) {
-        return Ok(None);
-    }
-    Ok(Some(object))
-}
-
 /// The file at a path of the tree of a target: the target is peeled through at most 8 tags to a commit, directories of
 /// all names of the path but the last lead to a file, executable or not, that is a blob of at most 1 MiB. None where
 /// any of this fails. Its body has the file's bytes. It makes at most ten reads beside one for each name of the path.
@@ -91,7 +58,8 @@ pub(crate) fn load_file<R: Keeper>(
     target: &ObjectId,
     path: &[u8],
 ) -> Result<Option<Object>, KeeperFault>
-    ensures found { IfOk result (λ found. (r : Repository) → R.content keeper.new ≡ Some r → option_map (λ (pair : Pair). pair.body) found ≡ file_in r target.now path.now) }
+    ensures found { IfOk result (λ found. (r : Repository) → R.content keeper.new ≡ Some r
+        → option_map (λ (pair : Pair). pair.body) found ≡ file_in r target.now path.now) }
     ensures same { Undisturbed R.Keeper keeper.old keeper.new }
     ensures cause { HasCause keeper_failed (R.faults keeper.old) (R.faults keeper.new) result }
     ensures reads { R.reads keeper.new ≤ R.reads keeper.old + (10 + length (components path.now)) }

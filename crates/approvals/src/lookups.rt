@@ -88,7 +88,8 @@ fn approval_of(
     tree: &ObjectId,
 ) -> Result<Option<Envelope>, Memory>
     ensures found { IfOk result (λ found. found ≡ approval_of name.now from.now tree.now bytes.now) }
-    ensures approves { IfOk result (λ found. IfSome found (λ envelope. is_approval name.now from.now tree.now envelope ≡ true)) }
+    ensures approves { IfOk result
+        (λ found. IfSome found (λ envelope. is_approval name.now from.now tree.now envelope ≡ true)) }
     ensures writable { IfOk result (λ found. IfSome found IsWritable) }
 {
     let Some(envelope) = envelope_in(alloc, bytes)? else {
@@ -112,8 +113,10 @@ pub fn load_approval<R: Keeper>(
     from: &ObjectId,
     tree: &ObjectId,
 ) -> Result<Option<Envelope>, KeeperFault>
-    ensures found { IfOk result (λ found. (r : Repository) → R.content keeper.new ≡ Some r → found ≡ approval_at r attestations.now name.now from.now tree.now) }
-    ensures approves { IfOk result (λ found. IfSome found (λ envelope. is_approval name.now from.now tree.now envelope ≡ true)) }
+    ensures found { IfOk result (λ found. (r : Repository) → R.content keeper.new ≡ Some r
+        → found ≡ approval_at r attestations.now name.now from.now tree.now) }
+    ensures approves { IfOk result
+        (λ found. IfSome found (λ envelope. is_approval name.now from.now tree.now envelope ≡ true)) }
     ensures writable { IfOk result (λ found. IfSome found IsWritable) }
     ensures same { Undisturbed R.Keeper keeper.old keeper.new }
     ensures cause { HasCause keeper_failed (R.faults keeper.old) (R.faults keeper.new) result }
@@ -139,7 +142,8 @@ pub fn approvers<R: Keeper>(
     tree: &ObjectId,
     keys: &Keys,
 ) -> Result<KeyIds, KeeperFault>
-    ensures found { IfOk result (λ ids. (r : Repository) → R.content keeper.new ≡ Some r → ids ≡ approvers_of r attestations.now name.now from.now tree.now keys.now) }
+    ensures found { IfOk result (λ ids. (r : Repository) → R.content keeper.new ≡ Some r
+        → ids ≡ approvers_of r attestations.now name.now from.now tree.now keys.now) }
     ensures same { Undisturbed R.Keeper keeper.old keeper.new }
     ensures cause { HasCause keeper_failed (R.faults keeper.old) (R.faults keeper.new) result }
     ensures reads { R.reads keeper.new ≤ R.reads keeper.old + 28 }

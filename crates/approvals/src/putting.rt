@@ -1,6 +1,7 @@
 //! Trees with a file put at a path, and nothing else changed.
 
-ghost use Rattle.std.specs.Prelude.{◌≡◌, ◌≤◌, ◌++◌, ◌∷◌, [], ℕ, List, length, Ok, Err, IfOk, IfErr, IfNone, IfSome, OnOk, Option};
+ghost use Rattle.std.specs.Prelude.{◌≡◌, ◌≤◌, ◌++◌, ◌∷◌, [], ℕ, List, length, Ok, Err, IfOk, IfErr, IfNone, IfSome};
+ghost use Rattle.std.specs.Prelude.{OnOk, Option};
 ghost use Rattle.std.specs.List.{AllByRecursion};
 ghost use Rattle.git_object.specs.EntryParts.{entry_of};
 ghost use Rattle.git_object.specs.Names.{components};
@@ -33,8 +34,10 @@ pub enum Placed {
 
 // The old tree, where it is in the way of a body of more than 16 MiB.
 fn in_way_of(old: &Option<ObjectId>, body: &Octets) -> Option<ObjectId>
-    ensures some { IfSome result (λ id. (below : List Pair) (pair : Pair) → pair.body ≡ body.now → with_tree old.now below pair ≡ Err id) }
-    ensures none { IfNone result ((below : List Pair) (pair : Pair) → pair.body ≡ body.now → with_tree old.now below pair ≡ Ok (record { objects = below ++ pair ∷ []; root = pair_id pair })) }
+    ensures some { IfSome result (λ id. (below : List Pair) (pair : Pair) → pair.body ≡ body.now
+        → with_tree old.now below pair ≡ Err id) }
+    ensures none { IfNone result ((below : List Pair) (pair : Pair) → pair.body ≡ body.now
+        → with_tree old.now below pair ≡ Ok (record { objects = below ++ pair ∷ []; root = pair_id pair })) }
 {
     let Some(id) = old else {
         return None;
@@ -47,9 +50,11 @@ fn in_way_of(old: &Option<ObjectId>, body: &Octets) -> Option<ObjectId>
 
 // The id under a name, where a directory stands there.
 fn dir_in_way(entries: &[TreeEntry], name: &[u8]) -> Option<ObjectId>
-    ensures some { IfSome result (λ id. (old : Option (List ℕ)) (blob : List ℕ) → put_last old name.now blob entries.now (entry_named name.now entries.now) ≡ Err id) }
+    ensures some { IfSome result (λ id. (old : Option (List ℕ)) (blob : List ℕ)
+        → put_last old name.now blob entries.now (entry_named name.now entries.now) ≡ Err id) }
     ensures none { IfNone result ((old : Option (List ℕ)) (blob : List ℕ)
-        → put_last old name.now blob entries.now (entry_named name.now entries.now) ≡ with_tree old [] (tree_pair (put_entry (entry_of File name.now blob) entries.now))) }
+        → put_last old name.now blob entries.now (entry_named name.now entries.now) ≡ with_tree old []
+        (tree_pair (put_entry (entry_of File name.now blob) entries.now))) }
     ensures alike { IfNone result (IsAlike File (entry_named name.now entries.now)) }
 {
     let Some(entry) = entry_named(entries, name) else {
@@ -90,9 +95,11 @@ fn put_tree(
 
 /// The id under a name, where a directory stands there; None where nothing does; or the other thing that is in the way.
 pub fn dir_named(entries: &[TreeEntry], name: &[u8]) -> Result<Option<ObjectId>, ObjectId>
-    ensures found { IfOk result (λ dir. (next : Option (List ℕ) → Putting) → put_below next (entry_named name.now entries.now) ≡ next dir) }
+    ensures found { IfOk result (λ dir. (next : Option (List ℕ) → Putting)
+        → put_below next (entry_named name.now entries.now) ≡ next dir) }
     ensures alike { OnOk result (IsAlike Dir (entry_named name.now entries.now)) }
-    ensures other { IfErr result (λ id. (next : Option (List ℕ) → Putting) → put_below next (entry_named name.now entries.now) ≡ Err id) }
+    ensures other { IfErr result (λ id. (next : Option (List ℕ) → Putting)
+        → put_below next (entry_named name.now entries.now) ≡ Err id) }
 {
     match entry_named(entries, name) {
         Some(entry) => {
@@ -116,7 +123,8 @@ fn put_last(
 ) -> Result<Placed, Memory>
     requires formed { AreWellFormed entries.now }
     requires named { IsEntryName name.now }
-    ensures placed { IfOk result (λ placed. IsPlaced placed (put_last old.now name.now blob.now entries.now (entry_named name.now entries.now)) objects.old objects.new) }
+    ensures placed { IfOk result (λ placed. IsPlaced placed
+        (put_last old.now name.now blob.now entries.now (entry_named name.now entries.now)) objects.old objects.new) }
     ensures added { IfOk result (λ placed. IfMade placed (Adds objects.old objects.new)) }
 {
     if let Some(id) = dir_in_way(entries, name) {
@@ -145,7 +153,8 @@ pub fn put_levels(
     requires named { AllByRecursion IsEntryName (components path.now) }
     requires few { length (components path.now) ≤ 18 }
     requires levels { AreLevels (components path.now) levels.now }
-    ensures placed { IfOk result (λ placed. IsPlaced placed (put_levels blob.now (components path.now) levels.now) objects.old objects.new) }
+    ensures placed { IfOk result (λ placed. IsPlaced placed (put_levels blob.now (components path.now) levels.now)
+        objects.old objects.new) }
     ensures added { IfOk result (λ placed. IfMade placed (Adds objects.old objects.new)) }
 {
     let Some((level, below)) = levels.split_first() else {

@@ -1,6 +1,7 @@
 //! Where an approval is put among the attestations: all that has to be read for it.
 
-ghost use Rattle.std.specs.Prelude.{◌≡◌, ◌≤◌, ◌+◌, ℕ, List, length, Err, Ok, Some, Option, IfErr, IfNone, IfOk, IfSome, OnOk};
+ghost use Rattle.std.specs.Prelude.{◌≡◌, ◌≤◌, ◌+◌, ℕ, List, length, Err, Ok, Some, Option, IfErr, IfNone, IfOk, IfSome};
+ghost use Rattle.std.specs.Prelude.{OnOk};
 ghost use Rattle.std.specs.List.{AllByRecursion};
 ghost use Rattle.std.specs.Option.{option_copied};
 ghost use Rattle.octets.specs.Causes.{HasCause};
@@ -54,7 +55,8 @@ fn in_way(alloc: Global, levels: &[Level], path: &[u8]) -> Result<Option<ObjectI
     requires few { length (components path.now) ≤ 18 }
     requires levels { AreLevels (components path.now) levels.now }
     ensures fit { IfOk result (λ in_way. IfNone in_way (IsFit path.now levels.now)) }
-    ensures in_way { IfOk result (λ in_way. IfSome in_way (λ id. put_levels zeros (components path.now) levels.now ≡ Err id)) }
+    ensures in_way { IfOk result (λ in_way. IfSome in_way (λ id. put_levels zeros (components path.now) levels.now
+        ≡ Err id)) }
 {
     let mut trial = Objects::new(alloc);
     match put_levels(alloc, levels, path, &ObjectId::zeros(), &mut trial)? {
@@ -74,9 +76,12 @@ fn site_after<R: Keeper>(
     requires named { AllByRecursion IsEntryName (components path) }
     requires few { length (components path) ≤ 18 }
     ensures fit { IfOk result (λ found. IfOk found IsFitSite) }
-    ensures made { IfOk result (λ found. IfOk found (λ site. (site.parent ≡ parent) × (site.path ≡ path) × ((readings : Readings) → Told (R.content keeper.new) readings
-        → (blob : List ℕ) → put_file readings.trees blob (components path) old ≡ put_levels blob (components path) site.levels))) }
-    ensures in_way { IfOk result (λ found. IfErr found (λ id. (readings : Readings) → Told (R.content keeper.new) readings
+    ensures made { IfOk result (λ found. IfOk found (λ site. (site.parent ≡ parent) × (site.path ≡ path)
+        × ((readings : Readings) → Told (R.content keeper.new) readings
+        → (blob : List ℕ) → put_file readings.trees blob (components path) old ≡ put_levels blob (components path)
+        site.levels))) }
+    ensures in_way { IfOk result (λ found. IfErr found (λ id. (readings : Readings)
+        → Told (R.content keeper.new) readings
         → (blob : List ℕ) → length blob ≡ 32 → put_file readings.trees blob (components path) old ≡ Err id)) }
     ensures same { Undisturbed R.Keeper keeper.old keeper.new }
     ensures cause { HasCause keeper_failed (R.faults keeper.old) (R.faults keeper.new) result }
@@ -106,9 +111,11 @@ fn site_at<R: Keeper>(
     requires named { AllByRecursion IsEntryName (components path) }
     requires few { length (components path) ≤ 18 }
     ensures fit { IfOk result (λ found. IfOk found IsFitSite) }
-    ensures made { IfOk result (λ found. IfOk found (λ site. (readings : Readings) → Told (R.content keeper.new) readings
+    ensures made { IfOk result (λ found. IfOk found (λ site. (readings : Readings)
+        → Told (R.content keeper.new) readings
         → GivesAfter readings.trees (components path) (root_of readings.heads target.now) site)) }
-    ensures in_way { IfOk result (λ found. IfErr found (λ id. (readings : Readings) → Told (R.content keeper.new) readings
+    ensures in_way { IfOk result (λ found. IfErr found (λ id. (readings : Readings)
+        → Told (R.content keeper.new) readings
         → RefusesAfter readings.trees (components path) (root_of readings.heads target.now) id)) }
     ensures same { Undisturbed R.Keeper keeper.old keeper.new }
     ensures cause { HasCause keeper_failed (R.faults keeper.old) (R.faults keeper.new) result }
@@ -137,8 +144,10 @@ fn site_of<R: Keeper>(
     tree: &ObjectId,
 ) -> Result<Result<Site, ObjectId>, KeeperFault>
     ensures fit { IfOk result (λ found. IfOk found IsFitSite) }
-    ensures site { IfOk result (λ found. IfOk found (λ site. (r : Repository) → R.content keeper.new ≡ Some r → IsSiteOf r target.now name.now from.now tree.now site)) }
-    ensures in_way { IfOk result (λ found. IfErr found (λ id. (r : Repository) → R.content keeper.new ≡ Some r → IsInWayOf r target.now name.now from.now tree.now id)) }
+    ensures site { IfOk result (λ found. IfOk found (λ site. (r : Repository) → R.content keeper.new ≡ Some r
+        → IsSiteOf r target.now name.now from.now tree.now site)) }
+    ensures in_way { IfOk result (λ found. IfErr found (λ id. (r : Repository) → R.content keeper.new ≡ Some r
+        → IsInWayOf r target.now name.now from.now tree.now id)) }
     ensures same { Undisturbed R.Keeper keeper.old keeper.new }
     ensures cause { HasCause keeper_failed (R.faults keeper.old) (R.faults keeper.new) result }
     ensures reads { R.reads keeper.new ≤ R.reads keeper.old + 27 }
@@ -162,8 +171,11 @@ pub fn find_site<R: Keeper>(
     tree: &ObjectId,
 ) -> Result<Site, AttestFault>
     ensures fit { IfOk result IsFitSite }
-    ensures site { IfOk result (λ site. (r : Repository) → R.content keeper.new ≡ Some r → IsSiteOf r (target_in (option_copied attestations.entry)) name.now from.now tree.now site) }
-    ensures unreadable { IfErr result (λ e. IfUnreadable e (λ id. (r : Repository) → R.content keeper.new ≡ Some r → IsInWayOf r (target_in (option_copied attestations.entry)) name.now from.now tree.now id)) }
+    ensures site { IfOk result (λ site. (r : Repository) → R.content keeper.new ≡ Some r
+        → IsSiteOf r (target_in (option_copied attestations.entry)) name.now from.now tree.now site) }
+    ensures unreadable { IfErr result
+        (λ e. IfUnreadable e (λ id. (r : Repository) → R.content keeper.new ≡ Some r
+        → IsInWayOf r (target_in (option_copied attestations.entry)) name.now from.now tree.now id)) }
     ensures same { Undisturbed R.Keeper keeper.old keeper.new }
     ensures cause { HasCause attest_failed (R.faults keeper.old) (R.faults keeper.new) result }
     ensures reads { R.reads keeper.new ≤ R.reads keeper.old + 27 }

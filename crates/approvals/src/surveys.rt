@@ -33,7 +33,8 @@ fn load_old<R: Keeper>(
     keeper: &mut R,
     old: &Option<ObjectId>,
 ) -> Result<Result<TreeEntries, ObjectId>, KeeperFault>
-    ensures found { IfOk result (λ found. (readings : Readings) → Told (R.content keeper.new) readings → found ≡ old_entries readings.trees old.now) }
+    ensures found { IfOk result (λ found. (readings : Readings) → Told (R.content keeper.new) readings
+        → found ≡ old_entries readings.trees old.now) }
     ensures formed { IfOk result (λ found. IfOk found AreWellFormed) }
     ensures same { Undisturbed R.Keeper keeper.old keeper.new }
     ensures cause { HasCause keeper_failed (R.faults keeper.old) (R.faults keeper.new) result }
@@ -59,8 +60,10 @@ pub fn survey<R: Keeper>(
     levels: &mut Levels,
 ) -> Result<Option<ObjectId>, KeeperFault>
     requires few { length (components path.now) ≤ 18 }
-    ensures found { IfOk result (λ in_way. IfNone in_way (HasLevels (R.content keeper.new) (components path.now) old.now levels.old levels.new)) }
-    ensures in_way { IfOk result (λ in_way. IfSome in_way (λ id. (readings : Readings) → Told (R.content keeper.new) readings
+    ensures found { IfOk result (λ in_way. IfNone in_way
+        (HasLevels (R.content keeper.new) (components path.now) old.now levels.old levels.new)) }
+    ensures in_way { IfOk result (λ in_way. IfSome in_way (λ id. (readings : Readings)
+        → Told (R.content keeper.new) readings
         → (blob : List ℕ) → put_file readings.trees blob (components path.now) old.now ≡ Err id)) }
     ensures same { Undisturbed R.Keeper keeper.old keeper.new }
     ensures cause { HasCause keeper_failed (R.faults keeper.old) (R.faults keeper.new) result }

@@ -1,6 +1,7 @@
 //! Reading so many bytes into a buffer of their own.
 
-ghost use Rattle.std.specs.Prelude.{◌≡◌, ◌≢◌, ◌≤◌, ◌<◌, ◌+◌, ◌⊎◌, [], length, false, IfOk, IfSome, IsErrOf, IsTrue, OnOk, OnErr};
+ghost use Rattle.std.specs.Prelude.{◌≡◌, ◌≢◌, ◌≤◌, ◌<◌, ◌+◌, ◌⊎◌, [], length, false, IfOk, IfSome, IsErrOf, IsTrue};
+ghost use Rattle.std.specs.Prelude.{OnOk, OnErr};
 ghost use Rattle.octets.specs.Causes.{HasCause, each};
 ghost use Rattle.buffered_reader.specs.Faults.{exact_failed};
 ghost use Rattle.octets.specs.Content.{with_front};
@@ -37,10 +38,13 @@ impl BufferedReader {
 
     // Fills `out`, or stops where the input ends or the source fails.
     fn fill<S: Source>(&mut self, source: &mut S, out: &mut [u8]) -> Result<(), ExactFault>
-        ensures ahead { OnOk result (ahead self.old (S.left source.old) ≡ with_front out.new (ahead self.new (S.left source.new))) }
+        ensures ahead { OnOk result (ahead self.old (S.left source.old) ≡ with_front out.new
+            (ahead self.new (S.left source.new))) }
         ensures taken { OnOk result (self.new.taken ≡ self.old.taken + length out.new) }
-        ensures cut { IsErrOf result ExactFault.Cut → IfSome (ahead self.old (S.left source.old)) (EndsIn (IsShorter (length out.new)) self.old self.new) }
-        ensures failed { IsErrOf result ExactFault.Failed → StopsAfter (IsShorter (length out.new)) self.old self.new (ahead self.old (S.left source.old)) (ahead self.new (S.left source.new)) }
+        ensures cut { IsErrOf result ExactFault.Cut
+            → IfSome (ahead self.old (S.left source.old)) (EndsIn (IsShorter (length out.new)) self.old self.new) }
+        ensures failed { IsErrOf result ExactFault.Failed → StopsAfter (IsShorter (length out.new)) self.old self.new
+            (ahead self.old (S.left source.old)) (ahead self.new (S.left source.new)) }
         ensures no_memory { IsErrOf result ExactFault.Memory → ⊥ }
         ensures past { past self.new (S.left source.new) ≡ past self.old (S.left source.old) }
         ensures limit { self.new.limit ≡ self.old.limit }
@@ -68,11 +72,16 @@ impl BufferedReader {
         count: usize,
     ) -> Result<Octets, ExactFault>
         ensures len { IfOk result (λ bytes. length bytes ≡ count) }
-        ensures ahead { IfOk result (λ bytes. ahead self.old (S.left source.old) ≡ with_front bytes (ahead self.new (S.left source.new))) }
+        ensures ahead { IfOk result (λ bytes. ahead self.old (S.left source.old) ≡ with_front bytes
+            (ahead self.new (S.left source.new))) }
         ensures taken { OnOk result (self.new.taken ≡ self.old.taken + count) }
-        ensures cut { IsErrOf result ExactFault.Cut → IfSome (ahead self.old (S.left source.old)) (EndsIn (IsShorter count) self.old self.new) }
-        ensures failed { IsErrOf result ExactFault.Failed → StopsAfter (IsShorter count) self.old self.new (ahead self.old (S.left source.old)) (ahead self.new (S.left source.new)) }
-        ensures memory { IsErrOf result ExactFault.Memory → (self.new ≡ self.old) × (S.left source.new ≡ S.left source.old) }
+        ensures cut { IsErrOf result ExactFault.Cut
+            → IfSome (ahead self.old (S.left source.old)) (EndsIn (IsShorter count) self.old self.new) }
+        ensures failed { IsErrOf result ExactFault.Failed
+            → StopsAfter (IsShorter count) self.old self.new (ahead self.old (S.left source.old))
+            (ahead self.new (S.left source.new)) }
+        ensures memory { IsErrOf result ExactFault.Memory → (self.new ≡ self.old)
+            × (S.left source.new ≡ S.left source.old) }
         ensures past { past self.new (S.left source.new) ≡ past self.old (S.left source.old) }
         ensures limit { self.new.limit ≡ self.old.limit }
         ensures cause { HasCause exact_failed (S.faults source.old) (S.faults source.new) result }
@@ -89,10 +98,14 @@ impl BufferedReader {
     /// Whether the input goes on past the limit. It is for where nothing is ahead any more: then the source is
     /// at its end where the answer is no. It takes one byte off the source where the answer is yes, and else none.
     pub fn passes_limit<S: Source>(&mut self, source: &mut S) -> Result<bool, Failed>
-        ensures more { IfOk result (λ more. IsTrue more → (self.old.taken ≡ self.old.limit) × IfSome (past self.old (S.left source.old)) (λ rest. rest ≢ [])) }
-        ensures one { IfOk result (λ more. IsTrue more → TakesOne (past self.old (S.left source.old)) (S.left source.new)) }
-        ensures none { IfOk result (λ more. more ≡ false → (self.old.taken < self.old.limit) ⊎ IfSome (past self.old (S.left source.old)) (λ rest. rest ≡ [])) }
-        ensures end { IfOk result (λ more. more ≡ false → self.old.buffered ≡ [] → IfSome (ahead self.old (S.left source.old)) (λ rest. rest ≡ []) → IsAtEnd (S.left source.new)) }
+        ensures more { IfOk result (λ more. IsTrue more → (self.old.taken ≡ self.old.limit)
+            × IfSome (past self.old (S.left source.old)) (λ rest. rest ≢ [])) }
+        ensures one { IfOk result (λ more. IsTrue more
+            → TakesOne (past self.old (S.left source.old)) (S.left source.new)) }
+        ensures none { IfOk result (λ more. more ≡ false → (self.old.taken < self.old.limit)
+            ⊎ IfSome (past self.old (S.left source.old)) (λ rest. rest ≡ [])) }
+        ensures end { IfOk result (λ more. more ≡ false → self.old.buffered ≡ []
+            → IfSome (ahead self.old (S.left source.old)) (λ rest. rest ≡ []) → IsAtEnd (S.left source.new)) }
         ensures unread { IfOk result (λ more. more ≡ false → S.left source.new ≡ S.left source.old) }
         ensures same { self.new ≡ self.old }
         ensures limited { self.old.taken ≤ self.old.limit }

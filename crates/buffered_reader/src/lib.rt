@@ -1,9 +1,6 @@
 //! A reader with a buffer before a source, which takes no more bytes than a limit.
 //!
-//! This crate stands on `octets`, `text_reader` and `edge_io`. A crate above may rely on what each call takes
-//! off the front of what is ahead, the buffered bytes and then the source's, up to the limit: a byte, a line,
-//! or so many bytes, which go straight into their own buffer. Where a call stops in the middle, at the end of
-//! the input or at a fault of the source, its contract says what was there. Lines take no memory.
+//! What it promises, and where to begin: `README.md` in this crate's folder.
 
 #![tactic(auto)]
 

@@ -40,13 +40,18 @@ impl BufferedReader {
     /// memory.
     pub fn line<S: Source>(&mut self, source: &mut S) -> Result<Line, LineFault>
         ensures is_line { IfOk result IsLine }
-        ensures ahead { IfOk result (λ line. ahead self.old (S.left source.old) ≡ with_front (line ++ 10 ∷ []) (ahead self.new (S.left source.new))) }
+        ensures ahead { IfOk result (λ line. ahead self.old (S.left source.old) ≡ with_front (line ++ 10 ∷ [])
+            (ahead self.new (S.left source.new))) }
         ensures taken { IfOk result (λ line. self.new.taken ≡ self.old.taken + length line + 1) }
         ensures limited { OnOk result (self.new.taken ≤ self.new.limit) }
         ensures long { IsErrOf result LineFault.Long → IfSome (ahead self.old (S.left source.old)) IsLong }
-        ensures long_taken { IsErrOf result LineFault.Long → TakesLong self.old self.new (ahead self.old (S.left source.old)) (ahead self.new (S.left source.new)) }
-        ensures cut { IsErrOf result LineFault.Cut → IfSome (ahead self.old (S.left source.old)) (EndsIn IsLine self.old self.new) }
-        ensures failed { IsErrOf result LineFault.Failed → StopsAfter IsLine self.old self.new (ahead self.old (S.left source.old)) (ahead self.new (S.left source.new)) }
+        ensures long_taken { IsErrOf result LineFault.Long
+            → TakesLong self.old self.new (ahead self.old (S.left source.old)) (ahead self.new (S.left source.new)) }
+        ensures cut { IsErrOf result LineFault.Cut
+            → IfSome (ahead self.old (S.left source.old)) (EndsIn IsLine self.old self.new) }
+        ensures failed { IsErrOf result LineFault.Failed
+            → StopsAfter IsLine self.old self.new (ahead self.old (S.left source.old))
+            (ahead self.new (S.left source.new)) }
         ensures past { past self.new (S.left source.new) ≡ past self.old (S.left source.old) }
         ensures limit { self.new.limit ≡ self.old.limit }
         ensures cause { HasCause line_failed (S.faults source.old) (S.faults source.new) result }

@@ -1,6 +1,7 @@
 //! The reader, and the calls that touch its buffer.
 
-ghost use Rattle.std.specs.Prelude.{◌≡◌, ◌≢◌, ◌≤◌, ◌<◌, ◌+◌, ◌-◌, ◌⊎◌, ◌↔◌, ◌++◌, ◌∷◌, [], ℕ, List, Option, length, take, drop, min, IfOk, IfSome, IfNone, IsTrue, OnErr, false};
+ghost use Rattle.std.specs.Prelude.{◌≡◌, ◌≢◌, ◌≤◌, ◌<◌, ◌+◌, ◌-◌, ◌⊎◌, ◌↔◌, ◌++◌, ◌∷◌, [], ℕ, List, Option, length};
+ghost use Rattle.std.specs.Prelude.{take, drop, min, IfOk, IfSome, IfNone, IsTrue, OnErr, false};
 ghost use Rattle.octets.specs.Causes.{HasCause, each};
 ghost use Rattle.octets.specs.Content.{with_front};
 
@@ -113,7 +114,10 @@ impl BufferedReader {
     // Takes bytes off the front of the buffer.
     fn pass(&mut self, count: usize)
         requires { count ≤ length self.old.buffered }
-        ensures after { self.new ≡ record self.old { buffered = drop count self.old.buffered; taken = self.old.taken + count } }
+        ensures after { self.new ≡ record self.old {
+          buffered = drop count self.old.buffered;
+          taken = self.old.taken + count;
+        } }
         ensures limited { self.old.taken + length self.old.buffered ≤ self.old.limit }
     {
         self.from += count;
@@ -134,7 +138,8 @@ impl BufferedReader {
         requires drained { self.old.buffered ≡ [] }
         requires small { room ≤ 4096 }
         requires limited { self.old.taken + room ≤ self.old.limit }
-        ensures read { IfOk result (λ count. (length self.new.buffered ≡ count) × (S.left source.old ≡ with_front self.new.buffered (S.left source.new))) }
+        ensures read { IfOk result (λ count. (length self.new.buffered ≡ count)
+            × (S.left source.old ≡ with_front self.new.buffered (S.left source.new))) }
         ensures end { IfOk result (λ count. count ≡ 0 → 0 < room → IfSome (S.left source.old) (λ rest. rest ≡ [])) }
         ensures failed { OnErr result ((self.new ≡ self.old) × (S.left source.new ≡ S.left source.old)) }
         ensures taken { self.new.taken ≡ self.old.taken }
@@ -153,7 +158,8 @@ impl BufferedReader {
     // the input.
     fn ready<S: Source>(&mut self, source: &mut S) -> Result<bool, Failed>
         ensures some { IfOk result (λ ready. IsTrue ready → 0 < length self.new.buffered) }
-        ensures end { IfOk result (λ ready. ready ≡ false → IfSome (ahead self.old (S.left source.old)) (λ rest. rest ≡ [])) }
+        ensures end { IfOk result (λ ready. ready ≡ false
+            → IfSome (ahead self.old (S.left source.old)) (λ rest. rest ≡ [])) }
         ensures ahead { ahead self.new (S.left source.new) ≡ ahead self.old (S.left source.old) }
         ensures past { past self.new (S.left source.new) ≡ past self.old (S.left source.old) }
         ensures taken { self.new.taken ≡ self.old.taken }
@@ -178,10 +184,12 @@ impl BufferedReader {
 
     /// Takes a byte, or answers None at the end of the input and at the limit.
     pub fn byte<S: Source>(&mut self, source: &mut S) -> Result<Option<u8>, Failed>
-        ensures ahead { IfOk result (λ found. ahead self.old (S.left source.old) ≡ with_front (bytes_of found) (ahead self.new (S.left source.new))) }
+        ensures ahead { IfOk result (λ found. ahead self.old (S.left source.old) ≡ with_front (bytes_of found)
+            (ahead self.new (S.left source.new))) }
         ensures taken { IfOk result (λ found. self.new.taken ≡ self.old.taken + length (bytes_of found)) }
         ensures limited { IfOk result (λ found. IfSome found (λ _. self.new.taken ≤ self.new.limit)) }
-        ensures end { IfOk result (λ found. IfNone found (IfSome (ahead self.old (S.left source.old)) (λ rest. rest ≡ []))) }
+        ensures end { IfOk result (λ found. IfNone found
+            (IfSome (ahead self.old (S.left source.old)) (λ rest. rest ≡ []))) }
         ensures failed { OnErr result (ahead self.new (S.left source.new) ≡ ahead self.old (S.left source.old)) }
         ensures failed_taken { OnErr result (self.new.taken ≡ self.old.taken) }
         ensures end_drained { IfOk result (λ found. IfNone found (self.new.buffered ≡ [])) }
@@ -202,9 +210,11 @@ impl BufferedReader {
     /// where `out` is empty. Bytes that are not buffered go from the source straight into `out`.
     pub fn read<S: Source>(&mut self, source: &mut S, out: &mut [u8]) -> Result<usize, Failed>
         ensures bound { IfOk result (λ count. count ≤ length out.new) }
-        ensures ahead { IfOk result (λ count. ahead self.old (S.left source.old) ≡ with_front (take count out.new) (ahead self.new (S.left source.new))) }
+        ensures ahead { IfOk result (λ count. ahead self.old (S.left source.old) ≡ with_front (take count out.new)
+            (ahead self.new (S.left source.new))) }
         ensures taken { IfOk result (λ count. self.new.taken ≡ self.old.taken + count) }
-        ensures end { IfOk result (λ count. count ≡ 0 → 0 < length out.new → IfSome (ahead self.old (S.left source.old)) (λ rest. rest ≡ [])) }
+        ensures end { IfOk result (λ count. count ≡ 0 → 0 < length out.new
+            → IfSome (ahead self.old (S.left source.old)) (λ rest. rest ≡ [])) }
         ensures failed { OnErr result (ahead self.new (S.left source.new) ≡ ahead self.old (S.left source.old)) }
         ensures failed_taken { OnErr result (self.new.taken ≡ self.old.taken) }
         ensures end_drained { IfOk result (λ count. count ≡ 0 → 0 < length out.new → self.new.buffered ≡ []) }

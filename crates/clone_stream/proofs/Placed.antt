@@ -11,13 +11,13 @@ use Rattle.clone_stream.specs.Records.{IsBroken, IsLate}
 use Rattle.clone_stream.specs.Stopping.{StopsAt}
 use Rattle.clone_stream.specs.Streams.{IsRef, object_line, ref_line}
 use Rattle.clone_stream.specs.Words.{IsHead}
-use Rattle.clone_stream.specs.declared.line_words.Head.{Head}
+use Rattle.clone_stream.specs.declared.line_words.ObjectLine.{ObjectLine}
 use Rattle.clone_stream.specs.declared.stream_faults.Break.{Break}
 use Rattle.clone_stream.specs.declared.stream_faults.Break.TheVariants.{BadLine, IdDiffers, Order, TooLarge, Cut, Failed, Memory}
 use Rattle.clone_stream.proofs.Broken.{told}
 
 -- what breaks an object after its line breaks the record that begins at the line
-pub object_breaks : {T : Type 0} (r : Result T Break) (last : Last) (o mid : Option (List ℕ)) (at mid_at : ℕ) (head : Head) → IsHead head → o ≡ with_front (object_line head.id head.kind (decimal head.size) ++ 10 ∷ []) mid
+pub object_breaks : {T : Type 0} (r : Result T Break) (last : Last) (o mid : Option (List ℕ)) (at mid_at : ℕ) (head : ObjectLine) → IsHead head → o ≡ with_front (object_line head.id head.kind (decimal head.size) ++ 10 ∷ []) mid
     → mid_at ≡ at + length (object_line head.id head.kind (decimal head.size)) + 1
     → IfErr r (λ fault. IsLate last at head.id fault ⊎ IfSome mid (λ rest. IsBroken last head.id head.kind head.size mid_at rest fault))
     → IfErr r (λ fault. IfSome o (λ rest. BreaksRecord last at rest fault))

@@ -5,9 +5,11 @@ use Rattle.git_object.specs.Repository.{largest_body}
 use Rattle.git_object.specs.declared.kinds.Kind.{Kind}
 use Rattle.clone_stream.specs.Streams.{object_line}
 use Rattle.clone_stream.specs.Words.{IsHugeLine, IsOtherLine}
-use Rattle.clone_stream.specs.Wrongs.{ComesObject, HasBadEnd, HasHead, HasLateObject, HasLateRef, HasMoreThanEnd, HasOtherId, HasRef, HasWrongLine, IsPartOf, Last}
+use Rattle.clone_stream.specs.Wrongs.{ComesObject, HasBadEnd, HasHead, HasLateObject, HasLateRef, HasMoreThanEnd}
+use Rattle.clone_stream.specs.Wrongs.{HasOtherId, HasRef, HasWrongLine, IsPartOf, Last}
 use Rattle.clone_stream.specs.declared.stream_faults.Break.{Break}
-use Rattle.clone_stream.specs.declared.stream_faults.Break.TheVariants.{BadLine, IdDiffers, Order, TooLarge, Cut, Failed, Memory}
+use Rattle.clone_stream.specs.declared.stream_faults.Break.TheVariants.{BadLine, IdDiffers, Order, TooLarge, Cut}
+use Rattle.clone_stream.specs.declared.stream_faults.Break.TheVariants.{Failed, Memory}
 
 -- the source failed after so many bytes: what was read till then is a part
 pub record FailsIn (IsPart : List ℕ → Type 0) (at : ℕ) (rest : List ℕ) (p : ℕ) : Type 0 where
@@ -59,7 +61,8 @@ pub record BreaksObject (last : Last) (at : ℕ) (rest : List ℕ) (fault : Brea
 
 -- what breaks at the record that begins at this place, after these
 abbrev pub BreaksRecord : Last → ℕ → List ℕ → Break → Type 0
-BreaksRecord last at rest fault = BreaksLine at rest fault ⊎ (BreaksOrder last at rest fault ⊎ BreaksObject last at rest fault)
+BreaksRecord last at rest fault = BreaksLine at rest fault
+    ⊎ (BreaksOrder last at rest fault ⊎ BreaksObject last at rest fault)
 
 -- what breaks after the last line, which begins at this place
 abbrev pub BreaksEnd : ℕ → List ℕ → Break → Type 0

@@ -5,7 +5,9 @@ use Rattle.clone_stream.specs.Fronts.{FirstBreak}
 use Rattle.clone_stream.specs.Streams.{IsStreamText, largest_stream}
 use Rattle.clone_stream.specs.declared.stream_faults.Break.TheVariants as break_
 use Rattle.clone_stream.specs.declared.stream_faults.StreamFault.{StreamFault}
-use Rattle.clone_stream.specs.declared.stream_faults.StreamFault.TheVariants.{BadLine, IdDiffers, Order, TooLarge, Truncated, SourceFailed, KeeperFailed, NotEmpty, Memory}
+use Rattle.clone_stream.specs.declared.stream_faults.StreamFault.TheVariants.{BadLine, IdDiffers, Order, TooLarge}
+use Rattle.clone_stream.specs.declared.stream_faults.StreamFault.TheVariants.{Truncated, SourceFailed, KeeperFailed}
+use Rattle.clone_stream.specs.declared.stream_faults.StreamFault.TheVariants.{NotEmpty, Memory}
 
 -- nothing in these bytes is refused: they are a stream, or the front of one that is cut
 abbrev pub IsUnbroken : List ℕ → Type 0
@@ -21,7 +23,8 @@ abbrev pub DecidesWithin : ℕ → List ℕ → StreamFault → Type 0
 DecidesWithin limit input (BadLine p) = FirstBreak (take limit input) (break_.BadLine p)
 DecidesWithin limit input (IdDiffers id found) = FirstBreak (take limit input) (break_.IdDiffers id found)
 DecidesWithin limit input (Order p) = FirstBreak (take limit input) (break_.Order p)
-DecidesWithin limit input (TooLarge n) = FirstBreak (take limit input) (break_.TooLarge n) ⊎ ((n ≡ limit) × PassesLimit limit input)
+DecidesWithin limit input (TooLarge n) = FirstBreak (take limit input) (break_.TooLarge n)
+    ⊎ ((n ≡ limit) × PassesLimit limit input)
 DecidesWithin limit input (Truncated p) = (drop limit input ≡ []) × FirstBreak (take limit input) (break_.Cut p)
 DecidesWithin limit input SourceFailed = ⊥
 DecidesWithin limit input KeeperFailed = ⊥

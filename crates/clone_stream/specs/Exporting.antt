@@ -5,9 +5,11 @@ use Rattle.std.specs.FinMap.{entries}
 use Rattle.octets.specs.Content.{with_end}
 use Rattle.git_object.specs.Objects.{Pair}
 use Rattle.git_object.specs.Repository.{IsObject, Repository}
-use Rattle.clone_stream.specs.Streams.{IsOwn, IsStreamText, end_line, header, largest_stream, object_record, ref_record, stream_text}
+use Rattle.clone_stream.specs.Streams.{IsOwn, IsStreamText, end_line, header, largest_stream, object_record, ref_record}
+use Rattle.clone_stream.specs.Streams.{stream_text}
 use Rattle.clone_stream.specs.declared.export_faults.ExportFault.{ExportFault}
-use Rattle.clone_stream.specs.declared.export_faults.ExportFault.TheVariants.{Damaged, TooLarge, KeeperFailed, SinkFailed, Memory}
+use Rattle.clone_stream.specs.declared.export_faults.ExportFault.TheVariants.{Damaged, TooLarge, KeeperFailed}
+use Rattle.clone_stream.specs.declared.export_faults.ExportFault.TheVariants.{SinkFailed, Memory}
 
 -- the text of the repository went out, where the keeper tells it, and has at most so many bytes
 pub record Exports (content : Option Repository) (before after : Option (List ℕ)) : Type 0 where
@@ -117,8 +119,9 @@ RefusesText r front SinkFailed = IsFrontText r front
 RefusesText r front Memory = IsFrontText r front
 
 -- bytes within the limit went out, and where the keeper tells, this is why no more did
-pub record RefusesExport (content : Option Repository) (before after : Option (List ℕ)) (fault : ExportFault) : Type 0 where
-  pub front : List ℕ
-  pub gained : after ≡ with_end before front
-  pub within : length front ≤ largest_stream
-  pub told : (r : Repository) → content ≡ Some r → RefusesText r front fault
+pub record RefusesExport (content : Option Repository) (before after : Option (List ℕ)) (fault : ExportFault) : Type 0
+  where
+    pub front : List ℕ
+    pub gained : after ≡ with_end before front
+    pub within : length front ≤ largest_stream
+    pub told : (r : Repository) → content ≡ Some r → RefusesText r front fault

@@ -11,7 +11,9 @@ use Rattle.clone_stream.specs.declared.export_faults.ExportFault.TheVariants as 
 use Rattle.clone_stream.specs.declared.stream_faults.Break.{Break}
 use Rattle.clone_stream.specs.declared.stream_faults.Break.TheVariants as break_
 use Rattle.clone_stream.specs.declared.stream_faults.StreamFault.{StreamFault}
-use Rattle.clone_stream.specs.declared.stream_faults.StreamFault.TheVariants.{BadLine, IdDiffers, Order, TooLarge, Truncated, SourceFailed, KeeperFailed, NotEmpty, Memory}
+use Rattle.clone_stream.specs.declared.stream_faults.StreamFault.TheVariants.{BadLine, IdDiffers, Order, TooLarge}
+use Rattle.clone_stream.specs.declared.stream_faults.StreamFault.TheVariants.{Truncated, SourceFailed, KeeperFailed}
+use Rattle.clone_stream.specs.declared.stream_faults.StreamFault.TheVariants.{NotEmpty, Memory}
 
 -- the place of a refusal among the refusals; want of memory has none
 abbrev pub fault_number : StreamFault → ℕ

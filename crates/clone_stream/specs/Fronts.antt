@@ -27,7 +27,10 @@ pub record AreRecords (objects : List (List ℕ × Pair)) (refs : List (List ℕ
 
 -- the last id and the last name
 abbrev pub last_record : List (List ℕ × Pair) → List (List ℕ × List ℕ) → Last
-last_record objects refs = record { id = last_of (map (λ (e : List ℕ × Pair). e.0) objects); name = last_of (map (λ (e : List ℕ × List ℕ). e.0) refs) }
+last_record objects refs = record {
+  id = last_of (map (λ (e : List ℕ × Pair). e.0) objects);
+  name = last_of (map (λ (e : List ℕ × List ℕ). e.0) refs);
+}
 
 -- after records that begin at this place, this breaks at the next
 pub record BreaksRecords (start : ℕ) (text : List ℕ) (fault : Break) : Type 0 where
@@ -70,7 +73,8 @@ abbrev pub FirstBreak : List ℕ → Break → Type 0
 FirstBreak text fault = BreaksHeader text fault ⊎ BreaksAfterHeader text fault
 
 -- these objects and references were read so far, from what there was at first
-pub record ReadSoFar (objects : List Pair) (refs : List RefChange) (before after : Option (List ℕ)) (was now : ℕ) : Type 0 where
+pub record ReadSoFar (objects : List Pair) (refs : List RefChange) (before after : Option (List ℕ)) (was now : ℕ) : Type
+    0 where
   pub entries : List (List ℕ × Pair)
   pub names : List (List ℕ × List ℕ)
   pub are : AreRecords entries names

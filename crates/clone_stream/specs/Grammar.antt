@@ -3,7 +3,8 @@ use Rattle.std.specs.Prelude.{◌≡◌, ◌≢◌, ℕ, List, codes}
 use Rattle.git_object.specs.Repository.{largest_body}
 use Rattle.clone_stream.specs.Words.{IsHugeLine, IsOtherLine, IsRefLine}
 use Rattle.clone_stream.specs.declared.stream_faults.Break.{Break}
-use Rattle.clone_stream.specs.declared.stream_faults.Break.TheVariants.{BadLine, IdDiffers, Order, TooLarge, Cut, Failed, Memory}
+use Rattle.clone_stream.specs.declared.stream_faults.Break.TheVariants.{BadLine, IdDiffers, Order, TooLarge, Cut}
+use Rattle.clone_stream.specs.declared.stream_faults.Break.TheVariants.{Failed, Memory}
 
 -- a line that begins at this place is of another form, or is an object's with a size past the limit; only a
 -- reference's takes memory

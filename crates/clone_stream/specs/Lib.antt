@@ -8,7 +8,8 @@ pub mod Deciding
 pub mod Exporting
 pub mod Laws
 pub mod ExportLaws
--- What the refusals stand on: what a line says, what may be wrong with a record, how a stream tells it with its place, and
+-- What the refusals stand on: what a line says, what may be wrong with a record, how a stream tells it with its place,
+-- and
 -- the longest front of a text.
 pub mod Words
 pub mod Wrongs

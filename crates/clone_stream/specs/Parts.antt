@@ -8,7 +8,8 @@ use Rattle.keeper_api.specs.Changes.{changed}
 use Rattle.keeper_api.specs.declared.changes.Change.{Change}
 use Rattle.clone_stream.specs.Streams.{IsStreamText}
 use Rattle.clone_stream.specs.declared.stream_faults.Break.{Break}
-use Rattle.clone_stream.specs.declared.stream_faults.Break.TheVariants.{BadLine, IdDiffers, Order, TooLarge, Cut, Failed, Memory}
+use Rattle.clone_stream.specs.declared.stream_faults.Break.TheVariants.{BadLine, IdDiffers, Order, TooLarge, Cut}
+use Rattle.clone_stream.specs.declared.stream_faults.Break.TheVariants.{Failed, Memory}
 use Rattle.clone_stream.specs.declared.stream_faults.StreamFault.{StreamFault}
 use Rattle.clone_stream.specs.declared.stream_faults.StreamFault.TheVariants as stream
 
@@ -50,7 +51,8 @@ abbrev pub PassesBy : Reading → Option (List ℕ) → Option (List ℕ) → St
 PassesBy was left_now past (stream.BadLine p) = ⊥
 PassesBy was left_now past (stream.IdDiffers id found) = ⊥
 PassesBy was left_now past (stream.Order p) = ⊥
-PassesBy was left_now past (stream.TooLarge n) = (n ≡ was.limit) × (was.taken ≡ was.limit) × IfSome past (λ rest. rest ≢ [])
+PassesBy was left_now past (stream.TooLarge n) = (n ≡ was.limit) × (was.taken ≡ was.limit)
+    × IfSome past (λ rest. rest ≢ [])
 PassesBy was left_now past (stream.Truncated p) = ⊥
 PassesBy was left_now past stream.SourceFailed = (was.taken ≡ was.limit) × (left_now ≡ past)
 PassesBy was left_now past stream.KeeperFailed = ⊥

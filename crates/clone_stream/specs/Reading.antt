@@ -18,7 +18,8 @@ ComesAfter None key = ⊤
 ComesAfter (Some last) key = is_lt (by_bytes last key) ≡ true
 
 -- the text begins with the records of these entries, by rising keys, and goes on with the rest
-pub record IsFront {X : Type 0} (record_of : List ℕ × X → List ℕ) (Is : List ℕ × X → Type 0) (es : List (List ℕ × X)) (text rest : List ℕ) : Type 0 where
+pub record IsFront {X : Type 0} (record_of : List ℕ × X → List ℕ) (Is : List ℕ × X → Type 0) (es : List (List ℕ × X))
+    (text rest : List ℕ) : Type 0 where
   pub each : AllByRecursion Is es
   pub rising : is_sorted by_bytes es ≡ true
   pub front : text ≡ flat_map record_of es ++ rest

@@ -15,7 +15,10 @@ use Rattle.clone_stream.specs.declared.stream_faults.Break.TheVariants.{Order}
 
 -- the last id and the last name of what was read
 abbrev pub last_read : List Pair → List RefChange → Last
-last_read objects refs = record { id = last_of (map pair_id objects); name = last_of (map (λ (c : RefChange). c.name) refs) }
+last_read objects refs = record {
+  id = last_of (map pair_id objects);
+  name = last_of (map (λ (c : RefChange). c.name) refs);
+}
 
 -- the text of a record
 abbrev pub record_text : Record → List ℕ
@@ -45,12 +48,14 @@ pub record IsLate (last : Last) (at : ℕ) (id : List ℕ) (fault : Break) : Typ
   pub late : ComesObject last id → ⊥
 
 -- an object of this id may come, and this breaks in its body
-pub record IsBroken (last : Last) (id : List ℕ) (kind : Kind) (size at : ℕ) (rest : List ℕ) (fault : Break) : Type 0 where
-  pub comes : ComesObject last id
-  pub breaks : BreaksBody id kind size at rest fault
+pub record IsBroken (last : Last) (id : List ℕ) (kind : Kind) (size at : ℕ) (rest : List ℕ) (fault : Break) : Type 0
+  where
+    pub comes : ComesObject last id
+    pub breaks : BreaksBody id kind size at rest fault
 
 -- the object of a head was read after these: its body and the line feed were taken
-pub record IsObjectRead (last : Last) (id : List ℕ) (kind : Kind) (size : ℕ) (before after : Option (List ℕ)) (was now : ℕ) (object : Pair) : Type 0 where
+pub record IsObjectRead (last : Last) (id : List ℕ) (kind : Kind) (size : ℕ) (before after : Option (List ℕ))
+    (was now : ℕ) (object : Pair) : Type 0 where
   pub comes : ComesObject last id
   pub own : pair_id object ≡ id
   pub kind_is : object.kind ≡ kind
@@ -59,6 +64,7 @@ pub record IsObjectRead (last : Last) (id : List ℕ) (kind : Kind) (size : ℕ)
   pub taken : now ≡ was + size + 1
 
 abbrev pub IsObjectOf : Last → List ℕ → Kind → ℕ → Option (List ℕ) → Option (List ℕ) → ℕ → ℕ → Record → Type 0
-IsObjectOf last id kind size before after was now (record_.Object object) = IsObjectRead last id kind size before after was now object
+IsObjectOf last id kind size before after was now (record_.Object object) =
+    IsObjectRead last id kind size before after was now object
 IsObjectOf last id kind size before after was now (record_.Ref value) = ⊥
 IsObjectOf last id kind size before after was now record_.End = ⊥

@@ -5,7 +5,8 @@ use Rattle.octets.specs.Content.{with_front}
 use Rattle.buffered_reader.specs.Ahead.{Reading, ahead, past}
 use Rattle.clone_stream.specs.Faults.{break_failed}
 use Rattle.clone_stream.specs.declared.stream_faults.Break.{Break}
-use Rattle.clone_stream.specs.declared.stream_faults.Break.TheVariants.{BadLine, IdDiffers, Order, TooLarge, Cut, Failed, Memory}
+use Rattle.clone_stream.specs.declared.stream_faults.Break.TheVariants.{BadLine, IdDiffers, Order, TooLarge, Cut}
+use Rattle.clone_stream.specs.declared.stream_faults.Break.TheVariants.{Failed, Memory}
 
 -- the source failed: all that was taken was read, and nothing is buffered
 pub record FailsAt (was now : Reading) (before after : Option (List ℕ)) (p : ℕ) : Type 0 where
@@ -26,7 +27,8 @@ StopsAt was now before after Memory = Unit {0}
 
 -- what every step of reading does, however it ends: what lies past the limit is not touched, one fault of the source is
 -- counted exactly where it failed, and reading stands at the break
-pub record ReadsOn {T : Type 0} (was now : Reading) (left left_now : Option (List ℕ)) (faults faults_now : ℕ) (result : Result T Break) : Type 0 where
+pub record ReadsOn {T : Type 0} (was now : Reading) (left left_now : Option (List ℕ)) (faults faults_now : ℕ)
+    (result : Result T Break) : Type 0 where
   pub past : past now left_now ≡ past was left
   pub limit : now.limit ≡ was.limit
   pub cause : HasCause break_failed faults faults_now result

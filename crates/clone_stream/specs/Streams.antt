@@ -49,7 +49,8 @@ pub record IsRef (e : List ℕ × List ℕ) : Type 0 where
 
 -- header, objects by rising id, references by rising name, end
 abbrev pub stream_text : Repository → List ℕ
-stream_text r = header ++ (flat_map object_record (entries r.objects) ++ (flat_map ref_record (entries r.refs) ++ end_line))
+stream_text r = header ++ (flat_map object_record (entries r.objects)
+    ++ (flat_map ref_record (entries r.refs) ++ end_line))
 
 -- the bytes are the text of the repository, which keeps each object under its own id
 pub record IsStreamText (r : Repository) (bytes : List ℕ) : Type 0 where
@@ -59,4 +60,5 @@ pub record IsStreamText (r : Repository) (bytes : List ℕ) : Type 0 where
 
 -- a stream's text has one repository, and begins no other stream's text
 abbrev pub OneSpelling : Type 0
-OneSpelling = (r s : Repository) (a more : List ℕ) → IsStreamText r a → IsStreamText s (a ++ more) → (more ≡ []) × (r ≡ s)
+OneSpelling = (r s : Repository) (a more : List ℕ) → IsStreamText r a → IsStreamText s (a ++ more) → (more ≡ [])
+    × (r ≡ s)

@@ -12,7 +12,9 @@ use Rattle.clone_stream.specs.Fronts.{FirstBreak}
 use Rattle.clone_stream.specs.Streams.{IsStreamText, largest_stream}
 use Rattle.clone_stream.specs.declared.stream_faults.Break.TheVariants as break_
 use Rattle.clone_stream.specs.declared.stream_faults.StreamFault.{StreamFault}
-use Rattle.clone_stream.specs.declared.stream_faults.StreamFault.TheVariants.{BadLine, IdDiffers, Order, TooLarge, Truncated, SourceFailed, KeeperFailed, NotEmpty, Memory}
+use Rattle.clone_stream.specs.declared.stream_faults.StreamFault.TheVariants.{BadLine, IdDiffers, Order, TooLarge}
+use Rattle.clone_stream.specs.declared.stream_faults.StreamFault.TheVariants.{Truncated, SourceFailed, KeeperFailed}
+use Rattle.clone_stream.specs.declared.stream_faults.StreamFault.TheVariants.{NotEmpty, Memory}
 
 -- the source was read to its end, and gave these bytes
 pub record WasRead (before after : Option (List ℕ)) (bytes : List ℕ) : Type 0 where
@@ -33,7 +35,8 @@ pub record Spells (left left_now : Option (List ℕ)) (before : Option Repositor
   pub empty : before ≡ Some empty_repository
   pub text : IsStreamText r bytes
 
--- the source was read to its end, its bytes are this repository's stream, and what the keeper then tells is this one; it
+-- the source was read to its end, its bytes are this repository's stream, and what the keeper then tells is this one;
+-- it
 -- was empty before
 pub record TakesStream (left left_now : Option (List ℕ)) (before after : Option Repository) : Type 0 where
   pub bytes : List ℕ
@@ -46,7 +49,8 @@ pub record TakesStream (left left_now : Option (List ℕ)) (before after : Optio
 pub record TakesInto {S : Type 0} (keeper : Ghosts S) (left left_now : Option (List ℕ)) (old new : S) : Type 0 where
   pub takes : TakesStream left left_now (keeper.content old) (keeper.content new)
   pub tells : keeper.tells_left new ≡ true → keeper.tells_left old ≡ true
-  pub stop : keeper.tells_left new ≡ true → (now : Repository) → keeper.content new ≡ Some now → (r : Repository) → keeper.left new r
+  pub stop : keeper.tells_left new ≡ true → (now : Repository) → keeper.content new ≡ Some now → (r : Repository)
+      → keeper.left new r
       → r ≡ takes.repository
 
 -- the input was read to its end, and is a stream
@@ -59,7 +63,8 @@ pub record IsWhole (input : List ℕ) (after : Option (List ℕ)) : Type 0 where
 -- memory is wanting only where nothing was read, at a record that takes some after the longest front, or where the
 -- whole stream was read
 abbrev pub MayLack : List ℕ → Option (List ℕ) → Type 0
-MayLack input after = (after ≡ Some input) ⊎ (FirstBreak (take largest_stream input) break_.Memory ⊎ IsWhole input after)
+MayLack input after = (after ≡ Some input)
+    ⊎ (FirstBreak (take largest_stream input) break_.Memory ⊎ IsWhole input after)
 
 -- a refusal of the input is the one that its first wrong place decides; a failed source gave nothing that is refused,
 -- and want of memory hides no place where no memory is taken
@@ -100,9 +105,11 @@ IsOfInput Memory = ⊥
 
 -- the keeper failed: it holds what it held or, perhaps, the spelled repository, and a stop leaves no other than these
 pub record MayTake {S : Type 0} (keeper : Ghosts S) (left left_now : Option (List ℕ)) (old new : S) : Type 0 where
-  pub held : (r : Repository) → keeper.content new ≡ Some r → (keeper.content old ≡ Some r) ⊎ Spells left left_now (keeper.content old) r
+  pub held : (r : Repository) → keeper.content new ≡ Some r → (keeper.content old ≡ Some r)
+      ⊎ Spells left left_now (keeper.content old) r
   pub tells : keeper.tells_left new ≡ true → keeper.tells_left old ≡ true
-  pub stop : keeper.tells_left new ≡ true → (r : Repository) → keeper.left new r → keeper.left old r ⊎ Spells left left_now (keeper.content old) r
+  pub stop : keeper.tells_left new ≡ true → (r : Repository) → keeper.left new r → keeper.left old r
+      ⊎ Spells left left_now (keeper.content old) r
 
 -- what a refusal leaves of the keeper: all as before, but where the keeper failed
 abbrev pub LeavesRefused : {S : Type 0} → Ghosts S → Option (List ℕ) → Option (List ℕ) → S → S → StreamFault → Type 0

@@ -5,7 +5,7 @@ use Rattle.git_object.specs.Ids.{IsId}
 use Rattle.git_object.specs.Repository.{largest_body}
 use Rattle.git_object.specs.declared.kinds.Kind.{Kind}
 use Rattle.clone_stream.specs.Streams.{IsRef, object_line, ref_line}
-use Rattle.clone_stream.specs.declared.line_words.Head.{Head}
+use Rattle.clone_stream.specs.declared.line_words.ObjectLine.{ObjectLine}
 use Rattle.clone_stream.specs.declared.line_words.Words.{Words}
 use Rattle.clone_stream.specs.declared.line_words.Words.TheVariants.{Object, Ref, End}
 
@@ -43,7 +43,7 @@ words_line (Ref value) = ref_line value.name value.id
 words_line End = codes "end"
 
 -- an id and a size within the limit, or a reference name and an id
-pub record IsHead (head : Head) : Type 0 where
+pub record IsHead (head : ObjectLine) : Type 0 where
   pub id : IsId head.id
   pub small : head.size ≤ largest_body
 

@@ -67,7 +67,8 @@ fn write_object<K: Sink, R: Keeper>(
     written: u64,
 ) -> Result<Option<(ObjectId, u64)>, ExportFault>
     requires { written ≤ largest_stream }
-    ensures steps { Steps object_record IsOwn IsDamaged objects_in (R.content keeper.new) last.now written (K.contents sink.old) (K.contents sink.new) result }
+    ensures steps { Steps object_record IsOwn IsDamaged objects_in (R.content keeper.new) last.now written
+        (K.contents sink.old) (K.contents sink.new) result }
     ensures same { Undisturbed R.Keeper keeper.old keeper.new }
     ensures keeper_cause { HasCause export_keeper_failed (R.faults keeper.old) (R.faults keeper.new) result }
     ensures sink_cause { HasCause export_sink_failed (K.faults sink.old) (K.faults sink.new) result }
@@ -95,7 +96,8 @@ fn write_ref<K: Sink, R: Keeper>(
     written: u64,
 ) -> Result<Option<(RefName, u64)>, ExportFault>
     requires { written ≤ largest_stream }
-    ensures steps { Steps ref_record IsRef IsNever refs_in (R.content keeper.new) last.now written (K.contents sink.old) (K.contents sink.new) result }
+    ensures steps { Steps ref_record IsRef IsNever refs_in (R.content keeper.new) last.now written (K.contents sink.old)
+        (K.contents sink.new) result }
     ensures same { Undisturbed R.Keeper keeper.old keeper.new }
     ensures keeper_cause { HasCause export_keeper_failed (R.faults keeper.old) (R.faults keeper.new) result }
     ensures sink_cause { HasCause export_sink_failed (K.faults sink.old) (K.faults sink.new) result }
@@ -120,11 +122,13 @@ fn write_objects<K: Sink, R: Keeper>(
     start: u64,
 ) -> Result<u64, ExportFault>
     requires { start ≤ largest_stream }
-    ensures runs { Runs object_record IsOwn IsDamaged objects_in (R.content keeper.new) start (K.contents sink.old) (K.contents sink.new) result }
+    ensures runs { Runs object_record IsOwn IsDamaged objects_in (R.content keeper.new) start (K.contents sink.old)
+        (K.contents sink.new) result }
     ensures same { Undisturbed R.Keeper keeper.old keeper.new }
     ensures keeper_cause { HasCause export_keeper_failed (R.faults keeper.old) (R.faults keeper.new) result }
     ensures sink_cause { HasCause export_sink_failed (K.faults sink.old) (K.faults sink.new) result }
-    ensures reads { OnOk result ((r : Repository) → R.content keeper.new ≡ Some r → R.reads keeper.new ≤ R.reads keeper.old + length (entries r.objects)) }
+    ensures reads { OnOk result ((r : Repository) → R.content keeper.new ≡ Some r
+        → R.reads keeper.new ≤ R.reads keeper.old + length (entries r.objects)) }
 {
     let mut last = None;
     let mut written = start;
@@ -148,7 +152,8 @@ fn write_refs<K: Sink, R: Keeper>(
     start: u64,
 ) -> Result<u64, ExportFault>
     requires { start ≤ largest_stream }
-    ensures runs { Runs ref_record IsRef IsNever refs_in (R.content keeper.new) start (K.contents sink.old) (K.contents sink.new) result }
+    ensures runs { Runs ref_record IsRef IsNever refs_in (R.content keeper.new) start (K.contents sink.old)
+        (K.contents sink.new) result }
     ensures same { Undisturbed R.Keeper keeper.old keeper.new }
     ensures keeper_cause { HasCause export_keeper_failed (R.faults keeper.old) (R.faults keeper.new) result }
     ensures sink_cause { HasCause export_sink_failed (K.faults sink.old) (K.faults sink.new) result }
@@ -183,7 +188,8 @@ pub fn write_stream<K: Sink, R: Keeper>(
     ensures same { Undisturbed R.Keeper keeper.old keeper.new }
     ensures keeper_cause { HasCause export_keeper_failed (R.faults keeper.old) (R.faults keeper.new) result }
     ensures sink_cause { HasCause export_sink_failed (K.faults sink.old) (K.faults sink.new) result }
-    ensures reads { OnOk result ((r : Repository) → R.content keeper.new ≡ Some r → R.reads keeper.new ≤ R.reads keeper.old + length (entries r.objects)) }
+    ensures reads { OnOk result ((r : Repository) → R.content keeper.new ≡ Some r
+        → R.reads keeper.new ≤ R.reads keeper.old + length (entries r.objects)) }
 {
     let written = match put(sink, b"gittuf-stream 1\n", 0) {
         Ok(now) => now,

@@ -1,6 +1,7 @@
 //! What the lines of a stream say.
 
-ghost use Rattle.std.specs.Prelude.{◌≡◌, ◌≢◌, ◌++◌, ◌∷◌, ℕ, List, false, codes, decimal, IfOk, IfErr, IfSome, IfNone, IsErrOf, OnErr};
+ghost use Rattle.std.specs.Prelude.{◌≡◌, ◌≢◌, ◌++◌, ◌∷◌, ℕ, List, false, codes, decimal, IfOk, IfErr, IfSome, IfNone};
+ghost use Rattle.std.specs.Prelude.{IsErrOf, OnErr};
 ghost use Rattle.hex.specs.Hex.{encode_lower};
 ghost use Rattle.text_reader.specs.Line.{has_byte};
 ghost use Rattle.git_object.specs.Ids.{IsId};
@@ -19,7 +20,7 @@ use text_reader::{NumberFault, read_decimal_within, same_bytes, split_word, stri
 
 /// What the line of an object says: an id, a kind and the size of a body in bytes.
 #[derive(Clone, Copy)]
-pub struct Head {
+pub struct ObjectLine {
     pub id: ObjectId,
     pub kind: Kind,
     pub size: u64,
@@ -28,7 +29,7 @@ pub struct Head {
 /// What a line says.
 #[derive(Drop)]
 pub enum Words {
-    Object(Head),
+    Object(ObjectLine),
     Ref(RefValue),
     End,
 }
@@ -59,7 +60,8 @@ fn split_id(text: &[u8]) -> Option<(ObjectId, &[u8])>
 pub fn split_head(line: &[u8]) -> Option<(ObjectId, Kind, &[u8])>
     ensures found { IfSome result (λ parts. line.now ≡ object_line parts.0 parts.1 parts.2.now) }
     ensures valid { IfSome result (λ parts. IsId parts.0) }
-    ensures none { IfNone result ((id : List ℕ) (kind : Kind) (digits : List ℕ) → IsId id → line.now ≢ object_line id kind digits) }
+    ensures none { IfNone result ((id : List ℕ) (kind : Kind) (digits : List ℕ) → IsId id
+        → line.now ≢ object_line id kind digits) }
 {
     let Some(words) = strip_front(line, b"object ") else {
         return None;
@@ -76,7 +78,7 @@ pub fn split_head(line: &[u8]) -> Option<(ObjectId, Kind, &[u8])>
 
 // The head of an object's line. `NotHead` comes exactly where it is none, and `TooLarge` exactly where the size
 // is past 16 MiB.
-fn read_head(line: &[u8]) -> Result<Head, HeadFault>
+fn read_head(line: &[u8]) -> Result<ObjectLine, HeadFault>
     ensures valid { IfOk result IsHead }
     ensures found { IfOk result (λ head. line.now ≡ object_line head.id head.kind (decimal head.size)) }
     ensures no_head { IsErrOf result HeadFault.NotHead → IsObjectLine line.now → ⊥ }
@@ -88,7 +90,7 @@ fn read_head(line: &[u8]) -> Result<Head, HeadFault>
     let id = parts.0;
     let kind = parts.1;
     match read_decimal_within(parts.2, LARGEST_BODY) {
-        Ok(size) => Ok(Head { id, kind, size }),
+        Ok(size) => Ok(ObjectLine { id, kind, size }),
         Err(NumberFault::NotNumber) => Err(HeadFault::NotHead),
         Err(NumberFault::TooLarge) => Err(HeadFault::TooLarge),
     }
@@ -115,7 +117,8 @@ fn split_ref(line: &[u8]) -> Option<(&[u8], ObjectId)>
 
 // The reference of a line, None where it is no reference's.
 fn read_ref(alloc: Global, line: &[u8]) -> Result<Option<RefValue>, Memory>
-    ensures found { IfOk result (λ found. IfSome found (λ value. IsRef (value.name, value.id) × (line.now ≡ ref_line value.name value.id))) }
+    ensures found { IfOk result (λ found. IfSome found (λ value. IsRef (value.name, value.id)
+        × (line.now ≡ ref_line value.name value.id))) }
     ensures none { IfOk result (λ found. IfNone found (IsRefLine line.now → ⊥)) }
     ensures lacks { OnErr result (IsRefLine line.now) }
 {

@@ -9,7 +9,7 @@ ghost use Rattle.clone_stream.specs.Breaks.{BreaksBody, BreaksLine};
 ghost use Rattle.clone_stream.specs.Stopping.{ReadsOn};
 ghost use Rattle.clone_stream.specs.Words.{AreWords, words_line};
 
-use crate::line_words::{Head, Words, words_of};
+use crate::line_words::{ObjectLine, Words, words_of};
 use crate::stream_faults::{Break, of_exact, of_line};
 use buffered_reader::BufferedReader;
 use edge_io::{Failed, Source};
@@ -24,11 +24,14 @@ pub fn next_words<S: Source>(
     source: &mut S,
 ) -> Result<Words, Break>
     ensures valid { IfOk result AreWords }
-    ensures ahead { IfOk result (λ words. ahead reader.old (S.left source.old) ≡ with_front (words_line words ++ 10 ∷ []) (ahead reader.new (S.left source.new))) }
+    ensures ahead { IfOk result (λ words. ahead reader.old (S.left source.old)
+        ≡ with_front (words_line words ++ 10 ∷ []) (ahead reader.new (S.left source.new))) }
     ensures taken { IfOk result (λ words. reader.new.taken ≡ reader.old.taken + length (words_line words) + 1) }
     ensures limited { OnOk result (reader.new.taken ≤ reader.new.limit) }
-    ensures bad { IfErr result (λ fault. IfSome (ahead reader.old (S.left source.old)) (λ rest. BreaksLine reader.old.taken rest fault)) }
-    ensures reads { ReadsOn reader.old reader.new (S.left source.old) (S.left source.new) (S.faults source.old) (S.faults source.new) result }
+    ensures bad { IfErr result (λ fault. IfSome (ahead reader.old (S.left source.old))
+        (λ rest. BreaksLine reader.old.taken rest fault)) }
+    ensures reads { ReadsOn reader.old reader.new (S.left source.old) (S.left source.new) (S.faults source.old)
+        (S.faults source.new) result }
 {
     let at = reader.taken();
     let line = match reader.line(source) {
@@ -43,15 +46,18 @@ fn next_body<S: Source>(
     alloc: Global,
     reader: &mut BufferedReader,
     source: &mut S,
-    head: &Head,
+    head: &ObjectLine,
 ) -> Result<Octets, Break>
     requires { head.now.size ≤ largest_body }
     ensures len { IfOk result (λ body. length body ≡ head.now.size) }
-    ensures ahead { IfOk result (λ body. ahead reader.old (S.left source.old) ≡ with_front (body ++ 10 ∷ []) (ahead reader.new (S.left source.new))) }
+    ensures ahead { IfOk result (λ body. ahead reader.old (S.left source.old) ≡ with_front (body ++ 10 ∷ [])
+        (ahead reader.new (S.left source.new))) }
     ensures taken { OnOk result (reader.new.taken ≡ reader.old.taken + head.now.size + 1) }
     ensures limited { OnOk result (reader.new.taken ≤ reader.new.limit) }
-    ensures bad { IfErr result (λ fault. IfSome (ahead reader.old (S.left source.old)) (λ rest. BreaksBody head.now.id head.now.kind head.now.size reader.old.taken rest fault)) }
-    ensures reads { ReadsOn reader.old reader.new (S.left source.old) (S.left source.new) (S.faults source.old) (S.faults source.new) result }
+    ensures bad { IfErr result (λ fault. IfSome (ahead reader.old (S.left source.old))
+        (λ rest. BreaksBody head.now.id head.now.kind head.now.size reader.old.taken rest fault)) }
+    ensures reads { ReadsOn reader.old reader.new (S.left source.old) (S.left source.new) (S.faults source.old)
+        (S.faults source.new) result }
 {
     let body = match reader.exact(alloc, source, head.size as usize) {
         Ok(body) => body,
@@ -77,17 +83,20 @@ pub fn next_object<S: Source>(
     alloc: Global,
     reader: &mut BufferedReader,
     source: &mut S,
-    head: &Head,
+    head: &ObjectLine,
 ) -> Result<Object, Break>
     requires { head.now.size ≤ largest_body }
     ensures own { IfOk result (λ object. pair_id object ≡ head.now.id) }
     ensures kind { IfOk result (λ object. object.kind ≡ head.now.kind) }
     ensures len { IfOk result (λ object. length object.body ≡ head.now.size) }
-    ensures ahead { IfOk result (λ object. ahead reader.old (S.left source.old) ≡ with_front (object.body ++ 10 ∷ []) (ahead reader.new (S.left source.new))) }
+    ensures ahead { IfOk result (λ object. ahead reader.old (S.left source.old) ≡ with_front (object.body ++ 10 ∷ [])
+        (ahead reader.new (S.left source.new))) }
     ensures taken { OnOk result (reader.new.taken ≡ reader.old.taken + head.now.size + 1) }
     ensures limited { OnOk result (reader.new.taken ≤ reader.new.limit) }
-    ensures bad { IfErr result (λ fault. IfSome (ahead reader.old (S.left source.old)) (λ rest. BreaksBody head.now.id head.now.kind head.now.size reader.old.taken rest fault)) }
-    ensures reads { ReadsOn reader.old reader.new (S.left source.old) (S.left source.new) (S.faults source.old) (S.faults source.new) result }
+    ensures bad { IfErr result (λ fault. IfSome (ahead reader.old (S.left source.old))
+        (λ rest. BreaksBody head.now.id head.now.kind head.now.size reader.old.taken rest fault)) }
+    ensures reads { ReadsOn reader.old reader.new (S.left source.old) (S.left source.new) (S.faults source.old)
+        (S.faults source.new) result }
 {
     let id = head.id;
     let body = match next_body(alloc, reader, source, head) {

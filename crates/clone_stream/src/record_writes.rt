@@ -1,6 +1,7 @@
 //! Writing one record of a stream within the limit.
 
-ghost use Rattle.std.specs.Prelude.{◌≡◌, ◌≤◌, ◌+◌, ◌↔◌, ◌++◌, ◌∷◌, [], length, decimal, IfOk, IsErrOf, IsTrue, OnOk, OnErr};
+ghost use Rattle.std.specs.Prelude.{◌≡◌, ◌≤◌, ◌+◌, ◌↔◌, ◌++◌, ◌∷◌, [], length, decimal, IfOk, IsErrOf, IsTrue, OnOk};
+ghost use Rattle.std.specs.Prelude.{OnErr};
 ghost use Rattle.octets.specs.Causes.{HasCause, each};
 ghost use Rattle.clone_stream.specs.Faults.{export_sink_failed};
 ghost use Rattle.octets.specs.Content.{GainsPart, with_end};
@@ -37,8 +38,10 @@ pub fn put<K: Sink>(sink: &mut K, text: &[u8], written: u64) -> Result<u64, Expo
 
 // Writes a line, a body and a line feed, of which none is copied.
 fn write_pieces<K: Sink>(sink: &mut K, line: &[u8], body: &[u8]) -> Result<(), Failed>
-    ensures whole { OnOk result (K.contents sink.new ≡ with_end (K.contents sink.old) (line.now ++ (body.now ++ 10 ∷ []))) }
-    ensures part { OnErr result (GainsPart (K.contents sink.old) (K.contents sink.new) (line.now ++ (body.now ++ 10 ∷ []))) }
+    ensures whole { OnOk result (K.contents sink.new ≡ with_end (K.contents sink.old)
+        (line.now ++ (body.now ++ 10 ∷ []))) }
+    ensures part { OnErr result (GainsPart (K.contents sink.old) (K.contents sink.new)
+        (line.now ++ (body.now ++ 10 ∷ []))) }
     ensures cause { HasCause each (K.faults sink.old) (K.faults sink.new) result }
 {
     write_all(sink, line)?;

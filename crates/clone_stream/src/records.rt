@@ -1,6 +1,7 @@
 //! Reading records one after the other, each in its place.
 
-ghost use Rattle.std.specs.Prelude.{◌≡◌, ◌≤◌, ◌+◌, ◌++◌, ◌∷◌, ◌⊎◌, ◌↔◌, [], None, length, map, IfOk, IfErr, IfSome, IsTrue, OnOk};
+ghost use Rattle.std.specs.Prelude.{◌≡◌, ◌≤◌, ◌+◌, ◌++◌, ◌∷◌, ◌⊎◌, ◌↔◌, [], None, length, map, IfOk, IfErr, IfSome};
+ghost use Rattle.std.specs.Prelude.{IsTrue, OnOk};
 ghost use Rattle.std.specs.Ordering.{is_lt};
 ghost use Rattle.octets.specs.BytesMap.{by_bytes};
 ghost use Rattle.octets.specs.Content.{with_front};
@@ -17,7 +18,7 @@ ghost use Rattle.clone_stream.specs.Stopping.{ReadsOn};
 ghost use Rattle.clone_stream.specs.Streams.{IsRef, object_record};
 ghost use Rattle.clone_stream.specs.Words.{IsHead};
 
-use crate::line_words::{Head, Words};
+use crate::line_words::{ObjectLine, Words};
 use crate::record_reads::{next_object, next_words};
 use crate::stream_faults::Break;
 use buffered_reader::BufferedReader;
@@ -84,16 +85,20 @@ fn object_after<S: Source>(
     reader: &mut BufferedReader,
     source: &mut S,
     at: u64,
-    head: &Head,
+    head: &ObjectLine,
     objects: &[Object],
     refs: &[RefChange],
 ) -> Result<Record, Break>
     requires { IsHead head.now }
-    ensures found { IfOk result (IsObjectOf (last_read objects.now refs.now) head.now.id head.now.kind head.now.size (ahead reader.old (S.left source.old)) (ahead reader.new (S.left source.new)) reader.old.taken reader.new.taken) }
+    ensures found { IfOk result (IsObjectOf (last_read objects.now refs.now) head.now.id head.now.kind head.now.size
+        (ahead reader.old (S.left source.old)) (ahead reader.new (S.left source.new)) reader.old.taken reader.new.taken) }
     ensures limited { OnOk result (reader.new.taken ≤ reader.new.limit) }
     ensures bad { IfErr result (λ fault. IsLate (last_read objects.now refs.now) at head.now.id fault
-        ⊎ IfSome (ahead reader.old (S.left source.old)) (λ rest. IsBroken (last_read objects.now refs.now) head.now.id head.now.kind head.now.size reader.old.taken rest fault)) }
-    ensures reads { ReadsOn reader.old reader.new (S.left source.old) (S.left source.new) (S.faults source.old) (S.faults source.new) result }
+        ⊎ IfSome (ahead reader.old (S.left source.old))
+        (λ rest. IsBroken (last_read objects.now refs.now) head.now.id head.now.kind head.now.size reader.old.taken rest
+        fault)) }
+    ensures reads { ReadsOn reader.old reader.new (S.left source.old) (S.left source.new) (S.faults source.old)
+        (S.faults source.new) result }
 {
     if !may_come(objects, refs, &head.id) {
         return Err(Break::Order { at });
@@ -108,7 +113,8 @@ fn object_after<S: Source>(
 fn ref_after(at: u64, value: RefValue, refs: &[RefChange]) -> Result<Record, Break>
     ensures found { IfOk result (λ found. found ≡ Record.Ref value) }
     ensures comes { IfOk result (λ _. ComesAfter (last_of (map (λ (c : RefChange). c.name) refs.now)) value.name) }
-    ensures bad { IfErr result (λ fault. (fault ≡ Break.Order at) × (ComesAfter (last_of (map (λ (c : RefChange). c.name) refs.now)) value.name → ⊥)) }
+    ensures bad { IfErr result (λ fault. (fault ≡ Break.Order at)
+        × (ComesAfter (last_of (map (λ (c : RefChange). c.name) refs.now)) value.name → ⊥)) }
 {
     if !follows_ref(refs, &value.name) {
         return Err(Break::Order { at });
@@ -125,11 +131,14 @@ pub fn next_record<S: Source>(
     refs: &[RefChange],
 ) -> Result<Record, Break>
     ensures next { IfOk result (IsNext (last_read objects.now refs.now)) }
-    ensures ahead { IfOk result (λ found. ahead reader.old (S.left source.old) ≡ with_front (record_text found) (ahead reader.new (S.left source.new))) }
+    ensures ahead { IfOk result (λ found. ahead reader.old (S.left source.old) ≡ with_front (record_text found)
+        (ahead reader.new (S.left source.new))) }
     ensures taken { IfOk result (λ found. reader.new.taken ≡ reader.old.taken + length (record_text found)) }
     ensures limited { OnOk result (reader.new.taken ≤ reader.new.limit) }
-    ensures bad { IfErr result (λ fault. IfSome (ahead reader.old (S.left source.old)) (λ rest. BreaksRecord (last_read objects.now refs.now) reader.old.taken rest fault)) }
-    ensures reads { ReadsOn reader.old reader.new (S.left source.old) (S.left source.new) (S.faults source.old) (S.faults source.new) result }
+    ensures bad { IfErr result (λ fault. IfSome (ahead reader.old (S.left source.old))
+        (λ rest. BreaksRecord (last_read objects.now refs.now) reader.old.taken rest fault)) }
+    ensures reads { ReadsOn reader.old reader.new (S.left source.old) (S.left source.new) (S.faults source.old)
+        (S.faults source.new) result }
 {
     let at = reader.taken();
     match next_words(alloc, reader, source) {
@@ -156,9 +165,12 @@ pub fn read_records<S: Source>(
     reader: &mut BufferedReader,
     source: &mut S,
 ) -> Result<Change, Break>
-    ensures found { IfOk result (λ change. AreRead change (ahead reader.old (S.left source.old)) (ahead reader.new (S.left source.new)) reader.old.taken reader.new.taken) }
-    ensures bad { IfErr result (λ fault. IfSome (ahead reader.old (S.left source.old)) (λ rest. BreaksRecords reader.old.taken rest fault)) }
-    ensures reads { ReadsOn reader.old reader.new (S.left source.old) (S.left source.new) (S.faults source.old) (S.faults source.new) result }
+    ensures found { IfOk result (λ change. AreRead change (ahead reader.old (S.left source.old))
+        (ahead reader.new (S.left source.new)) reader.old.taken reader.new.taken) }
+    ensures bad { IfErr result (λ fault. IfSome (ahead reader.old (S.left source.old))
+        (λ rest. BreaksRecords reader.old.taken rest fault)) }
+    ensures reads { ReadsOn reader.old reader.new (S.left source.old) (S.left source.new) (S.faults source.old)
+        (S.faults source.new) result }
 {
     let mut objects = Objects::new(alloc);
     let mut refs = RefChanges::new(alloc);

@@ -27,10 +27,13 @@ pub const LARGEST_STREAM: u64 = 1073741824;
 // Takes the first line.
 fn read_header<S: Source>(reader: &mut BufferedReader, source: &mut S) -> Result<(), Break>
     requires { reader.old.taken ≡ 0 }
-    ensures ahead { OnOk result (ahead reader.old (S.left source.old) ≡ with_front header (ahead reader.new (S.left source.new))) }
+    ensures ahead { OnOk result (ahead reader.old (S.left source.old) ≡ with_front header
+        (ahead reader.new (S.left source.new))) }
     ensures taken { OnOk result (reader.new.taken ≡ length header) }
-    ensures bad { IfErr result (λ fault. IfSome (ahead reader.old (S.left source.old)) (λ text. BreaksHeader text fault)) }
-    ensures reads { ReadsOn reader.old reader.new (S.left source.old) (S.left source.new) (S.faults source.old) (S.faults source.new) result }
+    ensures bad { IfErr result (λ fault. IfSome (ahead reader.old (S.left source.old))
+        (λ text. BreaksHeader text fault)) }
+    ensures reads { ReadsOn reader.old reader.new (S.left source.old) (S.left source.new) (S.faults source.old)
+        (S.faults source.new) result }
 {
     let line = match reader.line(source) {
         Ok(line) => line,
@@ -44,9 +47,11 @@ fn read_header<S: Source>(reader: &mut BufferedReader, source: &mut S) -> Result
 
 // Looks for a byte after the last line.
 fn read_end<S: Source>(reader: &mut BufferedReader, source: &mut S) -> Result<(), Break>
-    ensures end { OnOk result (EndsAt reader.old reader.new (ahead reader.old (S.left source.old)) (ahead reader.new (S.left source.new))) }
+    ensures end { OnOk result (EndsAt reader.old reader.new (ahead reader.old (S.left source.old))
+        (ahead reader.new (S.left source.new))) }
     ensures bad { IfErr result (OverRuns reader.old.taken (ahead reader.old (S.left source.old))) }
-    ensures reads { ReadsOn reader.old reader.new (S.left source.old) (S.left source.new) (S.faults source.old) (S.faults source.new) result }
+    ensures reads { ReadsOn reader.old reader.new (S.left source.old) (S.left source.new) (S.faults source.old)
+        (S.faults source.new) result }
 {
     match reader.byte(source) {
         Ok(None) => Ok(()),
@@ -64,9 +69,11 @@ fn read_parts<S: Source>(
     source: &mut S,
 ) -> Result<Change, Break>
     requires { reader.old.taken ≡ 0 }
-    ensures found { IfOk result (λ change. AreParts change reader.new (ahead reader.old (S.left source.old)) (ahead reader.new (S.left source.new))) }
+    ensures found { IfOk result (λ change. AreParts change reader.new (ahead reader.old (S.left source.old))
+        (ahead reader.new (S.left source.new))) }
     ensures bad { IfErr result (λ fault. IfSome (ahead reader.old (S.left source.old)) (λ text. FirstBreak text fault)) }
-    ensures reads { ReadsOn reader.old reader.new (S.left source.old) (S.left source.new) (S.faults source.old) (S.faults source.new) result }
+    ensures reads { ReadsOn reader.old reader.new (S.left source.old) (S.left source.new) (S.faults source.old)
+        (S.faults source.new) result }
 {
     match read_header(reader, source) {
         Ok(()) => {}
@@ -85,7 +92,8 @@ fn read_parts<S: Source>(
 // Whether the input ends within the limit: `TooLarge` where it goes on past it.
 fn end_within<S: Source>(reader: &mut BufferedReader, source: &mut S) -> Result<(), StreamFault>
     requires { reader.old.limit ≡ largest_stream }
-    ensures within { OnOk result (EndsWithin reader.old (S.left source.old) (S.left source.new) (past reader.old (S.left source.old))) }
+    ensures within { OnOk result (EndsWithin reader.old (S.left source.old) (S.left source.new)
+        (past reader.old (S.left source.old))) }
     ensures refused { IfErr result (PassesBy reader.old (S.left source.new) (past reader.old (S.left source.old))) }
     ensures no_keeper { IfErr result IsOfSource }
     ensures cause { HasCause stream_source_failed (S.faults source.old) (S.faults source.new) result }
@@ -102,7 +110,8 @@ fn end_within<S: Source>(reader: &mut BufferedReader, source: &mut S) -> Result<
 /// Reads a source's stream to its end, and answers the change that puts its repository into an empty keeper.
 pub fn read_change<S: Source>(alloc: Global, source: &mut S) -> Result<Change, StreamFault>
     ensures found { IfOk result (λ change. IsChangeRead change (S.left source.old) (S.left source.new)) }
-    ensures refused { IfErr result (λ fault. IfSome (S.left source.old) (λ input. IsRefusedBy largest_stream input (S.left source.new) fault)) }
+    ensures refused { IfErr result
+        (λ fault. IfSome (S.left source.old) (λ input. IsRefusedBy largest_stream input (S.left source.new) fault)) }
     ensures no_keeper { IfErr result IsOfSource }
     ensures cause { HasCause stream_source_failed (S.faults source.old) (S.faults source.new) result }
 {

@@ -25,9 +25,12 @@ pub fn read_stream<S: Source, R: Keeper>(
     ensures ok { OnOk result (TakesInto R.Keeper (S.left source.old) (S.left source.new) keeper.old keeper.new) }
 
     // The refusals that are exact, and what a refusal leaves.
-    ensures decided { IfErr result (λ fault. IfSome (S.left source.old) (λ input. IsDecided input (S.left source.new) fault)) }
-    ensures was_empty { IfErr result (λ fault. IsOfInput fault → (r : Repository) → R.content keeper.new ≡ Some r → r ≡ empty_repository) }
-    ensures not_empty { IsErrOf result StreamFault.NotEmpty → (r : Repository) → R.content keeper.new ≡ Some r → r ≢ empty_repository }
+    ensures decided { IfErr result
+        (λ fault. IfSome (S.left source.old) (λ input. IsDecided input (S.left source.new) fault)) }
+    ensures was_empty { IfErr result (λ fault. IsOfInput fault → (r : Repository) → R.content keeper.new ≡ Some r
+        → r ≡ empty_repository) }
+    ensures not_empty { IsErrOf result StreamFault.NotEmpty → (r : Repository) → R.content keeper.new ≡ Some r
+        → r ≢ empty_repository }
     ensures unread { IsErrOf result StreamFault.NotEmpty → S.left source.new ≡ S.left source.old }
     ensures held { IfErr result (LeavesRefused R.Keeper (S.left source.old) (S.left source.new) keeper.old keeper.new) }
 

@@ -1,5 +1,6 @@
 -- Envelopes as they are read (DSSE's JSON envelope).
-use Rattle.std.specs.Prelude.{ℕ, suc, ◌&&◌, ◌∷◌, ◌++◌, [], Bool, true, List, Option, Some, None, Result, Ok, Err, codes, nat_le, option_and_then, is_some, if◌then◌else◌}
+use Rattle.std.specs.Prelude.{ℕ, suc, ◌&&◌, ◌∷◌, ◌++◌, [], Bool, true, List, Option, Some, None, Result, Ok, Err, codes}
+use Rattle.std.specs.Prelude.{nat_le, option_and_then, is_some, if◌then◌else◌}
 use Rattle.std.specs.Option.{option_map}
 use Rattle.serde_json.specs.Data.{Data, Items, item, no_items}
 use Rattle.json_fields.specs.Json.{json_of, list_at, text_at, text_at_or_empty}
@@ -11,7 +12,8 @@ use Rattle.dsse_envelope.specs.declared.envelope.Signature.{Signature}
 
 -- the texts of a signature: its key's id, which may be missing, and itself
 abbrev pub texts_of : Data → Option (List ℕ × List ℕ)
-texts_of d = option_and_then (λ sig. option_map (λ keyid. (keyid, sig)) (text_at_or_empty (codes "keyid") d)) (text_at (codes "sig") d)
+texts_of d = option_and_then (λ sig. option_map (λ keyid. (keyid, sig)) (text_at_or_empty (codes "keyid") d))
+    (text_at (codes "sig") d)
 
 -- how many there are
 abbrev pub count_of : Items → ℕ
@@ -25,7 +27,8 @@ have_texts (item d ds) = is_some (texts_of d) && have_texts ds
 
 -- a signature whose text decodes
 abbrev pub signature_of : Data → Option Signature
-signature_of d = option_and_then (λ texts. option_map (λ sig. record { keyid = texts.0; sig = sig }) (decoded texts.1)) (texts_of d)
+signature_of d = option_and_then (λ texts. option_map (λ sig. record { keyid = texts.0; sig = sig }) (decoded texts.1))
+    (texts_of d)
 
 abbrev pub signatures_of : Items → Option (List Signature)
 signatures_of no_items = Some []
@@ -34,11 +37,14 @@ signatures_of (item d ds) = option_and_then (λ s. option_map (λ ss. s ∷ ss) 
 abbrev pub with_bytes : List ℕ → Option (List ℕ) → Option (List Signature) → Result Envelope EnvelopeFault
 with_bytes payload_type None signatures = Err BadBase64
 with_bytes payload_type (Some payload) None = Err BadBase64
-with_bytes payload_type (Some payload) (Some signatures) = Ok (record { payload_type = payload_type; payload = payload; signatures = signatures })
+with_bytes payload_type (Some payload) (Some signatures) =
+    Ok (record { payload_type = payload_type; payload = payload; signatures = signatures })
 
 abbrev pub with_count : List ℕ → List ℕ → Items → ℕ → Result Envelope EnvelopeFault
 with_count payload payload_type ds count =
-    (if nat_le 1 count && nat_le count 64 then (if have_texts ds then with_bytes payload_type (decoded payload) (signatures_of ds) else Err MissingField) else Err (BadCount count))
+    (if nat_le 1 count && nat_le count 64 then
+    (if have_texts ds then with_bytes payload_type (decoded payload) (signatures_of ds) else Err MissingField)
+    else Err (BadCount count))
 
 abbrev pub with_list : List ℕ → List ℕ → Option Items → Result Envelope EnvelopeFault
 with_list payload payload_type None = Err MissingField
@@ -54,7 +60,8 @@ with_payload (Some payload) payload_type list = with_type payload payload_type l
 
 -- what a value is read as
 abbrev pub envelope_of : Data → Result Envelope EnvelopeFault
-envelope_of d = with_payload (text_at (codes "payload") d) (text_at (codes "payloadType") d) (list_at (codes "signatures") d)
+envelope_of d = with_payload (text_at (codes "payload") d) (text_at (codes "payloadType") d)
+    (list_at (codes "signatures") d)
 
 abbrev pub from_json : Option Data → Result Envelope EnvelopeFault
 from_json None = Err NotJson

@@ -1,5 +1,6 @@
 -- One key's signature put into an envelope.
-use Rattle.std.specs.Prelude.{ℕ, ◌+◌, ◌++◌, ◌∷◌, [], Bool, List, Option, Some, None, drop, is_some, length, nat_lt, take, ◌||◌}
+use Rattle.std.specs.Prelude.{ℕ, ◌+◌, ◌++◌, ◌∷◌, [], Bool, List, Option, Some, None, drop, is_some, length, nat_lt}
+use Rattle.std.specs.Prelude.{take, ◌||◌}
 use Rattle.std.specs.List.{position}
 use Rattle.std.specs.Str.{bytes_eq}
 use Rattle.dsse_envelope.specs.declared.envelope.Envelope.{Envelope}
@@ -22,4 +23,8 @@ abbrev pub with_signature : Signature → List Signature → List Signature
 with_signature new signatures = put_at new signatures (place_of new.keyid signatures)
 
 abbrev pub sealed : Signature → Envelope → Envelope
-sealed new e = record { payload_type = e.payload_type; payload = e.payload; signatures = with_signature new e.signatures }
+sealed new e = record {
+  payload_type = e.payload_type;
+  payload = e.payload;
+  signatures = with_signature new e.signatures;
+}

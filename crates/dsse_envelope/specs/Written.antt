@@ -18,7 +18,8 @@ base64_data bytes = string (base64_text bytes)
 
 -- the value of a signature
 abbrev pub signature_data : Signature → Data
-signature_data s = object (member (codes "keyid") (string s.keyid) (member (codes "sig") (base64_data s.sig) no_members))
+signature_data s = object (member (codes "keyid") (string s.keyid)
+    (member (codes "sig") (base64_data s.sig) no_members))
 
 -- the value of an envelope
 abbrev pub envelope_data : Envelope → Data

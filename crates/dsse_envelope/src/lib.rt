@@ -1,9 +1,6 @@
 //! Envelopes: signed texts of any type (DSSE, the Dead Simple Signing Envelope).
 //!
-//! This crate stands on `octets`, `json_fields`, `serde_json` and `base64`. A crate above may rely on `Envelope::read`
-//! taking exactly the JSON texts that are envelopes and naming what is wrong first in any other, on `write` giving one
-//! text that reads as the envelope, which each envelope that was read has, on `seal` putting a key's signature in place
-//! of its first or else at the end, and on `pae` being the bytes that are signed.
+//! What it promises, and where to begin: `README.md` in this crate's folder.
 
 #![tactic(auto)]
 

@@ -1,9 +1,11 @@
 //! Reading an envelope from its JSON value.
 
-ghost use Rattle.std.specs.Prelude.{◌≡◌, ◌⊎◌, ◌↔◌, ◌≤◌, ◌&&◌, All, IfOk, IfErr, IfSome, IsTrue, IsUtf8, Ok, Err, Some, None, length, nat_le};
+ghost use Rattle.std.specs.Prelude.{◌≡◌, ◌⊎◌, ◌↔◌, ◌≤◌, ◌&&◌, All, IfOk, IfErr, IfSome, IsTrue, IsUtf8, Ok, Err, Some};
+ghost use Rattle.std.specs.Prelude.{None, length, nat_le};
 ghost use Rattle.std.specs.Option.{option_map};
 ghost use Rattle.serde_json.specs.View.{items_view, view};
-ghost use Rattle.dsse_envelope.specs.Envelopes.{count_of, envelope_of, have_texts, signature_of, signatures_of, texts_of, with_bytes, with_count};
+ghost use Rattle.dsse_envelope.specs.Envelopes.{count_of, envelope_of, have_texts, signature_of, signatures_of};
+ghost use Rattle.dsse_envelope.specs.Envelopes.{texts_of, with_bytes, with_count};
 ghost use Rattle.dsse_envelope.specs.Base64.{decoded};
 ghost use Rattle.dsse_envelope.specs.Written.{HasTextId, IsWritable};
 ghost use Rattle.dsse_envelope.specs.declared.base64_texts.TextFault.TheVariants as text_fault;
@@ -49,7 +51,8 @@ fn all_have_texts(values: &[Value]) -> bool
 fn signature_in(alloc: Global, value: &Value) -> Result<Signature, TextFault>
     ensures ok { IfOk result (λ signature. signature_of (view value.now) ≡ Some signature) }
     ensures id { IfOk result HasTextId }
-    ensures refused { IfErr result (λ e. (e ≡ text_fault.Memory) ⊎ ((e ≡ text_fault.BadBase64) × (signature_of (view value.now) ≡ None))) }
+    ensures refused { IfErr result (λ e. (e ≡ text_fault.Memory)
+        ⊎ ((e ≡ text_fault.BadBase64) × (signature_of (view value.now) ≡ None))) }
 {
     let Some((keyid, sig)) = texts_in(value) else {
         return Err(TextFault::BadBase64);
@@ -67,7 +70,8 @@ fn signatures_in(alloc: Global, values: &[Value]) -> Result<Signatures, TextFaul
     ensures ok { IfOk result (λ signatures. signatures_of (items_view values.now) ≡ Some signatures) }
     ensures count { IfOk result (λ signatures. length signatures ≡ length values.now) }
     ensures ids { IfOk result (λ signatures. All HasTextId signatures) }
-    ensures refused { IfErr result (λ e. (e ≡ text_fault.Memory) ⊎ ((e ≡ text_fault.BadBase64) × (signatures_of (items_view values.now) ≡ None))) }
+    ensures refused { IfErr result (λ e. (e ≡ text_fault.Memory)
+        ⊎ ((e ≡ text_fault.BadBase64) × (signatures_of (items_view values.now) ≡ None))) }
 {
     let mut signatures = Signatures::new(alloc);
     'values: for value in values {
@@ -103,9 +107,11 @@ fn decode_parts(
     values: &[Value],
 ) -> Result<Envelope, EnvelopeFault>
     requires { (1 ≤ length values.now) × (length values.now ≤ 64) }
-    ensures ok { IfOk result (λ envelope. with_bytes payload_type.now (decoded payload.now) (signatures_of (items_view values.now)) ≡ Ok envelope) }
+    ensures ok { IfOk result (λ envelope. with_bytes payload_type.now (decoded payload.now)
+        (signatures_of (items_view values.now)) ≡ Ok envelope) }
     ensures writable { IfOk result IsWritable }
-    ensures refused { IfErr result (λ e. (e ≡ fault.Memory) ⊎ (with_bytes payload_type.now (decoded payload.now) (signatures_of (items_view values.now)) ≡ Err e)) }
+    ensures refused { IfErr result (λ e. (e ≡ fault.Memory)
+        ⊎ (with_bytes payload_type.now (decoded payload.now) (signatures_of (items_view values.now)) ≡ Err e)) }
 {
     let payload = match decode(alloc, payload.as_bytes()) {
         Ok(payload) => payload,
@@ -132,9 +138,11 @@ fn read_parts(
     payload_type: &str,
     values: &[Value],
 ) -> Result<Envelope, EnvelopeFault>
-    ensures ok { IfOk result (λ envelope. with_count payload.now payload_type.now (items_view values.now) (count_of (items_view values.now)) ≡ Ok envelope) }
+    ensures ok { IfOk result (λ envelope. with_count payload.now payload_type.now (items_view values.now)
+        (count_of (items_view values.now)) ≡ Ok envelope) }
     ensures writable { IfOk result IsWritable }
-    ensures refused { IfErr result (λ e. (e ≡ fault.Memory) ⊎ (with_count payload.now payload_type.now (items_view values.now) (count_of (items_view values.now)) ≡ Err e)) }
+    ensures refused { IfErr result (λ e. (e ≡ fault.Memory)
+        ⊎ (with_count payload.now payload_type.now (items_view values.now) (count_of (items_view values.now)) ≡ Err e)) }
 {
     let count = count(values);
     if !is_count(count) {

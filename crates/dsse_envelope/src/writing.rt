@@ -5,7 +5,8 @@ ghost use Rattle.serde_json.specs.Data.{array};
 ghost use Rattle.serde_json.specs.View.{items_of, view};
 ghost use Rattle.dsse_envelope.specs.Base64.{decoded};
 ghost use Rattle.dsse_envelope.specs.Envelopes.{envelope_of};
-ghost use Rattle.dsse_envelope.specs.Written.{HasTextId, IsWritable, ReadsBack, base64_data, base64_text, envelope_data, signature_data};
+ghost use Rattle.dsse_envelope.specs.Written.{HasTextId, IsWritable, ReadsBack, base64_data, base64_text};
+ghost use Rattle.dsse_envelope.specs.Written.{envelope_data, signature_data};
 
 use crate::base64_texts::encode;
 use crate::{Envelope, Signature};

@@ -30,7 +30,8 @@ MayLeave start (synced ∷ earlier) c = c ≡ seen_after start earlier
 -- the same at one of the moments from t on, a moment being the number of steps by then
 abbrev pub LeftSince : List ℕ → List Step → ℕ → List ℕ → Type 0
 LeftSince start [] t c = MayLeave start [] c
-LeftSince start (step ∷ earlier) t c = MayLeave start (step ∷ earlier) c ⊎ ((t ≤ length earlier) × LeftSince start earlier t c)
+LeftSince start (step ∷ earlier) t c = MayLeave start (step ∷ earlier) c
+    ⊎ ((t ≤ length earlier) × LeftSince start earlier t c)
 
 -- a disk in memory, how many bytes all its writes may have and how many calls it takes
 pub record Recording : Type 0 where
@@ -51,7 +52,11 @@ IsUnmoved old new = new ≡ record old { calls = new.calls }
 
 -- a write more, and a call more
 abbrev pub IsWritten : ℕ → List ℕ → Recording → Recording → Type 0
-IsWritten at bytes old new = new ≡ record old { steps = wrote at bytes ∷ old.steps; written = old.written + length bytes; calls = after_call old.calls }
+IsWritten at bytes old new = new ≡ record old {
+  steps = wrote at bytes ∷ old.steps;
+  written = old.written + length bytes;
+  calls = after_call old.calls;
+}
 
 -- a sync more, and a call more
 abbrev pub IsSynced : Recording → Recording → Type 0
@@ -59,13 +64,16 @@ IsSynced old new = new ≡ record old { steps = synced ∷ old.steps; calls = af
 
 -- what is read stays, and a crash leaves no more than it could
 abbrev pub Keeps : Recording → Recording → Type 0
-Keeps old new = IsKept (Some (seen_after old.start old.steps)) (Some (seen_after new.start new.steps)) (MayLeave old.start old.steps) (MayLeave new.start new.steps)
+Keeps old new = IsKept (Some (seen_after old.start old.steps)) (Some (seen_after new.start new.steps))
+    (MayLeave old.start old.steps) (MayLeave new.start new.steps)
 
 -- time goes on
 abbrev pub Passes : Recording → Recording → Type 0
-Passes old new = Elapses (length old.steps) (length new.steps) (LeftSince old.start old.steps) (LeftSince new.start new.steps) (MayLeave new.start new.steps)
+Passes old new = Elapses (length old.steps) (length new.steps) (LeftSince old.start old.steps)
+    (LeftSince new.start new.steps) (MayLeave new.start new.steps)
 
--- the steps of the calls that are kept, the oldest first, whose bytes stand one after the other, before those of `later`
+-- the steps of the calls that are kept, the oldest first, whose bytes stand one after the other, before those of
+-- `later`
 abbrev pub steps_onto : List Step → List DiskCall → List ℕ → List Step
 steps_onto later [] bytes = later
 steps_onto later (Write at len ∷ kept) bytes = steps_onto (wrote at (take len bytes) ∷ later) kept (drop len bytes)

@@ -33,15 +33,18 @@ pub trait Disk {
     fn len(&mut self) -> Result<u64, Failed>
         ensures answer { IfOk result (λ len. (file : List ℕ) → seen self.new ≡ Some file → len ≡ length file) }
         ensures kept { IsKept (seen self.old) (seen self.new) (may_leave self.old) (may_leave self.new) }
-        ensures time { Elapses (moment self.old) (moment self.new) (left_since self.old) (left_since self.new) (may_leave self.new) }
+        ensures time { Elapses (moment self.old) (moment self.new) (left_since self.old) (left_since self.new)
+            (may_leave self.new) }
         ensures cause { HasCause each (faults self.old) (faults self.new) result };
 
     /// The bytes from an offset on, as many as the buffer takes, all of them within the file.
     fn read(&mut self, at: u64, out: &mut [u8]) -> Result<(), Failed>
         requires { (file : List ℕ) → seen self.old ≡ Some file → at + length out.old ≤ length file }
-        ensures bytes { OnOk result ((file : List ℕ) → seen self.new ≡ Some file → out.new ≡ take (length out.old) (drop at file)) }
+        ensures bytes { OnOk result ((file : List ℕ) → seen self.new ≡ Some file
+            → out.new ≡ take (length out.old) (drop at file)) }
         ensures kept { IsKept (seen self.old) (seen self.new) (may_leave self.old) (may_leave self.new) }
-        ensures time { Elapses (moment self.old) (moment self.new) (left_since self.old) (left_since self.new) (may_leave self.new) }
+        ensures time { Elapses (moment self.old) (moment self.new) (left_since self.old) (left_since self.new)
+            (may_leave self.new) }
         ensures cause { HasCause each (faults self.old) (faults self.new) result };
 
     /// Writes over what is there, and past the end. Until a sync a crash may leave any bytes in the range; after
@@ -51,14 +54,16 @@ pub trait Disk {
         ensures written { OnOk result (Told (Written at bytes.now) (seen self.old) (seen self.new)) }
         ensures seen { Told (Torn at (length bytes.now)) (seen self.old) (seen self.new) }
         ensures crash { Follows (Torn at (length bytes.now)) (may_leave self.old) (may_leave self.new) }
-        ensures time { Elapses (moment self.old) (moment self.new) (left_since self.old) (left_since self.new) (may_leave self.new) }
+        ensures time { Elapses (moment self.old) (moment self.new) (left_since self.old) (left_since self.new)
+            (may_leave self.new) }
         ensures cause { HasCause each (faults self.old) (faults self.new) result };
 
     /// After it a crash leaves what a read gives.
     fn sync(&mut self) -> Result<(), Failed>
         ensures durable { OnOk result ((file : List ℕ) → seen self.new ≡ Some file → Only file (may_leave self.new)) }
         ensures kept { IsKept (seen self.old) (seen self.new) (may_leave self.old) (may_leave self.new) }
-        ensures time { Elapses (moment self.old) (moment self.new) (left_since self.old) (left_since self.new) (may_leave self.new) }
+        ensures time { Elapses (moment self.old) (moment self.new) (left_since self.old) (left_since self.new)
+            (may_leave self.new) }
         ensures cause { HasCause each (faults self.old) (faults self.new) result };
 
     /// This moment is one of those since an earlier one.

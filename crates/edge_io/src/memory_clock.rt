@@ -45,7 +45,10 @@ impl MemClock {
 
     /// These moments, of which the calls with these numbers fail, counted from 1. It takes no memory.
     pub fn failing(content: Vec<u64>, calls: Vec<u64>) -> MemClock
-        ensures { result ≡ record { left = content.items; calls = record { listed = calls.items; made = 0; faults = 0 } } }
+        ensures { result ≡ record {
+          left = content.items;
+          calls = record { listed = calls.items; made = 0; faults = 0 };
+        } }
     {
         MemClock {
             content,

@@ -1,14 +1,17 @@
 //! A disk in memory.
 
-ghost use Rattle.std.specs.Prelude.{ℕ, List, refl, ◌≡◌, ◌≤◌, ◌<◌, ◌+◌, ◌∷◌, ◌++◌, ◌↔◌, ◌⊎◌, [], length, take, drop, false, true, IfOk, IsErr, IsTrue, OnOk, OnErr, Some};
+ghost use Rattle.std.specs.Prelude.{ℕ, List, refl, ◌≡◌, ◌≤◌, ◌<◌, ◌+◌, ◌∷◌, ◌++◌, ◌↔◌, ◌⊎◌, [], length, take, drop};
+ghost use Rattle.std.specs.Prelude.{false, true, IfOk, IsErr, IsTrue, OnOk, OnErr, Some};
 ghost use Rattle.std.specs.Vec.{vec_len, vec_capacity};
 ghost use Rattle.octets.specs.Causes.{HasCause, each, one_more};
 ghost use Rattle.octets.specs.Calls.{after_call, fails_next};
 ghost use Rattle.octets.specs.Content.{Told};
 ghost use Rattle.edge_io.specs.Disk.{Follows, Only, Torn, Written};
-ghost use Rattle.edge_io.specs.Recorded.{FailsNext, IsSynced, IsUnmoved, IsWritten, Keeps, LeftSince, MayLeave, Passes, seen_after, splice};
+ghost use Rattle.edge_io.specs.Recorded.{FailsNext, IsSynced, IsUnmoved, IsWritten, Keeps, LeftSince, MayLeave, Passes};
+ghost use Rattle.edge_io.specs.Recorded.{seen_after, splice};
 ghost use Rattle.edge_io.specs.Recalled.{is_left, left_now, reading_stays, seen_is};
 
+use crate::memory_bytes::{append, fails, note, put_over};
 use crate::{Disk, DiskCall, Failed};
 use octets::{FailingCalls, Memory, Octets};
 use std::marker::Model;
@@ -47,64 +50,8 @@ impl Model for MemDisk {
     } };
 
     ghost invariant = { λ s. AreKept s.start s.bytes.items s.written.items s.kept.items s.room × (length s.kept.items ≤ s.calls.made)
-        × (length s.start + s.room ≤ vec_capacity s.bytes) × (s.room ≤ vec_capacity s.written) × (s.recorded ≤ vec_capacity s.kept) };
-}
-
-// Counts a call, and tells whether it fails: it is listed, or past the number of calls that are taken.
-fn fails(calls: &mut FailingCalls, recorded: usize) -> bool
-    ensures answer { IsTrue result ↔ (IsTrue (fails_next calls.old) ⊎ recorded ≤ calls.old.made) }
-    ensures done { result ≡ false → calls.new ≡ after_call calls.old }
-    ensures made { result ≡ false → (calls.new.made ≡ calls.old.made + 1) × (calls.old.made < recorded) }
-    ensures grows { calls.old.made ≤ calls.new.made }
-    ensures later { calls.old.faults ≤ calls.new.faults }
-    ensures quiet { result ≡ false → calls.new.faults ≡ calls.old.faults }
-    ensures risen { IsTrue result → calls.new.faults ≡ one_more calls.old.faults }
-{
-    let past = calls.made() >= recorded as u64;
-    if calls.fails() {
-        return true;
-    }
-    if past {
-        calls.add_fault();
-    }
-    past
-}
-
-// Adds bytes, for which there is room.
-fn append(bytes: &mut Vec<u8>, more: &[u8])
-    requires { length bytes.old.items + length more.now ≤ vec_capacity bytes.old }
-    ensures added { bytes.new.items ≡ bytes.old.items ++ more.now }
-    ensures room { vec_capacity bytes.old ≤ vec_capacity bytes.new }
-{
-    match bytes.extend_from_slice(more) {
-        Ok(()) => {}
-        Err(_) => unreachable!(),
-    }
-}
-
-// Adds a call, for which there is room.
-fn note(kept: &mut Vec<DiskCall>, call: DiskCall)
-    requires { length kept.old.items < vec_capacity kept.old }
-    ensures added { kept.new.items ≡ kept.old.items ++ call ∷ [] }
-    ensures room { vec_capacity kept.old ≤ vec_capacity kept.new }
-{
-    match kept.push(call) {
-        Ok(()) => {}
-        Err(_) => unreachable!(),
-    }
-}
-
-// Puts bytes over what is there from a place on, and past the end.
-fn put_over(file: &mut Vec<u8>, at: usize, bytes: &[u8])
-    requires within { at ≤ length file.old.items }
-    requires room { at + length bytes.now ≤ vec_capacity file.old }
-    ensures bytes { file.new.items ≡ splice at bytes.now file.old.items }
-    ensures room { vec_capacity file.old ≤ vec_capacity file.new }
-{
-    let over = bytes.len().min(file.len() - at);
-    let (front, rest) = bytes.split_at(over);
-    file[at..at + over].copy_from_slice(front);
-    append(file, rest);
+        × (length s.start + s.room ≤ vec_capacity s.bytes) × (s.room ≤ vec_capacity s.written)
+        × (s.recorded ≤ vec_capacity s.kept) };
 }
 
 impl MemDisk {
@@ -115,7 +62,14 @@ impl MemDisk {
         recorded: usize,
         calls: FailingCalls,
     ) -> Result<MemDisk, Memory>
-        ensures { IfOk result (λ disk. disk ≡ record { start = content; steps = []; written = 0; room = room; recorded = recorded; calls = calls }) }
+        ensures { IfOk result (λ disk. disk ≡ record {
+          start = content;
+          steps = [];
+          written = 0;
+          room = room;
+          recorded = recorded;
+          calls = calls;
+        }) }
     {
         let alloc = content.allocator();
         let Some(longest) = content.len().checked_add(room) else {
@@ -136,7 +90,14 @@ impl MemDisk {
 
     /// A disk that holds these bytes, of which no call is listed.
     pub fn new(content: Octets, room: usize, recorded: usize) -> Result<MemDisk, Memory>
-        ensures { IfOk result (λ disk. disk ≡ record { start = content; steps = []; written = 0; room = room; recorded = recorded; calls = record { listed = []; made = 0; faults = 0 } }) }
+        ensures { IfOk result (λ disk. disk ≡ record {
+          start = content;
+          steps = [];
+          written = 0;
+          room = room;
+          recorded = recorded;
+          calls = record { listed = []; made = 0; faults = 0 };
+        }) }
     {
         let calls = FailingCalls::none(content.allocator());
         MemDisk::with_calls(content, room, recorded, calls)
@@ -149,7 +110,14 @@ impl MemDisk {
         recorded: usize,
         calls: Vec<u64>,
     ) -> Result<MemDisk, Memory>
-        ensures { IfOk result (λ disk. disk ≡ record { start = content; steps = []; written = 0; room = room; recorded = recorded; calls = record { listed = calls.items; made = 0; faults = 0 } }) }
+        ensures { IfOk result (λ disk. disk ≡ record {
+          start = content;
+          steps = [];
+          written = 0;
+          room = room;
+          recorded = recorded;
+          calls = record { listed = calls.items; made = 0; faults = 0 };
+        }) }
     {
         MemDisk::with_calls(content, room, recorded, FailingCalls::listed(calls))
     }
@@ -177,7 +145,8 @@ impl MemDisk {
     // The bytes from a place on.
     fn copy_out(&mut self, at: u64, out: &mut [u8]) -> Result<(), Failed>
         requires within { at + length out.old ≤ length (seen_after self.old.start self.old.steps) }
-        ensures bytes { OnOk result (out.new ≡ take (length out.old) (drop at (seen_after self.old.start self.old.steps))) }
+        ensures bytes { OnOk result (out.new ≡ take (length out.old)
+            (drop at (seen_after self.old.start self.old.steps))) }
         ensures untouched { OnErr result (out.new ≡ out.old) }
         ensures same { self.new ≡ record self.old { calls = self.new.calls } }
         ensures fails { IsErr result ↔ FailsNext self.old }
@@ -252,7 +221,8 @@ impl Disk for MemDisk {
     ghost told = { λ s c may. (seen_after s.start s.steps, refl) };
 
     fn len(&mut self) -> Result<u64, Failed>
-        ensures answer { IfOk result (λ len. (file : List ℕ) → Some (seen_after self.new.start self.new.steps) ≡ Some file → len ≡ length file) }
+        ensures answer { IfOk result (λ len. (file : List ℕ) → Some (seen_after self.new.start self.new.steps)
+            ≡ Some file → len ≡ length file) }
         ensures kept { Keeps self.old self.new }
         ensures time { Passes self.old self.new }
         ensures cause { HasCause each self.old.calls.faults self.new.calls.faults result }
@@ -263,8 +233,10 @@ impl Disk for MemDisk {
     }
 
     fn read(&mut self, at: u64, out: &mut [u8]) -> Result<(), Failed>
-        requires within { (file : List ℕ) → Some (seen_after self.old.start self.old.steps) ≡ Some file → at + length out.old ≤ length file }
-        ensures bytes { OnOk result ((file : List ℕ) → Some (seen_after self.new.start self.new.steps) ≡ Some file → out.new ≡ take (length out.old) (drop at file)) }
+        requires within { (file : List ℕ) → Some (seen_after self.old.start self.old.steps) ≡ Some file
+            → at + length out.old ≤ length file }
+        ensures bytes { OnOk result ((file : List ℕ) → Some (seen_after self.new.start self.new.steps) ≡ Some file
+            → out.new ≡ take (length out.old) (drop at file)) }
         ensures kept { Keeps self.old self.new }
         ensures time { Passes self.old self.new }
         ensures cause { HasCause each self.old.calls.faults self.new.calls.faults result }
@@ -276,10 +248,14 @@ impl Disk for MemDisk {
     }
 
     fn write_at(&mut self, at: u64, bytes: &[u8]) -> Result<(), Failed>
-        requires within { (file : List ℕ) → Some (seen_after self.old.start self.old.steps) ≡ Some file → at ≤ length file }
-        ensures written { OnOk result (Told (Written at bytes.now) (Some (seen_after self.old.start self.old.steps)) (Some (seen_after self.new.start self.new.steps))) }
-        ensures seen { Told (Torn at (length bytes.now)) (Some (seen_after self.old.start self.old.steps)) (Some (seen_after self.new.start self.new.steps)) }
-        ensures crash { Follows (Torn at (length bytes.now)) (MayLeave self.old.start self.old.steps) (MayLeave self.new.start self.new.steps) }
+        requires within { (file : List ℕ) → Some (seen_after self.old.start self.old.steps) ≡ Some file
+            → at ≤ length file }
+        ensures written { OnOk result (Told (Written at bytes.now) (Some (seen_after self.old.start self.old.steps))
+            (Some (seen_after self.new.start self.new.steps))) }
+        ensures seen { Told (Torn at (length bytes.now)) (Some (seen_after self.old.start self.old.steps))
+            (Some (seen_after self.new.start self.new.steps)) }
+        ensures crash { Follows (Torn at (length bytes.now)) (MayLeave self.old.start self.old.steps)
+            (MayLeave self.new.start self.new.steps) }
         ensures time { Passes self.old self.new }
         ensures cause { HasCause each self.old.calls.faults self.new.calls.faults result }
         ensures failed { OnErr result (IsUnmoved self.old self.new) }
@@ -290,7 +266,8 @@ impl Disk for MemDisk {
     }
 
     fn sync(&mut self) -> Result<(), Failed>
-        ensures durable { OnOk result ((file : List ℕ) → Some (seen_after self.new.start self.new.steps) ≡ Some file → Only file (MayLeave self.new.start self.new.steps)) }
+        ensures durable { OnOk result ((file : List ℕ) → Some (seen_after self.new.start self.new.steps) ≡ Some file
+            → Only file (MayLeave self.new.start self.new.steps)) }
         ensures kept { Keeps self.old self.new }
         ensures time { Passes self.old self.new }
         ensures cause { HasCause each self.old.calls.faults self.new.calls.faults result }

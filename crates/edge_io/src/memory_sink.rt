@@ -1,6 +1,7 @@
 //! A sink in memory.
 
-ghost use Rattle.std.specs.Prelude.{◌≡◌, ◌≤◌, ◌<◌, ◌+◌, ◌++◌, ◌↔◌, ◌⊎◌, [], length, take, IfOk, OnErr, IsErr, IsTrue, Some};
+ghost use Rattle.std.specs.Prelude.{◌≡◌, ◌≤◌, ◌<◌, ◌+◌, ◌++◌, ◌↔◌, ◌⊎◌, [], length, take, IfOk, OnErr, IsErr, IsTrue};
+ghost use Rattle.std.specs.Prelude.{Some};
 ghost use Rattle.octets.specs.Causes.{HasCause, each};
 ghost use Rattle.octets.specs.Calls.{after_call, fails_next};
 ghost use Rattle.edge_io.specs.Told.{after_write};
@@ -35,7 +36,11 @@ impl Model for MemSink {
 impl MemSink {
     /// A sink with room for so many bytes of which no call fails.
     pub fn new(alloc: Global, room: usize) -> Result<MemSink, Memory>
-        ensures { IfOk result (λ sink. sink ≡ record { contents = []; room = room; calls = record { listed = []; made = 0; faults = 0 } }) }
+        ensures { IfOk result (λ sink. sink ≡ record {
+          contents = [];
+          room = room;
+          calls = record { listed = []; made = 0; faults = 0 };
+        }) }
     {
         Ok(MemSink {
             contents: Vec::with_capacity(alloc, room)?,
@@ -46,7 +51,11 @@ impl MemSink {
 
     /// A sink with room for so many bytes of which the calls with these numbers fail, counted from 1.
     pub fn failing(alloc: Global, room: usize, calls: Vec<u64>) -> Result<MemSink, Memory>
-        ensures { IfOk result (λ sink. sink ≡ record { contents = []; room = room; calls = record { listed = calls.items; made = 0; faults = 0 } }) }
+        ensures { IfOk result (λ sink. sink ≡ record {
+          contents = [];
+          room = room;
+          calls = record { listed = calls.items; made = 0; faults = 0 };
+        }) }
     {
         Ok(MemSink {
             contents: Vec::with_capacity(alloc, room)?,
@@ -73,7 +82,8 @@ impl Sink for MemSink {
         ensures bytes { IfOk result (λ _. self.new.contents ≡ self.old.contents ++ bytes.now) }
         ensures failed { OnErr result (self.new.contents ≡ self.old.contents) }
         ensures cause { HasCause each self.old.calls.faults self.new.calls.faults result }
-        ensures fails { IsErr result ↔ (IsTrue (fails_next self.old.calls) ⊎ self.old.room < length self.old.contents + length bytes.now) }
+        ensures fails { IsErr result ↔ (IsTrue (fails_next self.old.calls) ⊎ self.old.room < length self.old.contents
+            + length bytes.now) }
         ensures counted { self.new.calls ≡ after_write self.old bytes.now }
         ensures room { self.new.room ≡ self.old.room }
     {

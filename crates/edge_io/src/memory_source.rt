@@ -1,6 +1,7 @@
 //! A source in memory.
 
-ghost use Rattle.std.specs.Prelude.{◌≡◌, ◌≤◌, ◌<◌, ◌++◌, ◌↔◌, [], length, take, drop, min, IfOk, OnErr, IsErr, IsTrue, Some};
+ghost use Rattle.std.specs.Prelude.{◌≡◌, ◌≤◌, ◌<◌, ◌++◌, ◌↔◌, [], length, take, drop, min, IfOk, OnErr, IsErr, IsTrue};
+ghost use Rattle.std.specs.Prelude.{Some};
 ghost use Rattle.octets.specs.Causes.{HasCause, each};
 ghost use Rattle.octets.specs.Calls.{after_call, fails_next};
 

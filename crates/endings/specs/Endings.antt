@@ -5,7 +5,8 @@ use Rattle.endings.specs.declared.ending.Ending.{Ending}
 use Rattle.endings.specs.declared.ending.Ending.TheVariants.{Done, Differs, Broken, Refused}
 use Rattle.endings.specs.declared.ending.Part.{Part}
 use Rattle.endings.specs.declared.ending.Refusal.{Refusal}
-use Rattle.endings.specs.declared.ending.Refusal.TheVariants.{Words, Stream, Object, TooLarge, NotEmpty, KeyFile, Policy, Input, Fault, Memory, Exhausted}
+use Rattle.endings.specs.declared.ending.Refusal.TheVariants.{Words, Stream, Object, TooLarge, NotEmpty, KeyFile}
+use Rattle.endings.specs.declared.ending.Refusal.TheVariants.{Policy, Input, Fault, Memory, Exhausted}
 use Rattle.endings.specs.declared.messages.Line.{Line}
 use Rattle.endings.specs.declared.messages.Line.TheVariants.{Made, Held}
 

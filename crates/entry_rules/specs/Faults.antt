@@ -22,7 +22,8 @@ use Rattle.entry_rules.specs.Signing.{approved, joined, signer_among, tree_in}
 
 -- what is told of the rule at a place: its name, how many of its persons signed, and its threshold
 abbrev pub told_of : (List ℕ → ℕ → ℕ → Fault) → List RuleFile → List (List ℕ) → RuleRef → Option Fault
-told_of make files signers place = option_map (λ rule. make rule.name (count_in rule.persons signers) rule.threshold) (rule_at files place)
+told_of make files signers place = option_map (λ rule. make rule.name (count_in rule.persons signers) rule.threshold)
+    (rule_at files place)
 
 -- of the rule that a name reaches first
 abbrev pub first_told : (List ℕ → ℕ → ℕ → Fault) → List RuleFile → Name → List (List ℕ) → Option Fault
@@ -30,7 +31,8 @@ first_told make files name signers = option_and_then (told_of make files signers
 
 -- the reference is not met
 abbrev pub ref_fault : List RuleFile → List ℕ → List (List ℕ) → Option Fault
-ref_fault files name signers = if meets files (git_name name) signers then None else first_told RefRule files (git_name name) signers
+ref_fault files name signers = if meets files (git_name name) signers then None else first_told RefRule files
+    (git_name name) signers
 
 -- the least changed path that is not met
 abbrev pub path_fault : List RuleFile → List (List ℕ) → Option (List ℕ) → Option Fault
@@ -38,7 +40,8 @@ path_fault files signers None = None
 path_fault files signers (Some path) = first_told (PathRule path) files (file_name path) signers
 
 abbrev pub rules_fault : List RuleFile → List ℕ → List (List ℕ) → Ended → Ended → Option Fault
-rules_fault files name signers s t = or_next (ref_fault files name signers) (path_fault files signers (least_unmet files signers s t))
+rules_fault files name signers s t =
+    or_next (ref_fault files name signers) (path_fault files signers (least_unmet files signers s t))
 
 -- the state that the reference had is broken, or else the one that it takes, or else a rule is not met
 abbrev pub next_fault : List RuleFile → List ℕ → List (List ℕ) → Ended → Ended → Option Fault
@@ -54,7 +57,8 @@ change_fault files name signers (Sound tree ss c) t = next_fault files name sign
 module _ (r : Repository) (policy : Policy) (entry : Entry) (from : List ℕ) (attested : Option (List ℕ)) where
   -- the keys of the policy that signed for a change to a target
   abbrev pub signers_for : List ℕ → List ℕ → List (List ℕ)
-  signers_for name target = joined (signer_among policy.keys entry) (approved r policy.keys name from attested (tree_in (walk_of (readings_of r) target)))
+  signers_for name target = joined (signer_among policy.keys entry)
+      (approved r policy.keys name from attested (tree_in (walk_of (readings_of r) target)))
 
   abbrev pub body_signers : EntryBody → List (List ℕ)
   body_signers (Reference name target) = signers_for name target
@@ -62,7 +66,8 @@ module _ (r : Repository) (policy : Policy) (entry : Entry) (from : List ℕ) (a
 
   abbrev pub body_fault : EntryBody → Option Fault
   body_fault (Reference name target) =
-      change_fault policy.rules name (signers_for name target) (walk_of (readings_of r) from) (walk_of (readings_of r) target)
+      change_fault policy.rules name (signers_for name target) (walk_of (readings_of r) from)
+      (walk_of (readings_of r) target)
   body_fault (Annotation ids skip message) = None
 
   -- who signed for the entry, whose reference stood at this target, by the attestations then

@@ -31,7 +31,8 @@ epoch_by anchor current (Err why) = Err (NotEpoch why)
 abbrev pub both_sound : Readings → List ℕ → List ℕ → Bool
 both_sound readings from to = is_sound (walk_of readings from) && is_sound (walk_of readings to)
 
--- the reads of a comparison of two targets that are not broken: 18, and one for each tree that is visited for the second,
+-- the reads of a comparison of two targets that are not broken: 18, and one for each tree that is visited for the
+-- second,
 -- or for the first and not at the same place for the second
 abbrev pub comparison_reads : Readings → List ℕ → List ℕ → ℕ
 comparison_reads readings from to = 18 + shared_reads (walk_of readings from) (walk_of readings to)
@@ -58,6 +59,7 @@ real_rules anchor = record {
   may_skip = λ policy key name. may_act policy.rules (git_name name) key;
   epoch_reads = λ r current entry. policy_reads r (target_of entry.body);
   bounded = λ r from to. both_sound (readings_of r) from to;
-  fault_reads = λ r policy entry from attested. comparison_reads (readings_of r) from (target_of entry.body) + approval_reads attested;
+  fault_reads = λ r policy entry from attested. comparison_reads (readings_of r) from (target_of entry.body)
+      + approval_reads attested;
   tree_reads = λ r from to. comparison_reads (readings_of r) from to;
 }

@@ -23,8 +23,10 @@ use rule_delegations::{Rules, Short};
 
 // What is told of the rule that a name reaches first; None where it reaches none.
 fn first_short(rules: &Rules, space: Space, text: &[u8], signers: &KeyIds) -> Option<Short>
-    ensures first { option_map (λ short. short.place) result ≡ first_place (reached rules.now (record { space = space; text = text.now })) }
-    ensures told { IfSome result (λ short. (rule : Rule) × (rule_at rules.now short.place ≡ Some rule) × (short.got ≡ count_in rule.persons signers.now) × (short.need ≡ rule.threshold)) }
+    ensures first { option_map (λ short. short.place) result
+        ≡ first_place (reached rules.now (record { space = space; text = text.now })) }
+    ensures told { IfSome result (λ short. (rule : Rule) × (rule_at rules.now short.place ≡ Some rule)
+        × (short.got ≡ count_in rule.persons signers.now) × (short.need ≡ rule.threshold)) }
 {
     let _files = rules.files();
     rules.short(space, text, signers)
@@ -79,7 +81,8 @@ fn told_of_path(rules: &Rules, path: &Octets, signers: &KeyIds) -> Result<Option
 }
 
 fn path_fault(rules: &Rules, paths: &[Octets], signers: &KeyIds) -> Result<Option<Fault>, Memory>
-    ensures { IfOk result (λ fault. fault ≡ path_fault rules.now signers.now (find (is_unmet rules.now signers.now) paths.now)) }
+    ensures { IfOk result (λ fault. fault ≡ path_fault rules.now signers.now
+        (find (is_unmet rules.now signers.now) paths.now)) }
 {
     match first_unmet(rules, paths, signers) {
         Some(path) => told_of_path(rules, path, signers),
@@ -95,7 +98,8 @@ pub fn rules_fault(
     paths: &[Octets],
     signers: &KeyIds,
 ) -> Result<Option<Fault>, Memory>
-    ensures { IfOk result (λ fault. (s t : Ended) → AreChanged (map_at s) (map_at t) paths.now → fault ≡ rules_fault rules.now name.now signers.now s t) }
+    ensures { IfOk result (λ fault. (s t : Ended) → AreChanged (map_at s) (map_at t) paths.now
+        → fault ≡ rules_fault rules.now name.now signers.now s t) }
 {
     match ref_fault(rules, name, signers)? {
         Some(fault) => Ok(Some(fault)),

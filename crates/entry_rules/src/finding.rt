@@ -38,10 +38,13 @@ pub fn compared<R: Keeper>(
     to: &ObjectId,
 ) -> Result<Comparison, KeeperFault>
     requires known { (r : Repository) → R.content keeper.old ≡ Some r → AreKnownIn r known.now }
-    ensures compared { IfOk result (λ c. (r : Repository) → R.content keeper.new ≡ Some r → IsComparison (walk_of (readings_of r) from.now) (walk_of (readings_of r) to.now) c) }
+    ensures compared { IfOk result (λ c. (r : Repository) → R.content keeper.new ≡ Some r
+        → IsComparison (walk_of (readings_of r) from.now) (walk_of (readings_of r) to.now) c) }
     ensures same { Undisturbed R.Keeper keeper.old keeper.new }
     ensures cause { HasCause keeper_failed (R.faults keeper.old) (R.faults keeper.new) result }
-    ensures reads { OnOk result ((r : Repository) → R.content keeper.new ≡ Some r → both_sound (readings_of r) from.now to.now ≡ true → R.reads keeper.new ≤ R.reads keeper.old + comparison_reads (readings_of r) from.now to.now) }
+    ensures reads { OnOk result ((r : Repository) → R.content keeper.new ≡ Some r
+        → both_sound (readings_of r) from.now to.now ≡ true → R.reads keeper.new ≤ R.reads keeper.old + comparison_reads
+        (readings_of r) from.now to.now) }
 {
     compare_known(alloc, keeper, known, from, to)
 }
@@ -52,7 +55,8 @@ fn tree_of<R: Keeper>(
     keeper: &mut R,
     target: &ObjectId,
 ) -> Result<Option<ObjectId>, KeeperFault>
-    ensures tree { IfOk result (λ tree. (r : Repository) → R.content keeper.new ≡ Some r → tree ≡ tree_in (walk_of (readings_of r) target.now)) }
+    ensures tree { IfOk result (λ tree. (r : Repository) → R.content keeper.new ≡ Some r
+        → tree ≡ tree_in (walk_of (readings_of r) target.now)) }
     ensures same { Undisturbed R.Keeper keeper.old keeper.new }
     ensures cause { HasCause keeper_failed (R.faults keeper.old) (R.faults keeper.new) result }
 {
@@ -78,7 +82,9 @@ fn signers_for<R: Keeper>(
     attested: Option<&ObjectId>,
     tree: Option<ObjectId>,
 ) -> Result<root_metadata::KeyIds, KeeperFault>
-    ensures signers { IfOk result (λ ids. (r : Repository) → R.content keeper.new ≡ Some r → ids ≡ joined (signer_among policy.now.keys entry.now) (approved r policy.now.keys name.now from.now (option_copied attested.entry) tree)) }
+    ensures signers { IfOk result (λ ids. (r : Repository) → R.content keeper.new ≡ Some r
+        → ids ≡ joined (signer_among policy.now.keys entry.now)
+        (approved r policy.now.keys name.now from.now (option_copied attested.entry) tree)) }
     ensures same { Undisturbed R.Keeper keeper.old keeper.new }
     ensures cause { HasCause keeper_failed (R.faults keeper.old) (R.faults keeper.new) result }
     ensures reads { R.reads keeper.new ≤ R.reads keeper.old + approval_reads (option_copied attested.entry) }
@@ -100,9 +106,13 @@ fn find_broken<R: Keeper>(
     attested: Option<&ObjectId>,
     id: ObjectId,
 ) -> Result<Finding<Fault>, KeeperFault>
-    ensures fault { IfOk result (λ found. (r : Repository) → R.content keeper.new ≡ Some r → IsComparison (walk_of (readings_of r) from.now) (walk_of (readings_of r) target.now) (comparison.Broken id)
-        → found.fault ≡ body_fault r policy.now entry.now from.now (option_copied attested.entry) (Reference name.now target.now)) }
-    ensures signers { IfOk result (λ found. (r : Repository) → R.content keeper.new ≡ Some r → found.signers ≡ body_signers r policy.now entry.now from.now (option_copied attested.entry) (Reference name.now target.now)) }
+    ensures fault { IfOk result (λ found. (r : Repository) → R.content keeper.new ≡ Some r
+        → IsComparison (walk_of (readings_of r) from.now) (walk_of (readings_of r) target.now) (comparison.Broken id)
+        → found.fault ≡ body_fault r policy.now entry.now from.now (option_copied attested.entry)
+        (Reference name.now target.now)) }
+    ensures signers { IfOk result (λ found. (r : Repository) → R.content keeper.new ≡ Some r
+        → found.signers ≡ body_signers r policy.now entry.now from.now (option_copied attested.entry)
+        (Reference name.now target.now)) }
     ensures same { Undisturbed R.Keeper keeper.old keeper.new }
     ensures cause { HasCause keeper_failed (R.faults keeper.old) (R.faults keeper.new) result }
 {
@@ -128,11 +138,17 @@ fn find_change<R: Keeper>(
     attested: Option<&ObjectId>,
 ) -> Result<Finding<Fault>, KeeperFault>
     requires known { (r : Repository) → R.content keeper.old ≡ Some r → AreKnownIn r known.now }
-    ensures fault { IfOk result (λ found. (r : Repository) → R.content keeper.new ≡ Some r → found.fault ≡ body_fault r policy.now entry.now from.now (option_copied attested.entry) (Reference name.now target.now)) }
-    ensures signers { IfOk result (λ found. (r : Repository) → R.content keeper.new ≡ Some r → found.signers ≡ body_signers r policy.now entry.now from.now (option_copied attested.entry) (Reference name.now target.now)) }
+    ensures fault { IfOk result (λ found. (r : Repository) → R.content keeper.new ≡ Some r
+        → found.fault ≡ body_fault r policy.now entry.now from.now (option_copied attested.entry)
+        (Reference name.now target.now)) }
+    ensures signers { IfOk result (λ found. (r : Repository) → R.content keeper.new ≡ Some r
+        → found.signers ≡ body_signers r policy.now entry.now from.now (option_copied attested.entry)
+        (Reference name.now target.now)) }
     ensures same { Undisturbed R.Keeper keeper.old keeper.new }
     ensures cause { HasCause keeper_failed (R.faults keeper.old) (R.faults keeper.new) result }
-    ensures reads { OnOk result ((r : Repository) → R.content keeper.new ≡ Some r → both_sound (readings_of r) from.now target.now ≡ true → R.reads keeper.new ≤ R.reads keeper.old + comparison_reads (readings_of r) from.now target.now + approval_reads (option_copied attested.entry)) }
+    ensures reads { OnOk result ((r : Repository) → R.content keeper.new ≡ Some r
+        → both_sound (readings_of r) from.now target.now ≡ true → R.reads keeper.new ≤ R.reads keeper.old
+        + comparison_reads (readings_of r) from.now target.now + approval_reads (option_copied attested.entry)) }
 {
     match compared(alloc, keeper, known, from, target)? {
         Comparison::Broken { id } => {
@@ -170,12 +186,17 @@ pub fn find<R: Keeper>(
     attested: Option<&ObjectId>,
 ) -> Result<Finding<Fault>, KeeperFault>
     requires known { (r : Repository) → R.content keeper.old ≡ Some r → AreKnownIn r known.now }
-    ensures fault { IfOk result (λ found. (r : Repository) → R.content keeper.new ≡ Some r → found.fault ≡ entry_fault r policy.now entry.now from.now (option_copied attested.entry)) }
-    ensures signers { IfOk result (λ found. (r : Repository) → R.content keeper.new ≡ Some r → found.signers ≡ entry_signers r policy.now entry.now from.now (option_copied attested.entry)) }
+    ensures fault { IfOk result (λ found. (r : Repository) → R.content keeper.new ≡ Some r
+        → found.fault ≡ entry_fault r policy.now entry.now from.now (option_copied attested.entry)) }
+    ensures signers { IfOk result (λ found. (r : Repository) → R.content keeper.new ≡ Some r
+        → found.signers ≡ entry_signers r policy.now entry.now from.now (option_copied attested.entry)) }
     ensures same { Undisturbed R.Keeper keeper.old keeper.new }
     ensures cause { HasCause keeper_failed (R.faults keeper.old) (R.faults keeper.new) result }
-    ensures reads { OnOk result ((r : Repository) → R.content keeper.new ≡ Some r → both_sound (readings_of r) from.now (target_of entry.now.body) ≡ true
-        → R.reads keeper.new ≤ R.reads keeper.old + (comparison_reads (readings_of r) from.now (target_of entry.now.body) + approval_reads (option_copied attested.entry))) }
+    ensures reads { OnOk result ((r : Repository) → R.content keeper.new ≡ Some r
+        → both_sound (readings_of r) from.now (target_of entry.now.body) ≡ true
+        → R.reads keeper.new ≤ R.reads keeper.old
+        + (comparison_reads (readings_of r) from.now (target_of entry.now.body) + approval_reads
+        (option_copied attested.entry))) }
 {
     match &entry.body {
         EntryBody::Reference { name, target } => {

@@ -107,10 +107,12 @@ fn epoch<R: Keeper>(
     current: Option<&Policy>,
     entry: &Entry,
 ) -> Result<Result<Policy, Fault>, KeeperFault>
-    ensures epoch { IfOk result (λ epoch. (r : Repository) → R.content keeper.new ≡ Some r → epoch ≡ epoch_by anchor.now (option_copied current.entry) (policy_of r (target_of entry.now.body))) }
+    ensures epoch { IfOk result (λ epoch. (r : Repository) → R.content keeper.new ≡ Some r
+        → epoch ≡ epoch_by anchor.now (option_copied current.entry) (policy_of r (target_of entry.now.body))) }
     ensures same { Undisturbed R.Keeper keeper.old keeper.new }
     ensures cause { HasCause keeper_failed (R.faults keeper.old) (R.faults keeper.new) result }
-    ensures reads { (r : Repository) → R.content keeper.new ≡ Some r → R.reads keeper.new ≤ R.reads keeper.old + policy_reads r (target_of entry.now.body) }
+    ensures reads { (r : Repository) → R.content keeper.new ≡ Some r → R.reads keeper.new ≤ R.reads keeper.old
+        + policy_reads r (target_of entry.now.body) }
 {
     let target = target_of(entry);
     let found = check_policy(alloc, keeper, &target)?;
@@ -136,10 +138,13 @@ fn has_same_tree<R: Keeper>(
     to: &ObjectId,
 ) -> Result<bool, KeeperFault>
     requires known { (r : Repository) → R.content keeper.old ≡ Some r → AreKnownIn r known.now }
-    ensures answer { IfOk result (λ same. (r : Repository) → R.content keeper.new ≡ Some r → same ≡ is_same_tree (tree_in (walk_of (readings_of r) from.now)) (tree_in (walk_of (readings_of r) to.now))) }
+    ensures answer { IfOk result (λ same. (r : Repository) → R.content keeper.new ≡ Some r
+        → same ≡ is_same_tree (tree_in (walk_of (readings_of r) from.now)) (tree_in (walk_of (readings_of r) to.now))) }
     ensures same { Undisturbed R.Keeper keeper.old keeper.new }
     ensures cause { HasCause keeper_failed (R.faults keeper.old) (R.faults keeper.new) result }
-    ensures reads { OnOk result ((r : Repository) → R.content keeper.new ≡ Some r → both_sound (readings_of r) from.now to.now ≡ true → R.reads keeper.new ≤ R.reads keeper.old + comparison_reads (readings_of r) from.now to.now) }
+    ensures reads { OnOk result ((r : Repository) → R.content keeper.new ≡ Some r
+        → both_sound (readings_of r) from.now to.now ≡ true → R.reads keeper.new ≤ R.reads keeper.old + comparison_reads
+        (readings_of r) from.now to.now) }
 {
     let comparison = compared(alloc, keeper, known, from, to)?;
     Ok(has_one_tree(&comparison))

@@ -101,7 +101,8 @@ pub fn approved<R: Keeper>(
     attestations: Option<&ObjectId>,
     tree: Option<ObjectId>,
 ) -> Result<KeyIds, KeeperFault>
-    ensures found { IfOk result (λ ids. (r : Repository) → R.content keeper.new ≡ Some r → ids ≡ approved r keys.now name.now from.now (option_copied attestations.entry) tree) }
+    ensures found { IfOk result (λ ids. (r : Repository) → R.content keeper.new ≡ Some r
+        → ids ≡ approved r keys.now name.now from.now (option_copied attestations.entry) tree) }
     ensures same { Undisturbed R.Keeper keeper.old keeper.new }
     ensures cause { HasCause keeper_failed (R.faults keeper.old) (R.faults keeper.new) result }
     ensures reads { R.reads keeper.new ≤ R.reads keeper.old + approval_reads (option_copied attestations.entry) }

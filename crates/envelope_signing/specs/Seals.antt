@@ -31,8 +31,10 @@ pub record IsSealable (e : Envelope) : Type 0 where
 
 -- with a signature of this key, of so many bytes, the text of the envelope has at most 1 MiB, whatever the signature is
 abbrev pub Fits : List ℕ → ℕ → Envelope → Type 0
-Fits keyid len e = (signature : List ℕ) → length signature ≡ len → IsBytes signature → length (text_of (sealed (signature_of keyid signature) e)) ≤ 1048576
+Fits keyid len e = (signature : List ℕ) → length signature ≡ len → IsBytes signature
+    → length (text_of (sealed (signature_of keyid signature) e)) ≤ 1048576
 
 -- or it has more
 abbrev pub FitsNot : List ℕ → ℕ → Envelope → Type 0
-FitsNot keyid len e = (signature : List ℕ) → length signature ≡ len → IsBytes signature → 1048576 < length (text_of (sealed (signature_of keyid signature) e))
+FitsNot keyid len e = (signature : List ℕ) → length signature ≡ len → IsBytes signature
+    → 1048576 < length (text_of (sealed (signature_of keyid signature) e))

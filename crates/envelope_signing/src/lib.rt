@@ -1,13 +1,11 @@
 //! The signature of a key file's key in an envelope.
 //!
-//! This crate stands on `leaf_journal` and `dsse_envelope`. A crate above may rely on `sealed` putting a signature in place of
-//! the key's first or else at the end, in an envelope that can be written, on `has_place` telling whether it may, and on
-//! `fits_with` telling before anything is signed whether the text is at most 1 MiB then: its length hangs on the
-//! signature's length alone.
+//! What it promises, and where to begin: `README.md` in this crate's folder.
 
 #![tactic(auto)]
 
-ghost use Rattle.std.specs.Prelude.{◌≡◌, ◌≤◌, ℕ, List, true, false, length, replicate, IfOk, IsOkAnd, IsUtf8, MatchBool};
+ghost use Rattle.std.specs.Prelude.{◌≡◌, ◌≤◌, ℕ, List, true, false, length, replicate, IfOk, IsOkAnd, IsUtf8};
+ghost use Rattle.std.specs.Prelude.{MatchBool};
 ghost use Rattle.dsse_envelope.specs.Sealing.{has_room, place_of, sealed};
 ghost use Rattle.dsse_envelope.specs.Written.{HasTextId, IsWritable, text_of};
 ghost use Rattle.envelope_signing.specs.Seals.{Fits, FitsNot, IsSealable, id_text, signature_of, signed_text};
@@ -105,7 +103,8 @@ fn len_with(alloc: Global, envelope: &Envelope, keyid: &Octets, len: usize) -> R
     requires sealable { IsSealable envelope.now }
     requires id { IsUtf8 keyid.now }
     requires place { has_room keyid.now envelope.now.signatures ≡ true }
-    ensures { IfOk result (λ long. length (text_of (sealed (signature_of keyid.now (replicate len 0)) envelope.now)) ≡ long) }
+    ensures { IfOk result (λ long. length (text_of (sealed (signature_of keyid.now (replicate len 0)) envelope.now))
+        ≡ long) }
 {
     let signature = Signature {
         keyid: keyid.copy()?,

@@ -1,8 +1,6 @@
 //! Bytes as one printable word of ASCII.
 //!
-//! This crate stands on `octets`. Lines that name a file, a path or a rule write the name so, whatever bytes it has: those
-//! from 33 to 126 but `%` stand for themselves, and each other one is `%` and its two upper-case hexadecimal digits. A crate
-//! above may rely on a text being the word of exactly these bytes.
+//! What it promises, and where to begin: `README.md` in this crate's folder.
 
 #![tactic(auto)]
 

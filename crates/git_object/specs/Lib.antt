@@ -1,18 +1,24 @@
--- Ids and names.
+-- the ids of objects
 pub mod Ids
+-- the names of references
 pub mod Names
--- Objects, what a repository holds of them, and what a format is.
+-- the names that are fixed
+pub mod References
+-- objects, and the id of one
 pub mod Objects
+-- what a repository holds
 pub mod Repository
+-- that a format has one text for each value, and one value for each text
 pub mod Grammars
--- The formats: a commit and a tag with the lines in front of them, a tree with its modes.
+-- the lines in front of a commit or a tag
 pub mod HeaderLines
 pub mod Commits
 pub mod Tags
+-- the modes of entries
 pub mod Modes
+-- entries in their order, and the body of a tree
 pub mod Trees
--- What a refusal of a body says, and an entry whose name is still part of a text.
+-- what a refusal of a body says
 pub mod Faults
+-- an entry whose name is still part of a text
 pub mod EntryParts
--- the references that gittuf keeps beside that of its log
-pub mod References

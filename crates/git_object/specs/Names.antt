@@ -1,5 +1,6 @@
 -- Reference names: git-check-ref-format's rules, with this project's own bounds.
-use Rattle.std.specs.Prelude.{◌≡◌, ◌≤◌, ◌↔◌, ◌++◌, ◌==◌, ◌&&◌, ◌||◌, ℕ, Bool, false, not, List, [], ◌∷◌, length, codes, IsTrue, nat_le}
+use Rattle.std.specs.Prelude.{◌≡◌, ◌≤◌, ◌↔◌, ◌++◌, ◌==◌, ◌&&◌, ◌||◌, ℕ, Bool, false, not, List, [], ◌∷◌, length, codes}
+use Rattle.std.specs.Prelude.{IsTrue, nat_le}
 use Rattle.std.specs.Bool.{nat_eq}
 use Rattle.std.specs.List.{AllByRecursion, join_with_byte, slice_split, list_all, starts_with, ends_with}
 use Rattle.std.specs.Str.{IsUtf8, is_utf8}
@@ -43,7 +44,8 @@ pub record IsRefName (text : List ℕ) : Type 0 where
 -- whether a text is a reference name
 abbrev pub is_ref_name : List ℕ → Bool
 is_ref_name text =
-    starts_with nat_eq text (codes "refs/") && is_utf8 text && nat_le (length text) 255 && nat_le (length (components text)) 16
+    starts_with nat_eq text (codes "refs/") && is_utf8 text && nat_le (length text) 255
+    && nat_le (length (components text)) 16
     && list_all is_component (components text) && list_all is_plain text
     && not (has_pair 46 46 text) && not (has_pair 64 123 text) && not (ends_with nat_eq text (codes "."))
 
@@ -52,7 +54,8 @@ is_ref_name text =
 pub record NamesAloud : Type 0 where
   pub joined : (text : List ℕ) → join_with_byte 47 (components text) ≡ text
   pub no_slash : (text : List ℕ) → AllByRecursion (λ part. has_byte 47 part ≡ false) (components text)
-  pub pairs : (x y : ℕ) (text : List ℕ) → IsTrue (has_pair x y text) ↔ ((front : List ℕ) × (rest : List ℕ) × (text ≡ front ++ x ∷ y ∷ rest))
+  pub pairs : (x y : ℕ) (text : List ℕ)
+      → IsTrue (has_pair x y text) ↔ ((front : List ℕ) × (rest : List ℕ) × (text ≡ front ++ x ∷ y ∷ rest))
 
 -- the reference that the reference state log's tip stands at
 abbrev pub log_name : List ℕ

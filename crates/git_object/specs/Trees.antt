@@ -72,4 +72,5 @@ pub record IsTreeFault (body : List ℕ) (at : ℕ) : Type 0 where
   pub front : IsTreeFront entries body rest
   pub place : at ≡ length (entries_text entries)
   pub left : rest ≢ []
-  pub no_entry : (entry : TreeEntry) (more : List ℕ) → AreEntries (entries ++ entry ∷ []) → rest ≢ entry_text entry ++ more
+  pub no_entry : (entry : TreeEntry) (more : List ℕ) → AreEntries (entries ++ entry ∷ [])
+      → rest ≢ entry_text entry ++ more

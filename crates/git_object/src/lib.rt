@@ -1,11 +1,7 @@
-//! Git's own things: object ids, kinds, objects, trees, commits, tags and reference names, and a repository as
-//! two finite maps.
+//! Git's own things: object ids, kinds, objects, trees, commits, tags and reference names, and a repository as two
+//! finite maps.
 //!
-//! This crate stands on `octets`, `text_reader` and the libraries `sha2`, `hex` and `itoa`. A crate above
-//! may rely on contracts that see an id and a name as the list of its bytes and an object as its kind and
-//! body, on `id_of` being Git's object id in the object format SHA-256, and on the grammars of reference
-//! names, trees, commits and tags: what is read is written as the same bytes, and a refusal names the first
-//! place that breaks the grammar (`object_laws`). The definitions are in `specs/`, each with its source.
+//! What it promises, and where to begin: `README.md` in this crate's folder.
 
 #![tactic(auto)]
 

@@ -71,10 +71,12 @@ fn split_id_bytes(text: &[u8]) -> Option<(ObjectId, &[u8])>
 
 /// The entry that stands in front of the text, wherever its name belongs, and what follows it.
 pub fn split_entry(text: &[u8]) -> Option<(EntryParts<'_>, &[u8])>
-    ensures found { IfSome result (λ parts. text.now ≡ entry_text (entry_of parts.0.mode parts.0.name.now parts.0.id) ++ parts.1.now) }
+    ensures found { IfSome result (λ parts. text.now ≡ entry_text (entry_of parts.0.mode parts.0.name.now parts.0.id)
+        ++ parts.1.now) }
     ensures named { IfSome result (λ parts. IsEntryName parts.0.name.now) }
     ensures valid { IfSome result (λ parts. IsId parts.0.id) }
-    ensures none { IfNone result ((entry : TreeEntry) (more : List ℕ) → IsEntryName entry.name → IsId entry.id → text.now ≢ entry_text entry ++ more) }
+    ensures none { IfNone result ((entry : TreeEntry) (more : List ℕ) → IsEntryName entry.name → IsId entry.id
+        → text.now ≢ entry_text entry ++ more) }
 {
     let Some((mode, after)) = Mode::split_front(text) else {
         return None;

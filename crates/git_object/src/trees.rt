@@ -39,7 +39,8 @@ pub struct Tree {
 impl Tree {
     ghost use Rattle.git_object.specs.Faults.{Refuses};
     ghost use Rattle.git_object.specs.EntryParts.{AllPrecede};
-    ghost use Rattle.git_object.specs.Trees.{AreInOrder, AreWellFormed, HasFirstEntry, IsEntryName, IsTreeFault, IsTreeText};
+    ghost use Rattle.git_object.specs.Trees.{AreInOrder, AreWellFormed, HasFirstEntry, IsEntryName, IsTreeFault};
+    ghost use Rattle.git_object.specs.Trees.{IsTreeText};
 
     /// The tree of a body: entries of mode, space, name, zero byte and 32 bytes of an id, sorted by name, a
     /// directory's compared as if it ended in `/` (Git's tree object). A name is not empty, stands once, holds no

@@ -20,8 +20,9 @@ abbrev pub StandsBelow : Option one.Secret → one.Secret → List ℕ → List 
 StandsBelow None last i seed leaf = (last.i ≡ i) × (last.seed ≡ seed)
 StandsBelow (Some top) last i seed leaf = (top.i ≡ i) × (top.seed ≡ seed) × IsBottom last i seed leaf
 
-pub record IsWhole (top : Option one.Secret) (last : one.Secret) (i seed : List ℕ) (leaf : ℕ) (public : List ℕ) : Type 0 where
-  pub wide : length i ≡ 16
-  pub stands : StandsBelow top last i seed leaf
-  pub told : public ≡ public_bytes (secret_in top last)
-  pub low : height_of (secret_in top last) ≤ 15
+pub record IsWhole (top : Option one.Secret) (last : one.Secret) (i seed : List ℕ) (leaf : ℕ) (public : List ℕ) : Type 0
+  where
+    pub wide : length i ≡ 16
+    pub stands : StandsBelow top last i seed leaf
+    pub told : public ≡ public_bytes (secret_in top last)
+    pub low : height_of (secret_in top last) ≤ 15

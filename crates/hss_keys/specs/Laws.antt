@@ -5,7 +5,8 @@ use Rattle.lms_keys.specs.Secret as one
 use Rattle.hss_keys.specs.Secret.{link_len, link_of, signature_by}
 use Rattle.hss_keys.specs.declared.below.Below.{Below}
 
--- two signatures that use one leaf of the top key begin with the same signature and the same key after it, which the top
+-- two signatures that use one leaf of the top key begin with the same signature and the same key after it, which the
+-- top
 -- key and that leaf determine
 abbrev pub OneLink : Type 0
 OneLink =

@@ -43,7 +43,8 @@ public_by top (Some below) = to_be_bytes w32 2 ++ bytes_of top
 abbrev pub public_bytes : Secret → List ℕ
 public_bytes secret = public_by secret.top secret.below
 
--- u32str(1), and the signed public key of the key below: leaf t's signature of it, and its bytes (RFC 8554, section 6.2)
+-- u32str(1), and the signed public key of the key below: leaf t's signature of it, and its bytes (RFC 8554, section
+-- 6.2)
 abbrev pub link_by : one.Secret → one.Secret → ℕ → List ℕ
 link_by top last t = to_be_bytes w32 1 ++ one.signature top t (bytes_of last) ++ bytes_of last
 
@@ -78,7 +79,8 @@ leaves_by top None g s = leaf_in s ≡ g
 leaves_by top (Some below) g s =
     (leaf_in (drop 4 s) ≡ g / 2 ^ height below.lms) × (leaf_in (drop (link_len top) s) ≡ g % 2 ^ height below.lms)
 
--- the leaves that a signature names are those of leaf g: of two levels, the first signature names the top key's, and the
+-- the leaves that a signature names are those of leaf g: of two levels, the first signature names the top key's, and
+-- the
 -- last the one below
 abbrev pub HasLeaves : Secret → ℕ → List ℕ → Type 0
 HasLeaves secret g s = leaves_by secret.top secret.below g s

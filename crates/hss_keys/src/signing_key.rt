@@ -53,7 +53,10 @@ impl SigningKey {
         seed: [u8; 32],
     ) -> Result<SigningKey, AllocError>
         requires low { height lms ≤ 15 }
-        ensures { IfOk result (λ key. key ≡ record { top = record { lms = lms; ots = ots; i = i; seed = seed }; below = None }) }
+        ensures { IfOk result (λ key. key ≡ record {
+          top = record { lms = lms; ots = ots; i = i; seed = seed };
+          below = None;
+        }) }
     {
         let Ok(last) = SecretKey::of(alloc, lms, ots, i, seed) else {
             return Err(AllocError);
@@ -81,7 +84,10 @@ impl SigningKey {
         leaf: u32,
     ) -> Result<SigningKey, AllocError>
         requires low { height lms + height below.lms ≤ 15 }
-        ensures { IfOk result (λ key. key ≡ record { top = record { lms = lms; ots = ots; i = i; seed = seed }; below = Some below }) }
+        ensures { IfOk result (λ key. key ≡ record {
+          top = record { lms = lms; ots = ots; i = i; seed = seed };
+          below = Some below;
+        }) }
     {
         let Ok(top) = SecretKey::of(alloc, lms, ots, i, seed) else {
             return Err(AllocError);

@@ -1,8 +1,6 @@
 //! JSON values and their fields, as every format of policies reads them.
 //!
-//! This crate stands on `serde_json`, whose reading decides what JSON is: 127 levels at most, the last of a repeated
-//! key, bytes that are UTF-8. A crate above may rely on `parse` answering the value that bytes are or that they are
-//! none, and on each field being there exactly where it is and has its kind.
+//! What it promises, and where to begin: `README.md` in this crate's folder.
 
 #![tactic(auto)]
 

@@ -21,7 +21,7 @@ use Rattle.judging.specs.Engines.{IsTaken, KeepsNothing, KeepsReference, Stands,
 use Rattle.judging.specs.Logs.{above, attested_after, authorised, before, body_fault, body_signers, completes, entry_at, fault_at, fault_of, from, has_id, is_entry_of, keeps_tree, lane, last_signers, next_attested, next_policy, opened, ordinary_fault, ordinary_signers, pending, policy_after, prior, prior_target, rescued, signers_of, target_at}
 use Rattle.judging.specs.Standings.{standing_at, standing_of}
 use Rattle.judging.specs.Steps.{recorded}
-use Rattle.judging.specs.Reading.{body_bounded, body_decision_reads, body_reads, decision_reads_of, is_bounded, may_rescue, reads_of}
+use Rattle.judging.specs.Reads.{body_bounded, body_decision_reads, body_reads, decision_reads_of, is_bounded, may_rescue, reads_of}
 use Rattle.judging.specs.Tips.{IsTip}
 use Rattle.judging.specs.Verdicts.{IsJudged, answer_of, body_verdict, verdict_of}
 use Rattle.judging.specs.declared.deciding.Decision.{Decision}

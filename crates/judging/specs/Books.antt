@@ -1,6 +1,7 @@
 -- What is kept of entries: the lanes of references, targets in the order of numbers, numbers by id, and the faults of
 -- those that were refused.
-use Rattle.std.specs.Prelude.{◌≡◌, ◌≢◌, ◌==◌, ◌-◌, ◌+◌, ◌++◌, ℕ, List, [], ◌∷◌, length, Option, Some, None, is_some, if◌then◌else◌, refl}
+use Rattle.std.specs.Prelude.{◌≡◌, ◌≢◌, ◌==◌, ◌-◌, ◌+◌, ◌++◌, ℕ, List, [], ◌∷◌, length, Option, Some, None, is_some}
+use Rattle.std.specs.Prelude.{if◌then◌else◌, refl}
 use Rattle.std.specs.BTreeMap.{is_at}
 use Rattle.std.specs.Coded.{Coded, code_by, coded×, coded_list, coded_ℕ}
 use Rattle.std.specs.FinMap.{code}
@@ -21,8 +22,15 @@ pub record Kept (F : Type 0) : Type 0 where
 abbrev pub kept_coded : {F : Type 0} → Coded F → Coded (Kept F)
 kept_coded {F} fault =
     code_by (BytesMap Lane × (List (List ℕ) × (List (List ℕ × ℕ) × List (ℕ × F))))
-    (coded× (code (coded_list coded_ℕ) lane_coded) (coded× (coded_list (coded_list coded_ℕ)) (coded× (coded_list (coded× (coded_list coded_ℕ) coded_ℕ)) (coded_list (coded× coded_ℕ fault)))))
-    (λ k. (k.marks, (k.targets, (k.places, k.faults)))) (λ p. record { marks = p.0; targets = p.1.0; places = p.1.1.0; faults = p.1.1.1 }) (λ _. refl)
+    (coded× (code (coded_list coded_ℕ) lane_coded)
+    (coded× (coded_list (coded_list coded_ℕ))
+    (coded× (coded_list (coded× (coded_list coded_ℕ) coded_ℕ)) (coded_list (coded× coded_ℕ fault)))))
+    (λ k. (k.marks, (k.targets, (k.places, k.faults)))) (λ p. record {
+      marks = p.0;
+      targets = p.1.0;
+      places = p.1.1.0;
+      faults = p.1.1.1;
+    }) (λ _. refl)
 
 -- the number of the entry of an id
 abbrev pub place_of : {F : Type 0} → Kept F → List ℕ → Option ℕ
@@ -50,7 +58,8 @@ module _ {F : Type 0} where
 
   -- the next number is that of this id
   abbrev pub IsPut : List ℕ → Kept F → Kept F → Type 0
-  IsPut new was now = (id : List ℕ) → place_of now id ≡ (if bytes_eq new id then Some (next_number was) else place_of was id)
+  IsPut new was now = (id : List ℕ)
+      → place_of now id ≡ (if bytes_eq new id then Some (next_number was) else place_of was id)
 
   -- an annotation more
   pub record HasNote (id : List ℕ) (was now : Kept F) : Type 0 where
@@ -61,7 +70,9 @@ module _ {F : Type 0} where
 
   -- an entry of a reference more, and its fault
   pub record HasReference (id name target : List ℕ) (fault : Option F) (was now : Kept F) : Type 0 where
-    pub lanes : (other : List ℕ) → lane_of now.marks other ≡ (if bytes_eq name other then with_number (next_number was) (is_some fault) (lane_of was.marks other) else lane_of was.marks other)
+    pub lanes : (other : List ℕ) → lane_of now.marks other
+        ≡ (if bytes_eq name other then with_number (next_number was) (is_some fault) (lane_of was.marks other)
+        else lane_of was.marks other)
     pub targets_now : now.targets ≡ was.targets ++ target ∷ []
     pub place : IsPut id was now
     pub new_fault : (f : F) → fault ≡ Some f → kept_fault now (next_number was) ≡ Some f

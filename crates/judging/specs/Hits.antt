@@ -8,15 +8,22 @@ use Rattle.judging.specs.Rules.{Rules}
 
 -- a test of ids and numbers that says what is kept: of the number of an id, whether the key may skip its reference's
 -- entries, and of any other number nothing
-pub record IsHit {P F : Type 0} (rules : Rules P F) (policy : P) (key : List ℕ) (kept : Kept F) (hit : List ℕ → ℕ → Bool) : Type 0 where
-  pub some : (id : List ℕ) (n : ℕ) (name : List ℕ) → place_of kept id ≡ Some n → is_in n (lane_of kept.marks name).pushed ≡ true → hit id n ≡ rules.may_skip policy key name
-  pub other : (id : List ℕ) (n : ℕ) → place_of kept id ≡ Some n → ((name : List ℕ) → is_in n (lane_of kept.marks name).pushed ≡ false) → hit id n ≡ false
+pub record IsHit {P F : Type 0} (rules : Rules P F) (policy : P) (key : List ℕ) (kept : Kept F)
+    (hit : List ℕ → ℕ → Bool) : Type 0 where
+  pub some : (id : List ℕ) (n : ℕ) (name : List ℕ) → place_of kept id ≡ Some n
+      → is_in n (lane_of kept.marks name).pushed ≡ true → hit id n ≡ rules.may_skip policy key name
+  pub other : (id : List ℕ) (n : ℕ) → place_of kept id ≡ Some n
+      → ((name : List ℕ) → is_in n (lane_of kept.marks name).pushed ≡ false) → hit id n ≡ false
   pub one : (id : List ℕ) (n m : ℕ) → place_of kept id ≡ Some n → hit id m ≡ true → m ≡ n
   pub none : (id : List ℕ) (m : ℕ) → place_of kept id ≡ None → hit id m ≡ false
 
 -- the numbers that pass no test are left
 abbrev pub without : (ℕ → Bool) → Lane → Lane
-without test lane = record { pushed = lane.pushed; unskipped = filter (λ n. not (test n)) lane.unskipped; pending = lane.pending }
+without test lane = record {
+  pushed = lane.pushed;
+  unskipped = filter (λ n. not (test n)) lane.unskipped;
+  pending = lane.pending;
+}
 
 -- whether some id of the list hits a number
 abbrev pub some_hit : (List ℕ → ℕ → Bool) → List (List ℕ) → ℕ → Bool

@@ -10,7 +10,8 @@ judge_failed Failed = true
 judge_failed Memory = false
 
 -- the same is held, and a stop may leave what it could
-abbrev pub KeepsStore : {S : Type 0} → (S → Option Repository) → (S → Bool) → (S → Repository → Type 0) → (S → S → Type 0) → S → S → Type 0
+abbrev pub KeepsStore : {S : Type 0} → (S → Option Repository) → (S → Bool) → (S → Repository → Type 0)
+    → (S → S → Type 0) → S → S → Type 0
 KeepsStore content tells_left left comes old new =
     AsBefore (content old) (content new) (tells_left old) (tells_left new) (left old) (left new)
     (λ first. comes first old) (λ first. comes first new)

@@ -6,7 +6,7 @@ pub mod Verdicts
 pub mod Readings
 -- The judge that answers the rules out of a store, what an entry may cost it, and what an engine stands for.
 pub mod Judges
-pub mod Reading
+pub mod Reads
 pub mod Engines
 -- What is kept in the list's place: a step of one reference, the books of all, and what is read off them.
 pub mod Steps

@@ -1,6 +1,7 @@
 -- What the whole list of entries says of each: who may skip it, what stood before it, its fault, whether it was
 -- rescued. Entries are numbered from 1. What concerns an entry is a function of the entries before it and of it.
-use Rattle.std.specs.Prelude.{◌-◌, ◌&&◌, ◌++◌, ℕ, suc, zero, Bool, false, not, List, [], ◌∷◌, length, take, Option, Some, None, Result, Ok, Err, if◌then◌else◌, is_none, nat_lt, unwrap_or, option_and_then}
+use Rattle.std.specs.Prelude.{◌-◌, ◌&&◌, ◌++◌, ℕ, suc, zero, Bool, false, not, List, [], ◌∷◌, length, take, Option}
+use Rattle.std.specs.Prelude.{Some, None, Result, Ok, Err, if◌then◌else◌, is_none, nat_lt, unwrap_or, option_and_then}
 use Rattle.std.specs.List.{filter, fold, list_any, slice_get}
 use Rattle.std.specs.Result.{result_err}
 use Rattle.std.specs.Option.{option_map}
@@ -61,7 +62,8 @@ module _ {P F : Type 0} (rules : Rules P F) where
   opened policy (Err fault) = policy
 
   abbrev pub next_policy : Option P → Taken → Option P
-  next_policy policy t = if is_of t.entry.body policy_name then opened policy (rules.epoch t.repository policy t.entry) else policy
+  next_policy policy t = if is_of t.entry.body policy_name then opened policy (rules.epoch t.repository policy t.entry)
+      else policy
 
   -- the policy in force after these entries
   abbrev pub policy_after : List Taken → Option P
@@ -80,13 +82,15 @@ module _ {P F : Type 0} (rules : Rules P F) where
 
   -- the annotation that comes after these entries skips the other entry
   abbrev pub skips : List Taken → Option Taken → Option Taken → Bool
-  skips earlier (Some a) (Some x) = skips_id a.entry.body x.entry.id && may_skip (policy_after earlier) a.entry x.entry.body
+  skips earlier (Some a) (Some x) = skips_id a.entry.body x.entry.id && may_skip (policy_after earlier) a.entry
+      x.entry.body
   skips earlier (Some a) None = false
   skips earlier None other = false
 
   -- some later annotation of the log skips entry i
   abbrev pub skipped : List Taken → ℕ → Bool
-  skipped log i = list_any (λ a. nat_lt i a && skips (before log a) (entry_at log a) (entry_at log i)) (numbers (length log))
+  skipped log i = list_any (λ a. nat_lt i a && skips (before log a) (entry_at log a) (entry_at log i))
+      (numbers (length log))
 
   -- the numbers of a reference's entries that are not skipped
   abbrev pub unskipped : List Taken → List ℕ → List ℕ
@@ -139,7 +143,8 @@ module _ {P F : Type 0} (rules : Rules P F) where
 
   abbrev pub body_signers : List Taken → Taken → EntryBody → List (List ℕ)
   body_signers earlier t (Reference name target) =
-      if bytes_eq name policy_name then [] else ordinary_signers (policy_after earlier) t (from earlier name) (attested_after earlier)
+      if bytes_eq name policy_name then [] else ordinary_signers (policy_after earlier) t (from earlier name)
+      (attested_after earlier)
   body_signers earlier t (Annotation ids skip message) = []
 
   abbrev pub signers_of : List Taken → Taken → List (List ℕ)
@@ -173,7 +178,8 @@ module _ {P F : Type 0} (rules : Rules P F) where
   abbrev pub rescues : List Taken → ℕ → ℕ → Bool
   rescues log f b =
       share (entry_at log f) (entry_at log b)
-      && (completes (before log f) (entry_at log f) && (nat_lt (above_of (before log f) (entry_at log f)) b && nat_lt b f))
+      && (completes (before log f) (entry_at log f)
+      && (nat_lt (above_of (before log f) (entry_at log f)) b && nat_lt b f))
 
   abbrev pub rescued : List Taken → ℕ → Bool
   rescued log b = list_any (λ f. rescues log f b) (numbers (length log))

@@ -5,7 +5,8 @@ use Rattle.rsl_chain.specs.Entries.{Taken, skips_id}
 use Rattle.git_object.specs.References.{policy_name}
 use Rattle.rsl_chain.specs.declared.entries.EntryBody.TheVariants.{Reference}
 use Rattle.judging.specs.Rules.{Rules, same_tree}
-use Rattle.judging.specs.Logs.{attested_after, authorised, before, entry_at, fault_at, from, is_entry_of, may_skip, policy_after, prior, rescued, skipped}
+use Rattle.judging.specs.Logs.{attested_after, authorised, before, entry_at, fault_at, from, is_entry_of, may_skip}
+use Rattle.judging.specs.Logs.{policy_after, prior, rescued, skipped}
 
 module _ {P F : Type 0} (rules : Rules P F) (log : List Taken) where
   -- annotation a is later, lists the entry's id to skip it, and its key may
@@ -50,7 +51,8 @@ module _ {P F : Type 0} (rules : Rules P F) (log : List Taken) where
     pub found : fault_at rules log i ≡ Some fault
     pub unrescued : rescued rules log i ≡ false
     -- and no earlier entry of the reference is like it
-    pub least : (j : ℕ) → 0 < j → j < i → is_entry_of (entry_at log j) name ≡ true → (fault_at rules log j ≡ None) ⊎ (rescued rules log j ≡ true)
+    pub least : (j : ℕ) → 0 < j → j < i → is_entry_of (entry_at log j) name ≡ true → (fault_at rules log j ≡ None)
+        ⊎ (rescued rules log j ≡ true)
 
   -- the entry of the policy's reference opens no policy
   abbrev pub OpensNone : ℕ → Taken → Type 0
@@ -64,13 +66,18 @@ module _ {P F : Type 0} (rules : Rules P F) (log : List Taken) where
     pub there : entry_at log k ≡ Some epoch
     pub own : is_entry_of (entry_at log k) policy_name ≡ true
     pub opens : rules.epoch epoch.repository (policy_after rules (before log k)) epoch.entry ≡ Ok policy
-    pub last : (j : ℕ) (t : Taken) → k < j → j ≤ length log → entry_at log j ≡ Some t → is_entry_of (entry_at log j) policy_name ≡ true → OpensNone j t
+    pub last : (j : ℕ) (t : Taken) → k < j → j ≤ length log → entry_at log j ≡ Some t
+        → is_entry_of (entry_at log j) policy_name ≡ true → OpensNone j t
 
   -- the entry has the fault of its rule
   pub record HasFault (i : ℕ) (t : Taken) : Type 0 where
-    pub policy : (target : List ℕ) → t.entry.body ≡ Reference policy_name target → fault_at rules log i ≡ result_err (rules.epoch t.repository (policy_after rules (before log i)) t.entry)
-    pub none : (name target : List ℕ) → t.entry.body ≡ Reference name target → name ≢ policy_name → policy_after rules (before log i) ≡ None → fault_at rules log i ≡ Some rules.no_policy
-    pub ordinary : (name target : List ℕ) (p : P) → t.entry.body ≡ Reference name target → name ≢ policy_name → policy_after rules (before log i) ≡ Some p → fault_at rules log i ≡ rules.fault t.repository p t.entry (from rules (before log i) name) (attested_after (before log i))
+    pub policy : (target : List ℕ) → t.entry.body ≡ Reference policy_name target
+        → fault_at rules log i ≡ result_err (rules.epoch t.repository (policy_after rules (before log i)) t.entry)
+    pub none : (name target : List ℕ) → t.entry.body ≡ Reference name target → name ≢ policy_name
+        → policy_after rules (before log i) ≡ None → fault_at rules log i ≡ Some rules.no_policy
+    pub ordinary : (name target : List ℕ) (p : P) → t.entry.body ≡ Reference name target → name ≢ policy_name
+        → policy_after rules (before log i) ≡ Some p → fault_at rules log i ≡ rules.fault t.repository p t.entry
+        (from rules (before log i) name) (attested_after (before log i))
 
   -- with more entries at the end an entry's fault is the same, and none that was authorised or rescued ceases to be so
   pub record Stays (more : List Taken) (i : ℕ) : Type 0 where

@@ -8,5 +8,7 @@ use Rattle.judging.specs.declared.verdicts.Verdict.TheVariants.{Violation, TipDi
 
 abbrev pub IsTip : {F : Type 0} → Kept F → List ℕ → List ℕ → Verdict F → Type 0
 IsTip kept name value (Violation number fault) = ⊥
-IsTip kept name value (TipDiffers stands recorded) = (stands ≡ value) × (recorded ≡ (standing_of kept name).from) × (value ≢ (standing_of kept name).from)
-IsTip kept name value (Accepted count) = (value ≡ (standing_of kept name).from) × (count ≡ length (lane_of kept.marks name).pushed)
+IsTip kept name value (TipDiffers stands recorded) = (stands ≡ value) × (recorded ≡ (standing_of kept name).from)
+    × (value ≢ (standing_of kept name).from)
+IsTip kept name value (Accepted count) = (value ≡ (standing_of kept name).from)
+    × (count ≡ length (lane_of kept.marks name).pushed)

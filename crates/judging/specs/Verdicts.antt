@@ -29,6 +29,8 @@ abbrev pub IsJudged : {P F : Type 0} → Rules P F → List Taken → List ℕ �
 IsJudged rules log name kept (Violation number fault) =
     (first_of (lane rules log name).pending ≡ Some number) × (fault_at rules log number ≡ Some fault)
 IsJudged rules log name kept (TipDiffers stands recorded) =
-    (first_of (lane rules log name).pending ≡ None) × (stands ≡ kept) × (recorded ≡ from rules log name) × (kept ≢ from rules log name)
+    (first_of (lane rules log name).pending ≡ None) × (stands ≡ kept) × (recorded ≡ from rules log name)
+    × (kept ≢ from rules log name)
 IsJudged rules log name kept (Accepted count) =
-    (first_of (lane rules log name).pending ≡ None) × (kept ≡ from rules log name) × (count ≡ length (lane rules log name).pushed)
+    (first_of (lane rules log name).pending ≡ None) × (kept ≡ from rules log name)
+    × (count ≡ length (lane rules log name).pushed)

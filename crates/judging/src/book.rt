@@ -1,14 +1,17 @@
 //! What an engine keeps of the entries that it took.
 
-ghost use Rattle.std.specs.Prelude.{◌≡◌, ◌≢◌, ◌↔◌, ◌<◌, ◌^◌, ◌-◌, ◌+◌, ◌++◌, ◌∷◌, [], ℕ, List, Some, None, false, is_some, length, take, if◌then◌else◌, nat_lt, IfNone, IfSome, IsTrue, OnOk, OnErr};
+ghost use Rattle.std.specs.Prelude.{◌≡◌, ◌≢◌, ◌↔◌, ◌<◌, ◌^◌, ◌-◌, ◌+◌, ◌++◌, ◌∷◌, [], ℕ, List, Some, None, false};
+ghost use Rattle.std.specs.Prelude.{is_some, length, take, if◌then◌else◌, nat_lt, IfNone, IfSome, IsTrue, OnOk, OnErr};
 ghost use Rattle.std.specs.BTreeMap as tree;
 ghost use Rattle.std.specs.List.{list_any};
 ghost use Rattle.std.specs.Option.{option_copied, option_map};
 ghost use Rattle.std.specs.Ordering.{is_eq, nat_cmp};
 ghost use Rattle.std.specs.Str.{bytes_eq};
 ghost use Rattle.octets.specs.BytesMap.{by_bytes};
-ghost use Rattle.recovery.specs.Lanes.{empty_lane, first_of, is_in, is_skipped_in, lane_of, last_of, with_fix, with_skip};
-ghost use Rattle.judging.specs.Books.{HasLanes, HasNote, HasReference, IsSame, kept_fault, kept_target, next_number, place_of};
+ghost use Rattle.recovery.specs.Lanes.{empty_lane, first_of, is_in, is_skipped_in, lane_of, last_of, with_fix};
+ghost use Rattle.recovery.specs.Lanes.{with_skip};
+ghost use Rattle.judging.specs.Books.{HasLanes, HasNote, HasReference, IsSame, kept_fault, kept_target, next_number};
+ghost use Rattle.judging.specs.Books.{place_of};
 
 use git_object::{ObjectId, RefName};
 use octets::Memory;
@@ -49,7 +52,9 @@ impl<F> Model for Book<F> {
 
 // Keeps a number under an id. After a refusal nothing has changed.
 fn add_place(places: &mut BTreeMap<ObjectId, u64>, id: &ObjectId, number: u64) -> Result<(), Memory>
-    ensures put { OnOk result ((q : List ℕ) → tree.get by_bytes places.new q ≡ (if is_eq (by_bytes id.now q) then Some number else tree.get by_bytes places.old q)) }
+    ensures put { OnOk result ((q : List ℕ)
+        → tree.get by_bytes places.new q
+        ≡ (if is_eq (by_bytes id.now q) then Some number else tree.get by_bytes places.old q)) }
     ensures same { OnErr result (places.new.entries ≡ places.old.entries) }
 {
     let _had = places.insert(*id, number)?;
@@ -65,7 +70,9 @@ fn remember(
 ) -> Result<(), Memory>
     requires { tree.get by_bytes places.old id.now ≡ None }
     ensures target { OnOk result (targets.new.items ≡ targets.old.items ++ target.now ∷ []) }
-    ensures put { OnOk result ((q : List ℕ) → tree.get by_bytes places.new q ≡ (if is_eq (by_bytes id.now q) then Some (length targets.old.items + 1) else tree.get by_bytes places.old q)) }
+    ensures put { OnOk result ((q : List ℕ)
+        → tree.get by_bytes places.new q
+        ≡ (if is_eq (by_bytes id.now q) then Some (length targets.old.items + 1) else tree.get by_bytes places.old q)) }
     ensures same { OnErr result (targets.new.items ≡ targets.old.items) }
     ensures same_places { OnErr result ((q : List ℕ) → tree.get by_bytes places.new q ≡ tree.get by_bytes places.old q) }
 {
@@ -83,7 +90,8 @@ fn remember(
 // Takes the last target and an id away.
 fn forget(targets: &mut Vec<ObjectId>, places: &mut BTreeMap<ObjectId, u64>, id: &ObjectId)
     ensures target { targets.new.items ≡ take (length targets.old.items - 1) targets.old.items }
-    ensures place { (q : List ℕ) → tree.get by_bytes places.new q ≡ (if is_eq (by_bytes id.now q) then None else tree.get by_bytes places.old q) }
+    ensures place { (q : List ℕ) → tree.get by_bytes places.new q
+        ≡ (if is_eq (by_bytes id.now q) then None else tree.get by_bytes places.old q) }
 {
     let _last = targets.pop();
     let _had = places.remove(id);
@@ -205,7 +213,8 @@ impl<F> Book<F> {
 
     /// Takes the numbers strictly between the two from what is pending of a reference.
     pub fn fix(&mut self, name: &RefName, above: u64, below: u64)
-        ensures { HasLanes (λ other lane. if bytes_eq name.now other then with_fix above below lane else lane) self.old self.new }
+        ensures { HasLanes (λ other lane. if bytes_eq name.now other then with_fix above below lane else lane) self.old
+            self.new }
     {
         self.marks.fix(name, above, below);
     }

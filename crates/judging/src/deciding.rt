@@ -29,10 +29,13 @@ fn decide_epoch<P, F, S, J: Judge<P, F, S>>(
     policy: Option<&P>,
     entry: &Entry,
 ) -> Result<Decision<P, F>, JudgeFault>
-    ensures answer { IfOk result (λ found. (r : Repository) → J.content store.new ≡ Some r → found ≡ epoch_decision (J.rules judge.now) r ((J.rules judge.now).epoch r (option_copied policy.entry) entry.now)) }
+    ensures answer { IfOk result (λ found. (r : Repository) → J.content store.new ≡ Some r
+        → found ≡ epoch_decision (J.rules judge.now) r
+        ((J.rules judge.now).epoch r (option_copied policy.entry) entry.now)) }
     ensures same { KeepsStore J.content J.tells_left J.left J.comes store.old store.new }
     ensures cause { HasCause judge_failed (J.faults store.old) (J.faults store.new) result }
-    ensures reads { (r : Repository) → J.content store.new ≡ Some r → J.reads store.new ≤ J.reads store.old + (J.rules judge.now).epoch_reads r (option_copied policy.entry) entry.now }
+    ensures reads { (r : Repository) → J.content store.new ≡ Some r → J.reads store.new ≤ J.reads store.old
+        + (J.rules judge.now).epoch_reads r (option_copied policy.entry) entry.now }
 {
     match judge.epoch(alloc, store, policy, entry)? {
         Ok(policy) => Ok(Decision {
@@ -59,11 +62,15 @@ fn decide_ordinary<P, F, S, J: Judge<P, F, S>>(
     attested: Option<&ObjectId>,
 ) -> Result<Decision<P, F>, JudgeFault>
     requires trusts { (r : Repository) → J.content store.old ≡ Some r → J.trusts judge.now r }
-    ensures answer { IfOk result (λ found. (r : Repository) → J.content store.new ≡ Some r → found ≡ ordinary_decision (J.rules judge.now) r (option_copied policy.entry) entry.now from.now (option_copied attested.entry)) }
+    ensures answer { IfOk result (λ found. (r : Repository) → J.content store.new ≡ Some r
+        → found ≡ ordinary_decision (J.rules judge.now) r (option_copied policy.entry) entry.now from.now
+        (option_copied attested.entry)) }
     ensures same { KeepsStore J.content J.tells_left J.left J.comes store.old store.new }
     ensures cause { HasCause judge_failed (J.faults store.old) (J.faults store.new) result }
-    ensures reads { OnOk result ((r : Repository) → J.content store.new ≡ Some r → (J.rules judge.now).bounded r from.now (target_of entry.now.body) ≡ true
-        → J.reads store.new ≤ J.reads store.old + ordinary_reads (J.rules judge.now) r (option_copied policy.entry) entry.now from.now (option_copied attested.entry)) }
+    ensures reads { OnOk result ((r : Repository) → J.content store.new ≡ Some r
+        → (J.rules judge.now).bounded r from.now (target_of entry.now.body) ≡ true
+        → J.reads store.new ≤ J.reads store.old + ordinary_reads (J.rules judge.now) r (option_copied policy.entry)
+        entry.now from.now (option_copied attested.entry)) }
 {
     let Some(policy) = policy else {
         return Ok(Decision {
@@ -94,11 +101,14 @@ pub fn decide<P, F, S, J: Judge<P, F, S>>(
 ) -> Result<Decision<P, F>, JudgeFault>
     requires trusts { (r : Repository) → J.content store.old ≡ Some r → J.trusts judge.now r }
     ensures answer { IfOk result (λ found. (r : Repository) → J.content store.new ≡ Some r
-        → found ≡ decision (J.rules judge.now) r (option_copied policy.entry) entry.now name.now from.now (option_copied attested.entry)) }
+        → found ≡ decision (J.rules judge.now) r (option_copied policy.entry) entry.now name.now from.now
+        (option_copied attested.entry)) }
     ensures same { KeepsStore J.content J.tells_left J.left J.comes store.old store.new }
     ensures cause { HasCause judge_failed (J.faults store.old) (J.faults store.new) result }
-    ensures reads { OnOk result ((r : Repository) → J.content store.new ≡ Some r → (J.rules judge.now).bounded r from.now (target_of entry.now.body) ≡ true
-        → J.reads store.new ≤ J.reads store.old + decision_reads (J.rules judge.now) r (option_copied policy.entry) entry.now name.now from.now (option_copied attested.entry)) }
+    ensures reads { OnOk result ((r : Repository) → J.content store.new ≡ Some r
+        → (J.rules judge.now).bounded r from.now (target_of entry.now.body) ≡ true
+        → J.reads store.new ≤ J.reads store.old + decision_reads (J.rules judge.now) r (option_copied policy.entry)
+        entry.now name.now from.now (option_copied attested.entry)) }
 {
     if name.is_policy() {
         return decide_epoch(alloc, judge, store, policy, entry);

@@ -1,6 +1,7 @@
 //! One forward pass over a log.
 
-ghost use Rattle.std.specs.Prelude.{◌≡◌, ◌↔◌, ◌<◌, ◌≤◌, ◌+◌, [], ℕ, List, Bool, Option, Some, None, true, false, IfOk, IsTrue, OnErr, OnOk};
+ghost use Rattle.std.specs.Prelude.{◌≡◌, ◌↔◌, ◌<◌, ◌≤◌, ◌+◌, [], ℕ, List, Bool, Option, Some, None, true, false, IfOk};
+ghost use Rattle.std.specs.Prelude.{IsTrue, OnErr, OnOk};
 ghost use Rattle.std.specs.Option.{option_copied};
 ghost use Rattle.octets.specs.Causes.{HasCause};
 ghost use Rattle.git_object.specs.Repository.{Repository};
@@ -33,7 +34,7 @@ pub struct Engine<P, F> {
 
 impl<P, F> Engine<P, F> {
     ghost use Rattle.judging.specs.Engines.{Stands, has_taken, taken};
-    ghost use Rattle.judging.specs.Reading.{may_rescue};
+    ghost use Rattle.judging.specs.Reads.{may_rescue};
 
     /// An engine that took no entry. It takes no memory.
     pub fn new(alloc: Global) -> Engine<P, F>
@@ -63,7 +64,8 @@ impl<P, F> Engine<P, F> {
 
     /// The target of a reference's last entry that is not skipped.
     pub fn prior_target(&self, name: &RefName) -> Option<ObjectId>
-        ensures { (rules : Rules P F) (log : List Taken) → Stands rules log self.now → result ≡ prior_target rules log name.now }
+        ensures { (rules : Rules P F) (log : List Taken) → Stands rules log self.now
+            → result ≡ prior_target rules log name.now }
     {
         let prior = self.book.prior(name)?;
         self.book.target(prior)
@@ -72,7 +74,8 @@ impl<P, F> Engine<P, F> {
     /// Whether an entry of a reference that is neither authorised nor rescued comes after its last one that is not skipped, so
     /// that the reference's next entry may rescue it.
     pub fn may_rescue(&self, name: &RefName) -> bool
-        ensures { (rules : Rules P F) (log : List Taken) → Stands rules log self.now → result ≡ may_rescue rules log name.now }
+        ensures { (rules : Rules P F) (log : List Taken) → Stands rules log self.now
+            → result ≡ may_rescue rules log name.now }
     {
         let stands = place_before(&self.book, name);
         self.book.is_pending_after(name, stands.above)
@@ -81,14 +84,16 @@ impl<P, F> Engine<P, F> {
     /// Whether the entry of a number is a reference's and is skipped.
     pub fn skipped(&self, number: u64) -> bool
         ensures { (rules : Rules P F) (log : List Taken) → Stands rules log self.now
-            → IsTrue result ↔ ((0 < number) × (name : List ℕ) × (is_entry_of (entry_at log number) name ≡ true) × (skipped rules log number ≡ true)) }
+            → IsTrue result ↔ ((0 < number) × (name : List ℕ) × (is_entry_of (entry_at log number) name ≡ true)
+            × (skipped rules log number ≡ true)) }
     {
         self.book.is_skipped(number)
     }
 
     /// The policy in force after the entries taken.
     pub fn policy(&self) -> Option<&P>
-        ensures { (rules : Rules P F) (log : List Taken) → Stands rules log self.now → option_copied result ≡ policy_after rules log }
+        ensures { (rules : Rules P F) (log : List Taken) → Stands rules log self.now
+            → option_copied result ≡ policy_after rules log }
     {
         self.policy.as_ref()
     }
@@ -96,7 +101,8 @@ impl<P, F> Engine<P, F> {
     /// The keys that signed for the last entry taken. There are none for an annotation, for an entry of the
     /// policy's reference, and where no policy was in force.
     pub fn signers(&self) -> &KeyIds
-        ensures { (rules : Rules P F) (log : List Taken) → Stands rules log self.now → result.now ≡ last_signers rules log }
+        ensures { (rules : Rules P F) (log : List Taken) → Stands rules log self.now
+            → result.now ≡ last_signers rules log }
     {
         &self.signers
     }
@@ -105,7 +111,7 @@ impl<P, F> Engine<P, F> {
 impl<P: Drop, F: Copied> Engine<P, F> {
     ghost use Rattle.std.specs.Prelude.{◌++◌, ◌∷◌, unwrap_or};
     ghost use Rattle.judging.specs.Engines.{IsTaken, Stands, has_taken, taken};
-    ghost use Rattle.judging.specs.Reading.{decision_reads_of, is_bounded, reads_of};
+    ghost use Rattle.judging.specs.Reads.{decision_reads_of, is_bounded, reads_of};
     ghost use Rattle.judging.specs.Verdicts.{IsJudged, verdict_of};
 
     /// Takes the next entry, of an id that no earlier one has, and answers whether it is authorised, refused for
@@ -120,14 +126,19 @@ impl<P: Drop, F: Copied> Engine<P, F> {
         requires next { entry.now.number ≡ taken self.old + 1 }
         requires fresh { has_taken self.old entry.now.id ≡ false }
         requires trusts { (r : Repository) → J.content store.old ≡ Some r → J.trusts judge.now r }
-        ensures taken { IfOk result (λ verdict. (r : Repository) (log : List Taken) → J.content store.new ≡ Some r → Stands (J.rules judge.now) log self.old
+        ensures taken { IfOk result (λ verdict. (r : Repository) (log : List Taken) → J.content store.new ≡ Some r
+            → Stands (J.rules judge.now) log self.old
             → IsTaken (J.rules judge.now) log (record { entry = entry.now; repository = r }) self.new verdict) }
         ensures count { OnOk result (taken self.new ≡ entry.now.number) }
-        ensures refused { OnErr result ((rules : Rules P F) (log : List Taken) → Stands rules log self.old → Stands rules log self.new) }
+        ensures refused { OnErr result ((rules : Rules P F) (log : List Taken) → Stands rules log self.old
+            → Stands rules log self.new) }
         ensures same { KeepsStore J.content J.tells_left J.left J.comes store.old store.new }
         ensures cause { HasCause judge_failed (J.faults store.old) (J.faults store.new) result }
-        ensures reads { OnOk result ((r : Repository) (log : List Taken) → J.content store.new ≡ Some r → Stands (J.rules judge.now) log self.old → is_bounded (J.rules judge.now) log (record { entry = entry.now; repository = r }) ≡ true
-            → J.reads store.new ≤ J.reads store.old + reads_of (J.rules judge.now) log (record { entry = entry.now; repository = r })) }
+        ensures reads { OnOk result ((r : Repository) (log : List Taken) → J.content store.new ≡ Some r
+            → Stands (J.rules judge.now) log self.old
+            → is_bounded (J.rules judge.now) log (record { entry = entry.now; repository = r }) ≡ true
+            → J.reads store.new ≤ J.reads store.old + reads_of (J.rules judge.now) log
+            (record { entry = entry.now; repository = r })) }
     {
         match &entry.body {
             EntryBody::Reference { name, target } => {
@@ -155,12 +166,16 @@ impl<P: Drop, F: Copied> Engine<P, F> {
         requires next { entry.now.number ≡ taken self.now + 1 }
         requires fresh { has_taken self.now entry.now.id ≡ false }
         requires trusts { (r : Repository) → J.content store.old ≡ Some r → J.trusts judge.now r }
-        ensures answer { IfOk result (λ verdict. (r : Repository) (log : List Taken) → J.content store.new ≡ Some r → Stands (J.rules judge.now) log self.now
+        ensures answer { IfOk result (λ verdict. (r : Repository) (log : List Taken) → J.content store.new ≡ Some r
+            → Stands (J.rules judge.now) log self.now
             → verdict ≡ verdict_of (J.rules judge.now) log (record { entry = entry.now; repository = r })) }
         ensures same { KeepsStore J.content J.tells_left J.left J.comes store.old store.new }
         ensures cause { HasCause judge_failed (J.faults store.old) (J.faults store.new) result }
-        ensures reads { OnOk result ((r : Repository) (log : List Taken) → J.content store.new ≡ Some r → Stands (J.rules judge.now) log self.now → is_bounded (J.rules judge.now) log (record { entry = entry.now; repository = r }) ≡ true
-            → J.reads store.new ≤ J.reads store.old + decision_reads_of (J.rules judge.now) log (record { entry = entry.now; repository = r })) }
+        ensures reads { OnOk result ((r : Repository) (log : List Taken) → J.content store.new ≡ Some r
+            → Stands (J.rules judge.now) log self.now
+            → is_bounded (J.rules judge.now) log (record { entry = entry.now; repository = r }) ≡ true
+            → J.reads store.new ≤ J.reads store.old + decision_reads_of (J.rules judge.now) log
+            (record { entry = entry.now; repository = r })) }
     {
         match &entry.body {
             EntryBody::Reference { name, target: _ } => {
@@ -177,7 +192,8 @@ impl<P: Drop, F: Copied> Engine<P, F> {
     /// The verdict on a reference that has this value, by the entries taken: the first entry that is neither
     /// authorised nor rescued; else whether the reference stands where its last entry that is not skipped put it.
     pub fn verdict(&self, name: &RefName, kept: &ObjectId) -> Result<Verdict<F>, Memory>
-        ensures { IfOk result (λ verdict. (rules : Rules P F) (log : List Taken) → Stands rules log self.now → IsJudged rules log name.now kept.now verdict) }
+        ensures { IfOk result (λ verdict. (rules : Rules P F) (log : List Taken) → Stands rules log self.now
+            → IsJudged rules log name.now kept.now verdict) }
     {
         match violation(&self.book, name)? {
             Some(verdict) => Ok(verdict),

@@ -14,8 +14,11 @@ use octets::{Copied, Memory};
 
 /// The first entry pending of a reference, and its fault.
 pub fn violation<F: Copied>(book: &Book<F>, name: &RefName) -> Result<Option<Verdict<F>>, Memory>
-    ensures some { IfOk result (λ found. IfSome found (λ verdict. (number : ℕ) × (fault : F) × (verdict ≡ Violation number fault) × (first_of (lane_of book.now.marks name.now).pending ≡ Some number) × (kept_fault book.now number ≡ Some fault))) }
-    ensures none { IfOk result (λ found. IfNone found ((number : ℕ) → first_of (lane_of book.now.marks name.now).pending ≡ Some number → kept_fault book.now number ≡ None)) }
+    ensures some { IfOk result (λ found. IfSome found (λ verdict. (number : ℕ) × (fault : F)
+        × (verdict ≡ Violation number fault) × (first_of (lane_of book.now.marks name.now).pending ≡ Some number)
+        × (kept_fault book.now number ≡ Some fault))) }
+    ensures none { IfOk result (λ found. IfNone found ((number : ℕ) → first_of (lane_of book.now.marks name.now).pending
+        ≡ Some number → kept_fault book.now number ≡ None)) }
 {
     let Some(number) = book.first_pending(name) else {
         return Ok(None);

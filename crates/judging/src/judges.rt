@@ -77,10 +77,12 @@ pub trait Judge<P, F, S> {
         policy: Option<&P>,
         entry: &Entry,
     ) -> Result<Result<P, F>, JudgeFault>
-        ensures answer { IfOk result (λ epoch. (r : Repository) → content store.new ≡ Some r → epoch ≡ (rules self.now).epoch r (option_copied policy.entry) entry.now) }
+        ensures answer { IfOk result (λ epoch. (r : Repository) → content store.new ≡ Some r
+            → epoch ≡ (rules self.now).epoch r (option_copied policy.entry) entry.now) }
         ensures same { KeepsStore content tells_left left comes store.old store.new }
         ensures cause { HasCause judge_failed (faults store.old) (faults store.new) result }
-        ensures reads { (r : Repository) → content store.new ≡ Some r → reads store.new ≤ reads store.old + (rules self.now).epoch_reads r (option_copied policy.entry) entry.now };
+        ensures reads { (r : Repository) → content store.new ≡ Some r → reads store.new ≤ reads store.old
+            + (rules self.now).epoch_reads r (option_copied policy.entry) entry.now };
 
     /// The fault of another entry under a policy, and its signers, by where its reference stood before it and by
     /// the attestations before it.
@@ -94,12 +96,16 @@ pub trait Judge<P, F, S> {
         attested: Option<&ObjectId>,
     ) -> Result<Finding<F>, JudgeFault>
         requires trusts { (r : Repository) → content store.old ≡ Some r → trusts self.now r }
-        ensures fault { IfOk result (λ found. (r : Repository) → content store.new ≡ Some r → found.fault ≡ (rules self.now).fault r policy.now entry.now from.now (option_copied attested.entry)) }
-        ensures signers { IfOk result (λ found. (r : Repository) → content store.new ≡ Some r → found.signers ≡ (rules self.now).signers r policy.now entry.now from.now (option_copied attested.entry)) }
+        ensures fault { IfOk result (λ found. (r : Repository) → content store.new ≡ Some r
+            → found.fault ≡ (rules self.now).fault r policy.now entry.now from.now (option_copied attested.entry)) }
+        ensures signers { IfOk result (λ found. (r : Repository) → content store.new ≡ Some r
+            → found.signers ≡ (rules self.now).signers r policy.now entry.now from.now (option_copied attested.entry)) }
         ensures same { KeepsStore content tells_left left comes store.old store.new }
         ensures cause { HasCause judge_failed (faults store.old) (faults store.new) result }
-        ensures reads { OnOk result ((r : Repository) → content store.new ≡ Some r → (rules self.now).bounded r from.now (target_of entry.now.body) ≡ true
-            → reads store.new ≤ reads store.old + (rules self.now).fault_reads r policy.now entry.now from.now (option_copied attested.entry)) };
+        ensures reads { OnOk result ((r : Repository) → content store.new ≡ Some r
+            → (rules self.now).bounded r from.now (target_of entry.now.body) ≡ true
+            → reads store.new ≤ reads store.old + (rules self.now).fault_reads r policy.now entry.now from.now
+            (option_copied attested.entry)) };
 
     /// Whether the states of two targets have one tree.
     fn has_same_tree(
@@ -110,10 +116,13 @@ pub trait Judge<P, F, S> {
         to: &ObjectId,
     ) -> Result<bool, JudgeFault>
         requires trusts { (r : Repository) → content store.old ≡ Some r → trusts self.now r }
-        ensures answer { IfOk result (λ same. (r : Repository) → content store.new ≡ Some r → same ≡ same_tree (rules self.now) r from.now to.now) }
+        ensures answer { IfOk result (λ same. (r : Repository) → content store.new ≡ Some r
+            → same ≡ same_tree (rules self.now) r from.now to.now) }
         ensures same { KeepsStore content tells_left left comes store.old store.new }
         ensures cause { HasCause judge_failed (faults store.old) (faults store.new) result }
-        ensures reads { OnOk result ((r : Repository) → content store.new ≡ Some r → (rules self.now).bounded r from.now to.now ≡ true → reads store.new ≤ reads store.old + (rules self.now).tree_reads r from.now to.now) };
+        ensures reads { OnOk result ((r : Repository) → content store.new ≡ Some r
+            → (rules self.now).bounded r from.now to.now ≡ true → reads store.new ≤ reads store.old
+            + (rules self.now).tree_reads r from.now to.now) };
 
     /// The fault of an entry where no policy is in force.
     fn no_policy(&self) -> F

@@ -34,7 +34,8 @@ fn attest(attested: &mut Option<ObjectId>, name: &RefName, target: &ObjectId)
 
 // Completes a recovery, where the entry does.
 fn complete<F>(book: &mut Book<F>, name: &RefName, above: u64, number: u64, completes: bool)
-    ensures { HasLanes (λ other lane. if bytes_eq name.now other then (if completes then with_fix above number lane else lane) else lane) book.old book.new }
+    ensures { HasLanes (λ other lane. if bytes_eq name.now other then
+        (if completes then with_fix above number lane else lane) else lane) book.old book.new }
 {
     if completes {
         book.fix(name, above, number);

@@ -1,12 +1,6 @@
 //! Judging the entries of a reference state log in one forward pass, over rules that are given.
 //!
-//! This crate stands on `octets`, `git_object`, `rsl_chain` and `recovery`. What a log says of its entries
-//! (who may skip one, where a reference stood before it, its fault, whether it was rescued, the verdict on a
-//! reference) is defined in `specs/` over the whole list of entries, for rules that are functions: which policy
-//! an entry opens, which fault another one has, who signed, which tree a target has. `laws` reads the
-//! definitions aloud. A crate above may rely on `Engine`: whatever list it stands for, after `extend` it stands
-//! for that list with the entry, and what it answers is what the definitions say of the list. Who answers the
-//! rules for a store is a `Judge`.
+//! What it promises, and where to begin: `README.md` in this crate's folder.
 
 #![tactic(auto)]
 

@@ -1,6 +1,7 @@
 //! How an annotation skips the entries that it lists.
 
-ghost use Rattle.std.specs.Prelude.{◌≡◌, ◌==◌, ◌&&◌, ◌+◌, ℕ, List, Bool, Some, None, true, false, IfNone, IfSome, OnOk, OnErr};
+ghost use Rattle.std.specs.Prelude.{◌≡◌, ◌==◌, ◌&&◌, ◌+◌, ℕ, List, Bool, Some, None, true, false, IfNone, IfSome, OnOk};
+ghost use Rattle.std.specs.Prelude.{OnErr};
 ghost use Rattle.std.specs.Option.{option_copied};
 ghost use Rattle.judging.specs.Books.{HasLanes, place_of};
 ghost use Rattle.judging.specs.Engines.{KeepsNote, KeepsNothing, taken};
@@ -22,8 +23,10 @@ fn number_to_skip<P, F, S, J: Judge<P, F, S>>(
     book: &Book<F>,
     id: &ObjectId,
 ) -> Option<u64>
-    ensures some { IfSome result (λ n. (hit : List ℕ → ℕ → Bool) → IsHit (J.rules judge.now) policy.now key.now book.now hit → (m : ℕ) → hit id.now m ≡ (m == n)) }
-    ensures none { IfNone result ((hit : List ℕ → ℕ → Bool) → IsHit (J.rules judge.now) policy.now key.now book.now hit → (m : ℕ) → hit id.now m ≡ false) }
+    ensures some { IfSome result (λ n. (hit : List ℕ → ℕ → Bool)
+        → IsHit (J.rules judge.now) policy.now key.now book.now hit → (m : ℕ) → hit id.now m ≡ (m == n)) }
+    ensures none { IfNone result ((hit : List ℕ → ℕ → Bool) → IsHit (J.rules judge.now) policy.now key.now book.now hit
+        → (m : ℕ) → hit id.now m ≡ false) }
 {
     let number = book.place(id)?;
     let name = book.name_of(number)?;
@@ -42,7 +45,8 @@ fn skip_one<P, F, S, J: Judge<P, F, S>>(
     book: &mut Book<F>,
     id: &ObjectId,
 )
-    ensures lanes { (hit : List ℕ → ℕ → Bool) → IsHit (J.rules judge.now) policy.now key.now book.old hit → HasLanes (λ name lane. without (hit id.now) lane) book.old book.new }
+    ensures lanes { (hit : List ℕ → ℕ → Bool) → IsHit (J.rules judge.now) policy.now key.now book.old hit
+        → HasLanes (λ name lane. without (hit id.now) lane) book.old book.new }
     ensures targets { book.new.targets ≡ book.old.targets }
 {
     match number_to_skip::<P, F, S, J>(judge, policy, key, book, id) {
@@ -59,7 +63,8 @@ pub fn skip_all<P, F, S, J: Judge<P, F, S>>(
     book: &mut Book<F>,
     ids: &[ObjectId],
 )
-    ensures lanes { (hit : List ℕ → ℕ → Bool) → IsHit (J.rules judge.now) policy.now key.now book.old hit → HasLanes (λ name lane. without (some_hit hit ids.now) lane) book.old book.new }
+    ensures lanes { (hit : List ℕ → ℕ → Bool) → IsHit (J.rules judge.now) policy.now key.now book.old hit
+        → HasLanes (λ name lane. without (some_hit hit ids.now) lane) book.old book.new }
     ensures targets { book.new.targets ≡ book.old.targets }
 {
     'ids: for id in ids {
@@ -75,7 +80,8 @@ pub fn skip_listed<P, F, S, J: Judge<P, F, S>>(
     annotation: &Entry,
     ids: &[ObjectId],
 )
-    ensures lanes { (hit : List ℕ → ℕ → Bool) → IsHitBy (J.rules judge.now) (option_copied policy.entry) annotation.now book.old hit → HasLanes (λ name lane. without (some_hit hit ids.now) lane) book.old book.new }
+    ensures lanes { (hit : List ℕ → ℕ → Bool) → IsHitBy (J.rules judge.now) (option_copied policy.entry) annotation.now
+        book.old hit → HasLanes (λ name lane. without (some_hit hit ids.now) lane) book.old book.new }
     ensures targets { book.new.targets ≡ book.old.targets }
 {
     let Some(policy) = policy else {
@@ -96,7 +102,8 @@ fn skip_where<P, F, S, J: Judge<P, F, S>>(
     ids: &[ObjectId],
     skip: bool,
 )
-    ensures lanes { (hit : List ℕ → ℕ → Bool) → IsHitBy (J.rules judge.now) (option_copied policy.entry) annotation.now book.old hit → HasLanes (λ name lane. without (λ n. skip && some_hit hit ids.now n) lane) book.old book.new }
+    ensures lanes { (hit : List ℕ → ℕ → Bool) → IsHitBy (J.rules judge.now) (option_copied policy.entry) annotation.now
+        book.old hit → HasLanes (λ name lane. without (λ n. skip && some_hit hit ids.now n) lane) book.old book.new }
     ensures targets { book.new.targets ≡ book.old.targets }
 {
     if skip {

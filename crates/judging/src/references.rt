@@ -52,11 +52,14 @@ pub fn finishes<P, F, S, J: Judge<P, F, S>>(
     target: &ObjectId,
 ) -> Result<bool, JudgeFault>
     requires trusts { (r : Repository) → J.content store.old ≡ Some r → J.trusts judge.now r }
-    ensures answer { IfOk result (λ finishes. (r : Repository) → J.content store.new ≡ Some r → IsFinish (J.rules judge.now) r book.now found.now name.now stands.now target.now finishes) }
+    ensures answer { IfOk result (λ finishes. (r : Repository) → J.content store.new ≡ Some r
+        → IsFinish (J.rules judge.now) r book.now found.now name.now stands.now target.now finishes) }
     ensures same { KeepsStore J.content J.tells_left J.left J.comes store.old store.new }
     ensures cause { HasCause judge_failed (J.faults store.old) (J.faults store.new) result }
-    ensures reads { OnOk result ((r : Repository) → J.content store.new ≡ Some r → (J.rules judge.now).bounded r stands.now.from target.now ≡ true → J.reads store.new ≤ J.reads store.old
-        + (if list_any (nat_lt stands.now.above) (lane_of book.now.marks name.now).pending then (J.rules judge.now).tree_reads r stands.now.from target.now else 0)) }
+    ensures reads { OnOk result ((r : Repository) → J.content store.new ≡ Some r
+        → (J.rules judge.now).bounded r stands.now.from target.now ≡ true → J.reads store.new ≤ J.reads store.old
+        + (if list_any (nat_lt stands.now.above) (lane_of book.now.marks name.now).pending then
+        (J.rules judge.now).tree_reads r stands.now.from target.now else 0)) }
     ensures spared { is_some found.now.fault ≡ true → J.reads store.new ≡ J.reads store.old }
 {
     if found.fault.is_some() {

@@ -1,6 +1,7 @@
 //! How an entry of a reference is taken.
 
-ghost use Rattle.std.specs.Prelude.{◌≡◌, ◌+◌, ◌≤◌, ℕ, List, Option, Some, None, true, IfOk, OnErr, OnOk, if◌then◌else◌, nat_lt};
+ghost use Rattle.std.specs.Prelude.{◌≡◌, ◌+◌, ◌≤◌, ℕ, List, Option, Some, None, true, IfOk, OnErr, OnOk, if◌then◌else◌};
+ghost use Rattle.std.specs.Prelude.{nat_lt};
 ghost use Rattle.std.specs.List.{list_any};
 ghost use Rattle.octets.specs.Causes.{HasCause};
 ghost use Rattle.git_object.specs.Repository.{Repository};
@@ -47,16 +48,24 @@ pub fn take_reference<P: Drop, F: Copied, S, J: Judge<P, F, S>>(
 ) -> Result<EntryVerdict<F>, JudgeFault>
     requires fresh { place_of engine.old.book entry.now.id ≡ None }
     requires trusts { (r : Repository) → J.content store.old ≡ Some r → J.trusts judge.now r }
-    ensures taken { IfOk result (λ verdict. (r : Repository) (log : List Taken) → J.content store.new ≡ Some r → Stands (J.rules judge.now) log engine.old
-        → entry.now.body ≡ Reference name.now target.now → IsTaken (J.rules judge.now) log (record { entry = entry.now; repository = r }) engine.new verdict) }
+    ensures taken { IfOk result (λ verdict. (r : Repository) (log : List Taken) → J.content store.new ≡ Some r
+        → Stands (J.rules judge.now) log engine.old
+        → entry.now.body ≡ Reference name.now target.now
+        → IsTaken (J.rules judge.now) log (record { entry = entry.now; repository = r }) engine.new verdict) }
     ensures count { OnOk result (taken engine.new ≡ taken engine.old + 1) }
-    ensures refused { OnErr result ((rules : Rules P F) (log : List Taken) → Stands rules log engine.old → Stands rules log engine.new) }
+    ensures refused { OnErr result ((rules : Rules P F) (log : List Taken) → Stands rules log engine.old
+        → Stands rules log engine.new) }
     ensures same { KeepsStore J.content J.tells_left J.left J.comes store.old store.new }
     ensures cause { HasCause judge_failed (J.faults store.old) (J.faults store.new) result }
-    ensures reads { OnOk result ((r : Repository) → J.content store.new ≡ Some r → entry.now.body ≡ Reference name.now target.now → (J.rules judge.now).bounded r (standing_of engine.old.book name.now).from target.now ≡ true
+    ensures reads { OnOk result ((r : Repository) → J.content store.new ≡ Some r
+        → entry.now.body ≡ Reference name.now target.now
+        → (J.rules judge.now).bounded r (standing_of engine.old.book name.now).from target.now ≡ true
         → J.reads store.new ≤ J.reads store.old
-        + decision_reads (J.rules judge.now) r engine.old.policy entry.now name.now (standing_of engine.old.book name.now).from engine.old.attested
-        + (if list_any (nat_lt (standing_of engine.old.book name.now).above) (lane_of engine.old.book.marks name.now).pending then (J.rules judge.now).tree_reads r (standing_of engine.old.book name.now).from target.now else 0)) }
+        + decision_reads (J.rules judge.now) r engine.old.policy entry.now name.now
+        (standing_of engine.old.book name.now).from engine.old.attested
+        + (if list_any (nat_lt (standing_of engine.old.book name.now).above)
+        (lane_of engine.old.book.marks name.now).pending then (J.rules judge.now).tree_reads r
+        (standing_of engine.old.book name.now).from target.now else 0)) }
 {
     let stands = place_before(&engine.book, name);
     let found = decide(
@@ -102,12 +111,16 @@ pub fn look_reference<P: Drop, F: Copied, S, J: Judge<P, F, S>>(
     name: &RefName,
 ) -> Result<EntryVerdict<F>, JudgeFault>
     requires trusts { (r : Repository) → J.content store.old ≡ Some r → J.trusts judge.now r }
-    ensures answer { IfOk result (λ verdict. (r : Repository) (log : List Taken) (target : List ℕ) → J.content store.new ≡ Some r → Stands (J.rules judge.now) log engine.now
-        → entry.now.body ≡ Reference name.now target → verdict ≡ verdict_of (J.rules judge.now) log (record { entry = entry.now; repository = r })) }
+    ensures answer { IfOk result (λ verdict. (r : Repository) (log : List Taken) (target : List ℕ)
+        → J.content store.new ≡ Some r → Stands (J.rules judge.now) log engine.now
+        → entry.now.body ≡ Reference name.now target
+        → verdict ≡ verdict_of (J.rules judge.now) log (record { entry = entry.now; repository = r })) }
     ensures same { KeepsStore J.content J.tells_left J.left J.comes store.old store.new }
     ensures cause { HasCause judge_failed (J.faults store.old) (J.faults store.new) result }
-    ensures reads { OnOk result ((r : Repository) → J.content store.new ≡ Some r → (J.rules judge.now).bounded r (standing_of engine.now.book name.now).from (target_of entry.now.body) ≡ true
-        → J.reads store.new ≤ J.reads store.old + decision_reads (J.rules judge.now) r engine.now.policy entry.now name.now (standing_of engine.now.book name.now).from engine.now.attested) }
+    ensures reads { OnOk result ((r : Repository) → J.content store.new ≡ Some r
+        → (J.rules judge.now).bounded r (standing_of engine.now.book name.now).from (target_of entry.now.body) ≡ true
+        → J.reads store.new ≤ J.reads store.old + decision_reads (J.rules judge.now) r engine.now.policy entry.now
+        name.now (standing_of engine.now.book name.now).from engine.now.attested) }
 {
     let stands = place_before(&engine.book, name);
     let found = decide(

@@ -23,13 +23,15 @@ module _ {R : Type 0} (keeper_of : keeper.Ghosts R) (old new : R) where
   pub record Gains (change : Change) : Type 0 where
     pub held : Told (Makes change) (keeper_of.content old) (keeper_of.content new)
     pub tells : keeper_of.tells_left new ≡ true → keeper_of.tells_left old ≡ true
-    pub stop : keeper_of.tells_left new ≡ true → (now : Repository) → keeper_of.content new ≡ Some now → (r : Repository) → keeper_of.left new r → r ≡ now
+    pub stop : keeper_of.tells_left new ≡ true → (now : Repository) → keeper_of.content new ≡ Some now
+        → (r : Repository) → keeper_of.left new r → r ≡ now
 
   -- the repository is as before or has the change made, and a stop leaves no more than it could, and that
   pub record MayGain (change : Change) : Type 0 where
     pub held : Told (MayMake change) (keeper_of.content old) (keeper_of.content new)
     pub tells : keeper_of.tells_left new ≡ true → keeper_of.tells_left old ≡ true
-    pub stop : keeper_of.tells_left new ≡ true → (r : Repository) → keeper_of.left new r → keeper_of.left old r ⊎ IsChanged change (keeper_of.content old) r
+    pub stop : keeper_of.tells_left new ≡ true → (r : Repository) → keeper_of.left new r → keeper_of.left old r
+        ⊎ IsChanged change (keeper_of.content old) r
 
   -- what each answer of the commit means
   abbrev pub ChangeEnds : Change → Result (Unit {0}) KeeperFault → Type 0

@@ -9,7 +9,8 @@ use Rattle.keeper_api.specs.declared.keeper_faults.KeeperFault.TheVariants.{Fail
 
 -- a call that makes no commit: the same is held, where the keeper tells it a stop may leave no more than it could leave
 -- before, and of what the keeper came it comes still
-pub record AsBefore {S : Type 0} (before after : Option Repository) (told told_now : Bool) (past now : Repository → Type 0) (came comes_now : S → Type 0) : Type 0 where
+pub record AsBefore {S : Type 0} (before after : Option Repository) (told told_now : Bool)
+    (past now : Repository → Type 0) (came comes_now : S → Type 0) : Type 0 where
   pub content : Stays before after
   pub tells : told_now ≡ true → told ≡ true
   pub left : told_now ≡ true → (r : Repository) → now r → past r
@@ -32,12 +33,15 @@ IsChanged change before r = (was : Repository) × (before ≡ Some was) × (r �
 
 -- what a stop may leave after a commit: the new repository alone; after a fault at most what it could leave before, and
 -- the new one; after want of memory at most what it could leave before
-abbrev pub LeavesBy : Change → {T : Type 0} → Result T KeeperFault → Option Repository → (Repository → Type 0) → (Repository → Type 0) → Type 0
-LeavesBy change (Ok _) before past now = (was : Repository) → before ≡ Some was → (r : Repository) → now r → r ≡ changed change was
+abbrev pub LeavesBy : Change → {T : Type 0} → Result T KeeperFault → Option Repository → (Repository → Type 0)
+    → (Repository → Type 0) → Type 0
+LeavesBy change (Ok _) before past now = (was : Repository) → before ≡ Some was → (r : Repository) → now r
+    → r ≡ changed change was
 LeavesBy change (Err Failed) before past now = (r : Repository) → now r → past r ⊎ IsChanged change before r
 LeavesBy change (Err Memory) before past now = (r : Repository) → now r → past r
 
 -- a commit, where the keeper tells what a stop may leave
-pub record Leaves (change : Change) {T : Type 0} (result : Result T KeeperFault) (before : Option Repository) (told told_now : Bool) (past now : Repository → Type 0) : Type 0 where
+pub record Leaves (change : Change) {T : Type 0} (result : Result T KeeperFault) (before : Option Repository)
+    (told told_now : Bool) (past now : Repository → Type 0) : Type 0 where
   pub tells : told_now ≡ true → told ≡ true
   pub left : told_now ≡ true → LeavesBy change result before past now

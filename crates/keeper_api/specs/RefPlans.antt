@@ -11,4 +11,6 @@ use Rattle.keeper_api.specs.declared.ref_plans.RefPlan.{RefPlan}
 -- on every map the plan does what the changes do, made in order
 abbrev pub ComesTo : List RefChange → RefPlan → Type 0
 ComesTo changes plan =
-    (m : BytesMap (List ℕ)) (q : List ℕ) → get (with_refs changes m) q ≡ (if contains by_bytes plan.gone q then None else get (with_entries plan.sets.items m) q)
+    (m : BytesMap (List ℕ)) (q : List ℕ)
+    → get (with_refs changes m) q ≡
+    (if contains by_bytes plan.gone q then None else get (with_entries plan.sets.items m) q)

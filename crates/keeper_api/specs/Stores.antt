@@ -40,7 +40,8 @@ calls_after calls (Err Memory) = after_other calls
 -- a repository is told apart as the pair of its maps
 abbrev pub repository_coded : Coded Repository
 repository_coded =
-    code_by (BytesMap Pair × BytesMap (List ℕ)) (coded× (code (coded_list coded_ℕ) object.the_row.coded) (code (coded_list coded_ℕ) (coded_list coded_ℕ)))
+    code_by (BytesMap Pair × BytesMap (List ℕ))
+    (coded× (code (coded_list coded_ℕ) object.the_row.coded) (code (coded_list coded_ℕ) (coded_list coded_ℕ)))
     (λ r. (r.objects, r.refs)) (λ p. record { objects = p.0; refs = p.1 }) (λ _. refl)
 
 -- calls are told apart as the tuple of their parts
@@ -52,5 +53,7 @@ calls_coded =
 -- a store is told apart as the tuple of its parts
 abbrev pub store_coded : Coded Store
 store_coded =
-    code_by (Repository × (Calls × (List ℕ × ℕ))) (coded× repository_coded (coded× calls_coded (coded× (coded_list coded_ℕ) coded_ℕ)))
-    (λ s. (s.held, (s.calls, (s.kept, s.reads)))) (λ p. record { held = p.0; calls = p.1.0; kept = p.1.1.0; reads = p.1.1.1 }) (λ _. refl)
+    code_by (Repository × (Calls × (List ℕ × ℕ)))
+    (coded× repository_coded (coded× calls_coded (coded× (coded_list coded_ℕ) coded_ℕ)))
+    (λ s. (s.held, (s.calls, (s.kept, s.reads))))
+    (λ p. record { held = p.0; calls = p.1.0; kept = p.1.1.0; reads = p.1.1.1 }) (λ _. refl)

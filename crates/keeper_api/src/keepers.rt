@@ -39,16 +39,20 @@ pub trait Keeper {
 
     /// The object that is kept at an id, as it is kept. It is the one call that raises the count of reads.
     fn read_object(&mut self, alloc: Global, id: &ObjectId) -> Result<Option<Object>, KeeperFault>
-        ensures answer { IfOk result (λ found. (r : Repository) → content self.new ≡ Some r → found ≡ get r.objects id.now) }
-        ensures same { AsBefore (content self.old) (content self.new) (tells_left self.old) (tells_left self.new) (left self.old) (left self.new)
+        ensures answer { IfOk result (λ found. (r : Repository) → content self.new ≡ Some r
+            → found ≡ get r.objects id.now) }
+        ensures same { AsBefore (content self.old) (content self.new) (tells_left self.old) (tells_left self.new)
+            (left self.old) (left self.new)
             (λ first. comes first self.old) (λ first. comes first self.new) }
         ensures cause { HasCause keeper_failed (faults self.old) (faults self.new) result }
         ensures reads { reads self.new ≡ one_more (reads self.old) };
 
     /// The id that a reference name stands at.
     fn read_ref(&mut self, alloc: Global, name: &RefName) -> Result<Option<ObjectId>, KeeperFault>
-        ensures answer { IfOk result (λ found. (r : Repository) → content self.new ≡ Some r → found ≡ get r.refs name.now) }
-        ensures same { AsBefore (content self.old) (content self.new) (tells_left self.old) (tells_left self.new) (left self.old) (left self.new)
+        ensures answer { IfOk result (λ found. (r : Repository) → content self.new ≡ Some r
+            → found ≡ get r.refs name.now) }
+        ensures same { AsBefore (content self.old) (content self.new) (tells_left self.old) (tells_left self.new)
+            (left self.old) (left self.new)
             (λ first. comes first self.old) (λ first. comes first self.new) }
         ensures cause { HasCause keeper_failed (faults self.old) (faults self.new) result }
         ensures reads { reads self.new ≡ reads self.old };
@@ -61,7 +65,8 @@ pub trait Keeper {
     ) -> Result<Option<ObjectId>, KeeperFault>
         ensures answer { IfOk result (λ found. (r : Repository) → content self.new ≡ Some r
             → found ≡ option_map (λ e. e.0) (entry_after r.objects (option_copied after.entry))) }
-        ensures same { AsBefore (content self.old) (content self.new) (tells_left self.old) (tells_left self.new) (left self.old) (left self.new)
+        ensures same { AsBefore (content self.old) (content self.new) (tells_left self.old) (tells_left self.new)
+            (left self.old) (left self.new)
             (λ first. comes first self.old) (λ first. comes first self.new) }
         ensures cause { HasCause keeper_failed (faults self.old) (faults self.new) result }
         ensures reads { reads self.new ≡ reads self.old };
@@ -74,7 +79,8 @@ pub trait Keeper {
     ) -> Result<Option<RefValue>, KeeperFault>
         ensures answer { IfOk result (λ found. (r : Repository) → content self.new ≡ Some r
             → found ≡ option_map ref_value (entry_after r.refs (option_copied after.entry))) }
-        ensures same { AsBefore (content self.old) (content self.new) (tells_left self.old) (tells_left self.new) (left self.old) (left self.new)
+        ensures same { AsBefore (content self.old) (content self.new) (tells_left self.old) (tells_left self.new)
+            (left self.old) (left self.new)
             (λ first. comes first self.old) (λ first. comes first self.new) }
         ensures cause { HasCause keeper_failed (faults self.old) (faults self.new) result }
         ensures reads { reads self.new ≡ reads self.old };
@@ -83,9 +89,12 @@ pub trait Keeper {
     /// together. After `Failed` the old or the new repository is held, after `Memory` the old one.
     fn commit(&mut self, alloc: Global, change: &Change) -> Result<(), KeeperFault>
         ensures content { Told (Commits change.now result) (content self.old) (content self.new) }
-        ensures on { TellsOn (content self.old) (content self.new) (tells_left self.old) (tells_left self.new) (faults self.old) (faults self.new) }
-        ensures unmade { IsErrOf result KeeperFault.Memory → (first : Self) → comes first self.old → comes first self.new }
-        ensures left { Leaves change.now result (content self.old) (tells_left self.old) (tells_left self.new) (left self.old) (left self.new) }
+        ensures on { TellsOn (content self.old) (content self.new) (tells_left self.old) (tells_left self.new)
+            (faults self.old) (faults self.new) }
+        ensures unmade { IsErrOf result KeeperFault.Memory → (first : Self) → comes first self.old
+            → comes first self.new }
+        ensures left { Leaves change.now result (content self.old) (tells_left self.old) (tells_left self.new)
+            (left self.old) (left self.new) }
         ensures cause { HasCause keeper_failed (faults self.old) (faults self.new) result }
         ensures reads { reads self.new ≡ reads self.old };
 
@@ -101,5 +110,6 @@ pub trait Keeper {
 
     /// What comes of a keeper tells on, where no fault was counted since.
     ghost comes_tells: { (first second : Self) → comes first second
-        → TellsOn (content first) (content second) (tells_left first) (tells_left second) (faults first) (faults second) };
+        → TellsOn (content first) (content second) (tells_left first) (tells_left second) (faults first)
+        (faults second) };
 }

@@ -3,7 +3,7 @@
 ghost use Rattle.std.specs.Prelude.{◌≡◌, ◌<◌, ◌-◌, ◌^◌, ℕ, Some};
 ghost use Rattle.git_object.specs.Repository.{Repository};
 ghost use Rattle.keeper_api.specs.Changes.{changed};
-ghost use Rattle.keeper_api.specs.Growing.{Larger, NoneClashes};
+ghost use Rattle.keeper_api.specs.Growing.{AreNew, HasAll, Larger, NoneClashes};
 ghost use Rattle.keeper_api.specs.Undisturbed.{Undisturbed};
 ghost use Rattle.keeper_api.specs.declared.changes.Change.{Change};
 
@@ -14,8 +14,14 @@ pub fn change_grows()
     ensures { (change : Change) (r : Repository) → NoneClashes change.objects r → Larger r (changed change r) }
 {}
 
+/// And where each is within the limit and no two of them clash, each is there afterwards, under its own id.
+pub fn change_stays()
+    ensures { (change : Change) (r : Repository) → AreNew change.objects r → HasAll (changed change r) change.objects }
+{}
+
 /// What a keeper told it tells after calls that make no commit and count no fault, before the count is at its end.
 pub fn tells_on<R: Keeper>()
-    ensures { (old new : R) (r : Repository) → Undisturbed R.Keeper old new → R.faults old < 2 ^ 64 - 1 → R.faults new ≡ R.faults old
+    ensures { (old new : R) (r : Repository) → Undisturbed R.Keeper old new → R.faults old < 2 ^ 64 - 1
+        → R.faults new ≡ R.faults old
         → R.content old ≡ Some r → R.content new ≡ Some r }
 {}

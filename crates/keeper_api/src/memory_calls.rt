@@ -36,7 +36,10 @@ impl Keeper for MemKeeper {
         ensures found { IfOk result (λ found. found ≡ get self.old.held.objects id.now) }
         ensures none { get self.old.held.objects id.now ≡ None → fails_next self.old.calls ≡ false → IsOk result }
         ensures listed { IsErrOf result KeeperFault.Failed ↔ IsTrue (fails_next self.old.calls) }
-        ensures after { self.new ≡ record self.old { calls = after_call self.old.calls; reads = one_more self.old.reads } }
+        ensures after { self.new ≡ record self.old {
+          calls = after_call self.old.calls;
+          reads = one_more self.old.reads;
+        } }
         ensures cause { HasCause keeper_failed self.old.calls.faults self.new.calls.faults result }
     {
         self.count_read();
@@ -64,7 +67,8 @@ impl Keeper for MemKeeper {
         _alloc: Global,
         after: Option<&ObjectId>,
     ) -> Result<Option<ObjectId>, KeeperFault>
-        ensures found { IfOk result (λ found. found ≡ option_map (λ e. e.0) (entry_after self.old.held.objects (option_copied after.entry))) }
+        ensures found { IfOk result (λ found. found ≡ option_map (λ e. e.0)
+            (entry_after self.old.held.objects (option_copied after.entry))) }
         ensures free { IsErrOf result KeeperFault.Memory → ⊥ }
         ensures listed { IsErrOf result KeeperFault.Failed ↔ IsTrue (fails_next self.old.calls) }
         ensures after { self.new ≡ record self.old { calls = after_call self.old.calls } }
@@ -81,8 +85,10 @@ impl Keeper for MemKeeper {
         _alloc: Global,
         after: Option<&RefName>,
     ) -> Result<Option<RefValue>, KeeperFault>
-        ensures found { IfOk result (λ found. found ≡ option_map ref_value (entry_after self.old.held.refs (option_copied after.entry))) }
-        ensures none { entry_after self.old.held.refs (option_copied after.entry) ≡ None → fails_next self.old.calls ≡ false → IsOk result }
+        ensures found { IfOk result (λ found. found ≡ option_map ref_value
+            (entry_after self.old.held.refs (option_copied after.entry))) }
+        ensures none { entry_after self.old.held.refs (option_copied after.entry) ≡ None
+            → fails_next self.old.calls ≡ false → IsOk result }
         ensures listed { IsErrOf result KeeperFault.Failed ↔ IsTrue (fails_next self.old.calls) }
         ensures after { self.new ≡ record self.old { calls = after_call self.old.calls } }
         ensures cause { HasCause keeper_failed self.old.calls.faults self.new.calls.faults result }
@@ -97,8 +103,12 @@ impl Keeper for MemKeeper {
         ensures content { Told (Commits change.now result) (Some self.old.held) (Some self.new.held) }
         ensures answered { IsOk result → fails_next self.old.calls ≡ false }
         ensures listed { IsErrOf result KeeperFault.Failed → IsTrue (fails_next self.old.calls) }
-        ensures dropped { IsTrue (fails_next self.old.calls) → keeps_next self.old ≡ false → IsErrOf result KeeperFault.Failed }
-        ensures after { self.new ≡ record self.old { held = held_after self.old change.now result; calls = calls_after self.old.calls result } }
+        ensures dropped { IsTrue (fails_next self.old.calls) → keeps_next self.old ≡ false
+            → IsErrOf result KeeperFault.Failed }
+        ensures after { self.new ≡ record self.old {
+          held = held_after self.old change.now result;
+          calls = calls_after self.old.calls result;
+        } }
         ensures cause { HasCause keeper_failed self.old.calls.faults self.new.calls.faults result }
     {
         self.try_commit(alloc, change)

@@ -147,7 +147,8 @@ impl MemKeeper {
     }
 
     pub(crate) fn ref_after(&self, after: Option<&RefName>) -> Result<Option<RefValue>, Memory>
-        ensures found { IfOk result (λ found. found ≡ option_map ref_value (entry_after self.now.held.refs (option_copied after.entry))) }
+        ensures found { IfOk result (λ found. found ≡ option_map ref_value
+            (entry_after self.now.held.refs (option_copied after.entry))) }
         ensures none { entry_after self.now.held.refs (option_copied after.entry) ≡ None → IsOk result }
     {
         match first_after(&self.refs, after) {
@@ -171,8 +172,12 @@ impl MemKeeper {
     pub(crate) fn try_commit(&mut self, alloc: Global, change: &Change) -> Result<(), KeeperFault>
         ensures answered { IsOk result → fails_next self.old.calls ≡ false }
         ensures listed { IsErrOf result KeeperFault.Failed → IsTrue (fails_next self.old.calls) }
-        ensures dropped { IsTrue (fails_next self.old.calls) → keeps_next self.old ≡ false → IsErrOf result KeeperFault.Failed }
-        ensures after { self.new ≡ record self.old { held = held_after self.old change.now result; calls = calls_after self.old.calls result } }
+        ensures dropped { IsTrue (fails_next self.old.calls) → keeps_next self.old ≡ false
+            → IsErrOf result KeeperFault.Failed }
+        ensures after { self.new ≡ record self.old {
+          held = held_after self.old change.now result;
+          calls = calls_after self.old.calls result;
+        } }
         ensures cause { HasCause keeper_failed self.old.calls.faults self.new.calls.faults result }
     {
         if (!self.calls.fails_next() || self.keeps_next()) && self.apply(alloc, change).is_err() {

@@ -40,7 +40,9 @@ fn entries_of(alloc: Global, objects: &[Object]) -> Result<Vec<(ObjectId, Object
 // Keeps the objects at each second place under their own ids: from the first on, or from the second. Answers whether nothing
 // was kept there before, and stops where something was.
 fn keep_half(tree: &mut ObjectTree, objects: &[Object], first: bool) -> Result<bool, Memory>
-    ensures { IfOk result (λ new. IsTrue new → (map_of tree.new ≡ with_objects (half first objects.now) (map_of tree.old)) × AreNew (half first objects.now) (map_of tree.old)) }
+    ensures { IfOk result (λ new. IsTrue new
+        → (map_of tree.new ≡ with_objects (half first objects.now) (map_of tree.old))
+        × AreNew (half first objects.now) (map_of tree.old)) }
 {
     let mut is_taken = first;
     'objects: for object in objects {

@@ -13,7 +13,8 @@ use std::alloc::Global;
 
 /// Whether a keeper holds neither an object nor a reference.
 pub fn is_empty<R: Keeper>(alloc: Global, keeper: &mut R) -> Result<bool, KeeperFault>
-    ensures answer { IfOk result (λ empty. (r : Repository) → R.content keeper.new ≡ Some r → IsTrue empty ↔ (r ≡ empty_repository)) }
+    ensures answer { IfOk result (λ empty. (r : Repository) → R.content keeper.new ≡ Some r
+        → IsTrue empty ↔ (r ≡ empty_repository)) }
     ensures same { Undisturbed R.Keeper keeper.old keeper.new }
     ensures cause { HasCause keeper_failed (R.faults keeper.old) (R.faults keeper.new) result }
     ensures reads { R.reads keeper.new ≡ R.reads keeper.old }
@@ -32,8 +33,10 @@ pub fn load_object<R: Keeper>(
     id: &ObjectId,
 ) -> Result<Option<Object>, KeeperFault>
     ensures own { IfOk result (λ found. IfSome found (IsObject id.now)) }
-    ensures found { IfOk result (λ found. (r : Repository) → R.content keeper.new ≡ Some r → IfSome found (HasObject r id.now)) }
-    ensures none { IfOk result (λ found. (r : Repository) → R.content keeper.new ≡ Some r → IfNone found ((pair : Pair) → HasObject r id.now pair → ⊥)) }
+    ensures found { IfOk result (λ found. (r : Repository) → R.content keeper.new ≡ Some r
+        → IfSome found (HasObject r id.now)) }
+    ensures none { IfOk result (λ found. (r : Repository) → R.content keeper.new ≡ Some r
+        → IfNone found ((pair : Pair) → HasObject r id.now pair → ⊥)) }
     ensures same { Undisturbed R.Keeper keeper.old keeper.new }
     ensures cause { HasCause keeper_failed (R.faults keeper.old) (R.faults keeper.new) result }
     ensures reads { R.reads keeper.new ≡ one_more (R.reads keeper.old) }

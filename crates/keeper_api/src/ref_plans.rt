@@ -19,7 +19,8 @@ pub struct RefPlan {
 
 // Adds one change at the end.
 fn extend(plan: &mut RefPlan, change: &RefChange) -> Result<(), Memory>
-    ensures { OnOk result ((changes : List RefChange) → ComesTo changes plan.old → ComesTo (changes ++ change.now ∷ []) plan.new) }
+    ensures { OnOk result ((changes : List RefChange) → ComesTo changes plan.old
+        → ComesTo (changes ++ change.now ∷ []) plan.new) }
 {
     let name = change.name.copied()?;
     match change.to {

@@ -16,8 +16,10 @@ pub fn commit_change<R: Keeper>(
     keeper: &mut R,
 ) -> Result<(), KeeperFault>
     ensures ends { ChangeEnds R.Keeper keeper.old keeper.new change.now result }
-    ensures on { TellsOn (R.content keeper.old) (R.content keeper.new) (R.tells_left keeper.old) (R.tells_left keeper.new) (R.faults keeper.old) (R.faults keeper.new) }
-    ensures left { Leaves change.now result (R.content keeper.old) (R.tells_left keeper.old) (R.tells_left keeper.new) (R.left keeper.old) (R.left keeper.new) }
+    ensures on { TellsOn (R.content keeper.old) (R.content keeper.new) (R.tells_left keeper.old)
+        (R.tells_left keeper.new) (R.faults keeper.old) (R.faults keeper.new) }
+    ensures left { Leaves change.now result (R.content keeper.old) (R.tells_left keeper.old) (R.tells_left keeper.new)
+        (R.left keeper.old) (R.left keeper.new) }
     ensures cause { HasCause keeper_failed (R.faults keeper.old) (R.faults keeper.new) result }
     ensures reads { R.reads keeper.new ≡ R.reads keeper.old }
 {

@@ -58,7 +58,8 @@ fn insert_one<K: Ord + Copied, V: Drop>(
 /// Takes inserts back, the last first. It takes no memory.
 pub fn restore<K: Ord + Drop, V: Drop>(map: &mut BTreeMap<K, V>, undo: Undo<K, V>)
     requires { IsAntisymmetric K.cmp }
-    ensures { (first : FinMap K.cmp V) → Inserts first undo.items (tree_map K.cmp map.old) → tree_map K.cmp map.new ≡ first }
+    ensures { (first : FinMap K.cmp V) → Inserts first undo.items (tree_map K.cmp map.old)
+        → tree_map K.cmp map.new ≡ first }
 {
     let mut undo = undo;
     'steps: while let Some((key, had)) = undo.pop() {
@@ -92,7 +93,8 @@ pub fn insert_all<K: Ord + Copied, V: Drop>(
 
 /// Takes keys away. It takes no memory.
 pub fn remove_all<K: Ord + Drop, V: Drop>(map: &mut BTreeMap<K, V>, keys: BTreeSet<K>)
-    ensures { (q : K) → tree.get K.cmp map.new q ≡ (if set.contains K.cmp keys q then None else tree.get K.cmp map.old q) }
+    ensures { (q : K) → tree.get K.cmp map.new q
+        ≡ (if set.contains K.cmp keys q then None else tree.get K.cmp map.old q) }
 {
     let mut keys = keys;
     'keys: while let Some(key) = keys.pop_first() {

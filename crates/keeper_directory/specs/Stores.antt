@@ -6,7 +6,8 @@ use Rattle.text_reader.specs.Line.{has_byte}
 -- the text is that of these names, each followed by a zero byte, which none of them holds
 abbrev pub IsListing : List (List ℕ) → List ℕ → Type 0
 IsListing [] text = text ≡ []
-IsListing (name ∷ names) text = (rest : List ℕ) × (text ≡ name ++ 0 ∷ rest) × (has_byte 0 name ≡ false) × IsListing names rest
+IsListing (name ∷ names) text = (rest : List ℕ) × (text ≡ name ++ 0 ∷ rest) × (has_byte 0 name ≡ false)
+    × IsListing names rest
 
 -- a name is one of these
 abbrev pub IsOneOf : List ℕ → List (List ℕ) → Type 0

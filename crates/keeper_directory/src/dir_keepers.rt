@@ -1,54 +1,25 @@
 //! The keeper over a folder.
 
-ghost use Rattle.std.specs.Prelude.{◌≡◌, ◌≤◌, ◌↔◌, Ok, IfOk, IsErr, IsErrOf, OnErr, OnOk};
+ghost use Rattle.std.specs.Prelude.{◌≡◌, ◌≤◌, Ok, IfOk, IsErr, IsErrOf, OnErr, OnOk};
 ghost use Rattle.octets.specs.Causes.{one_more};
-ghost use Rattle.keeper_directory.specs.declared.file_faults.FileFault.TheVariants as file;
-ghost use Rattle.keeper_directory.specs.declared.dir_keepers.OpenFault.TheVariants as open_fault;
 ghost use Rattle.octets.specs.Causes.{count_after};
 ghost use Rattle.keeper_api.specs.Faults.{keeper_failed};
 
 use crate::file_faults::FileFault;
 use crate::folders::{Folder, Hold};
 use crate::key_sets::{keys_after, set_of};
+use crate::open_faults::OpenFault;
 use crate::ref_plans::{change_names, is_crossed, plan_of};
 use git_object::{Object, ObjectId, RefName};
 use keeper_api::{Change, KeeperFault, RefValue};
 use octets::Memory;
-use std::alloc::{AllocError, Global};
+use std::alloc::Global;
 use std::collections::BTreeSet;
 use std::os::fd::IntoRawFd;
 use std::rt::Files;
 
 // A change of more objects is not noted in the list of ids one by one.
 const MOST_NOTED: usize = 4096;
-
-/// Why a folder was not opened.
-#[derive(Clone, Copy, Debug, PartialEq, Eq, Drop)]
-pub enum OpenFault {
-    /// There is no folder of this path, it can't be made or read, or it is none that a keeper may work in: a change
-    /// is being made or was left half made in it, it is Git's own, or it holds other things alone.
-    Failed,
-    Memory,
-}
-
-impl From<FileFault> for OpenFault {
-    ghost from_gives = { λ fault e. (e ≡ open_fault.Memory) ↔ (fault ≡ file.Memory) };
-
-    fn from(fault: FileFault) -> OpenFault {
-        match fault {
-            FileFault::Memory => OpenFault::Memory,
-            _ => OpenFault::Failed,
-        }
-    }
-}
-
-impl From<AllocError> for OpenFault {
-    ghost from_gives = { λ _ e. e ≡ open_fault.Memory };
-
-    fn from(_error: AllocError) -> OpenFault {
-        OpenFault::Memory
-    }
-}
 
 /// A keeper over a folder, which tells no content.
 ///

@@ -134,7 +134,8 @@ pub fn remove_folder<R: Files>(rt: &R, path: &str) -> Result<(), FileFault> {
 // One piece of what a reader gives.
 fn read_piece<F: Read>(reader: &mut F, piece: &mut [u8]) -> Result<usize, FileFault>
     ensures bound { IfOk result (λ count. count ≤ length piece.new) }
-    ensures bytes { IfOk result (λ count. Consumes (F.remaining reader.old) (F.remaining reader.new) (take count piece.new)) }
+    ensures bytes { IfOk result (λ count. Consumes (F.remaining reader.old) (F.remaining reader.new)
+        (take count piece.new)) }
     ensures end { IfOk result (λ count. count ≡ 0 → 0 < length piece.old → IsAtEnd (F.remaining reader.new)) }
 {
     for _ in 0..u64::MAX {

@@ -10,7 +10,7 @@ use crate::key_sets::keys_after;
 use crate::listings::{Found, ids_among, look_into};
 use crate::made_folders::MadeFolder;
 use crate::object_files::read_object;
-use crate::places::Places;
+use crate::places::FolderPaths;
 use crate::ref_files::{name_text, read_id};
 use crate::stores::{is_free, may_be_kept};
 use git_object::{Object, ObjectId, RefName};
@@ -44,7 +44,7 @@ pub enum Hold {
 #[derive(Drop)]
 pub struct Folder<R: Files> {
     pub rt: R,
-    pub places: Places,
+    pub places: FolderPaths,
     pub text: Vec<u8>,
     hold: Hold,
     made: Option<MadeFolder>,
@@ -61,7 +61,7 @@ where
     where
         R: Drop,
     {
-        let mut places = Places::of(alloc, path)?;
+        let mut places = FolderPaths::of(alloc, path)?;
         places.point_at("", OPEN)?;
         let open_mark = String::from_str(alloc, places.place())?;
         places.point_at("", COMMIT)?;

@@ -7,7 +7,7 @@ ghost use Rattle.git_object.specs.Names.{IsRefName};
 
 use crate::file_calls::{Stand, read_names, what_stands};
 use crate::file_faults::FileFault;
-use crate::places::Places;
+use crate::places::FolderPaths;
 use git_object::{Memory, ObjectId, RefFault, RefName};
 use std::alloc::Global;
 use std::rt::Files;
@@ -35,7 +35,8 @@ impl Found {
 
 // Notes the id whose digits a name is, and passes over any other name.
 fn note_id(ids: &mut Vec<ObjectId>, name: &[u8]) -> Result<(), Memory>
-    ensures noted { OnOk result (IsLowerHexadecimal 32 name.now → (id : List ℕ) × (encode_lower id ≡ name.now) × (ids.new.items ≡ ids.old.items ++ id ∷ [])) }
+    ensures noted { OnOk result (IsLowerHexadecimal 32 name.now → (id : List ℕ) × (encode_lower id ≡ name.now)
+        × (ids.new.items ≡ ids.old.items ++ id ∷ [])) }
     ensures passed { OnOk result ((IsLowerHexadecimal 32 name.now → ⊥) → ids.new.items ≡ ids.old.items) }
 {
     match ObjectId::from_hex(name) {
@@ -82,7 +83,7 @@ fn may_hold_names(alloc: Global, folder: &str) -> Result<bool, Memory> {
 pub fn look_into<R: Files>(
     rt: &R,
     alloc: Global,
-    places: &mut Places,
+    places: &mut FolderPaths,
     folder: &str,
     found: &mut Found,
 ) -> Result<(), FileFault> {
@@ -113,7 +114,7 @@ fn path_of(alloc: Global, folder: &str, name: &str) -> Result<String, Memory> {
 fn look_at<R: Files>(
     rt: &R,
     alloc: Global,
-    places: &mut Places,
+    places: &mut FolderPaths,
     path: String,
     found: &mut Found,
 ) -> Result<(), FileFault> {

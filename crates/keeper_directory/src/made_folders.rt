@@ -4,7 +4,7 @@ use crate::file_calls::{
     Stand, leads_to, make_folder, remove_file, remove_folder, rename, write_new_file,
 };
 use crate::file_faults::FileFault;
-use crate::places::Places;
+use crate::places::FolderPaths;
 use itoa::Buffer;
 use std::alloc::Global;
 use std::os::fd::IntoRawFd;
@@ -45,7 +45,7 @@ impl MadeFolder {
             beside: String::with_capacity(alloc, room)?,
             shortest: path.len(),
         };
-        let mut places = Places::of(alloc, "")?;
+        let mut places = FolderPaths::of(alloc, "")?;
         let answer = made.make_all(rt, alloc, mark, &mut places);
         match answer {
             Ok(()) => Ok(made),
@@ -61,14 +61,14 @@ impl MadeFolder {
         rt: &R,
         alloc: Global,
         mark: &str,
-        places: &mut Places,
+        places: &mut FolderPaths,
     ) -> Result<(), FileFault>
     where
         R::File: IntoRawFd,
     {
         self.make_above(rt)?;
         self.make_beside(rt)?;
-        *places = Places::of(alloc, self.beside.as_str())?;
+        *places = FolderPaths::of(alloc, self.beside.as_str())?;
         let answer = self.mark_and_move(rt, mark, places);
         if answer.is_err() {
             let _ = remove_file(rt, places.place());
@@ -81,7 +81,7 @@ impl MadeFolder {
         &self,
         rt: &R,
         mark: &str,
-        places: &mut Places,
+        places: &mut FolderPaths,
     ) -> Result<(), FileFault>
     where
         R::File: IntoRawFd,
@@ -137,7 +137,7 @@ impl MadeFolder {
 
     /// Takes the folder away again, in which nothing but this mark is, and those above it that were made for it.
     pub fn take_away<R: Files>(&self, rt: &R, alloc: Global, mark: &str) -> Result<(), FileFault> {
-        let mut places = Places::of(alloc, self.beside.as_str())?;
+        let mut places = FolderPaths::of(alloc, self.beside.as_str())?;
         places.point_at("", mark)?;
         rename(rt, self.path.as_str(), self.beside.as_str())?;
         remove_file(rt, places.place())?;

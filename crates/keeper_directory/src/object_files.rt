@@ -1,6 +1,7 @@
 //! The text of an object's file: its head and its body.
 
-ghost use Rattle.std.specs.Prelude.{◌≡◌, ◌≢◌, ◌<◌, ◌≤◌, ◌^◌, ◌++◌, ◌∷◌, ℕ, List, decimal, length, IfOk, IfSome, IfNone, OnOk};
+ghost use Rattle.std.specs.Prelude.{◌≡◌, ◌≢◌, ◌<◌, ◌≤◌, ◌^◌, ◌++◌, ◌∷◌, ℕ, List, decimal, length, IfOk, IfSome, IfNone};
+ghost use Rattle.std.specs.Prelude.{OnOk};
 ghost use Rattle.git_object.specs.Objects.{kind_name, object_text};
 ghost use Rattle.git_object.specs.Repository.{largest_body};
 ghost use Rattle.git_object.specs.declared.kinds.Kind.{Kind};
@@ -26,7 +27,7 @@ const FIRST_PIECE: usize = 4096;
 
 /// What the head of an object's file says, and what follows it.
 #[derive(Clone, Copy)]
-pub struct Head<'a> {
+pub struct ObjectHeader<'a> {
     pub kind: Kind,
     pub size: u64,
     pub rest: &'a [u8],
@@ -47,10 +48,11 @@ fn split_size(text: &[u8]) -> Option<(u64, &[u8])>
 }
 
 /// The head of an object's file in front of the text, or None where none stands there (Git's object format).
-pub fn split_head(text: &[u8]) -> Option<Head<'_>>
+pub fn split_head(text: &[u8]) -> Option<ObjectHeader<'_>>
     ensures found { IfSome result (λ head. text.now ≡ object_head head.kind head.size ++ head.rest.now) }
     ensures fits { IfSome result (λ head. head.size < 2 ^ 64) }
-    ensures none { IfNone result ((kind : Kind) (size : ℕ) (rest : List ℕ) → size < 2 ^ 64 → text.now ≢ object_head kind size ++ rest) }
+    ensures none { IfNone result ((kind : Kind) (size : ℕ) (rest : List ℕ) → size < 2 ^ 64
+        → text.now ≢ object_head kind size ++ rest) }
 {
     let Some((kind, after)) = Kind::split_front(text) else {
         return None;
@@ -58,7 +60,7 @@ pub fn split_head(text: &[u8]) -> Option<Head<'_>>
     let Some((size, rest)) = split_size(after) else {
         return None;
     };
-    Some(Head { kind, size, rest })
+    Some(ObjectHeader { kind, size, rest })
 }
 
 // Adds the head of an object's file at the end. After a refusal a front of it may stand there.
@@ -92,7 +94,8 @@ pub fn make_object_text<'a>(text: &mut Vec<u8>, object: &'a Object) -> Result<&'
 /// The object whose file a reader gives, to its end; None where what it gives is no object's file, or that of one
 /// whose body has more than 16 MiB. Of such a body no byte is read past the first piece.
 pub fn read_object<F: Read + Drop>(alloc: Global, file: F) -> Result<Option<Object>, FileFault>
-    ensures found { IfOk result (λ found. IfSome found (λ o. IfSome (F.remaining file) (λ text. text ≡ object_text o.kind o.body))) }
+    ensures found { IfOk result (λ found. IfSome found
+        (λ o. IfSome (F.remaining file) (λ text. text ≡ object_text o.kind o.body))) }
     ensures fits { IfOk result (λ found. IfSome found (λ o. length o.body ≤ largest_body)) }
     ensures none { IfOk result (λ found. IfNone found (IfSome (F.remaining file) IsNoObject)) }
 {

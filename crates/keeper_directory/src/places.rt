@@ -14,17 +14,17 @@ const LONGEST_NAME: usize = 260;
 /// The path of a folder, and of a file in it under its own and under its temporary name. Room for both is taken when
 /// it is made, so that no later call wants memory.
 #[derive(Drop)]
-pub struct Places {
+pub struct FolderPaths {
     folder: String,
     place: String,
     temporary: String,
 }
 
-impl Places {
+impl FolderPaths {
     /// The places in the folder of this path, which may end in a slash.
-    pub fn of(alloc: Global, folder: &str) -> Result<Places, AllocError> {
+    pub fn of(alloc: Global, folder: &str) -> Result<FolderPaths, AllocError> {
         let room = folder.len().saturating_add(LONGEST_NAME + 1);
-        let mut places = Places {
+        let mut places = FolderPaths {
             folder: String::from_str(alloc, folder)?,
             place: String::with_capacity(alloc, room)?,
             temporary: String::with_capacity(alloc, room)?,
@@ -37,7 +37,8 @@ impl Places {
 
     /// Takes the file whose name is the front and then the rest.
     pub fn point_at(&mut self, front: &str, rest: &str) -> Result<(), AllocError>
-        ensures place { OnOk result (string_bytes self.new.place ≡ (string_bytes self.old.folder ++ front.now) ++ rest.now) }
+        ensures place { OnOk result (string_bytes self.new.place ≡ (string_bytes self.old.folder ++ front.now)
+            ++ rest.now) }
         ensures temporary { OnOk result (string_bytes self.new.temporary ≡ string_bytes self.new.place ++ codes ".lock") }
         ensures folder { string_bytes self.new.folder ≡ string_bytes self.old.folder }
     {
@@ -53,7 +54,8 @@ impl Places {
 
     /// Takes the file of an object.
     pub fn point_at_object(&mut self, id: &ObjectId) -> Result<(), AllocError>
-        ensures place { OnOk result (string_bytes self.new.place ≡ (string_bytes self.old.folder ++ codes "objects/") ++ encode_lower id.now) }
+        ensures place { OnOk result (string_bytes self.new.place ≡ (string_bytes self.old.folder ++ codes "objects/")
+            ++ encode_lower id.now) }
         ensures folder { string_bytes self.new.folder ≡ string_bytes self.old.folder }
     {
         let _ = id.as_bytes();

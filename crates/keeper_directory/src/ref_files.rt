@@ -37,7 +37,8 @@ pub fn read_ref_text(text: &[u8]) -> Option<ObjectId>
 /// The id that a reference's file says, which a reader gives to its end; None where what it gives is no reference's
 /// file.
 pub fn read_id<F: Read>(alloc: Global, file: &mut F) -> Result<Option<ObjectId>, FileFault>
-    ensures found { IfOk result (λ found. IfSome found (λ id. IsId id × IfSome (F.remaining file.old) (λ text. text ≡ ref_text id))) }
+    ensures found { IfOk result (λ found. IfSome found
+        (λ id. IsId id × IfSome (F.remaining file.old) (λ text. text ≡ ref_text id))) }
     ensures none { IfOk result (λ found. IfNone found (IfSome (F.remaining file.old) IsNoRef)) }
 {
     let front = read_front(alloc, file, REF_FILE + 1, REF_FILE + 1)?;

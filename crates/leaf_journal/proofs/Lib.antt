@@ -1,4 +1,5 @@
 pub mod Cutting
+pub mod NewMoments
 pub mod Fronts
 pub mod HeaderParts
 pub mod Leaves

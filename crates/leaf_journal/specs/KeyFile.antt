@@ -1,5 +1,6 @@
 -- The key file: a header, and a byte for each leaf.
-use Rattle.std.specs.Prelude.{◌≡◌, ◌≢◌, ◌+◌, ◌^◌, ◌≤◌, ℕ, if◌then◌else◌, List, length, take, drop, codes, slice_index, Option, None, Some}
+use Rattle.std.specs.Prelude.{◌≡◌, ◌≢◌, ◌+◌, ◌^◌, ◌≤◌, ℕ, if◌then◌else◌, List, length, take, drop, codes, slice_index}
+use Rattle.std.specs.Prelude.{Option, None, Some}
 use Rattle.std.specs.Str.{bytes_eq}
 use Rattle.lmots.specs.OtsType as one_time
 use Rattle.lms_keys.specs.LmsType.{code}
@@ -18,7 +19,8 @@ abbrev pub start_of : Option Below → ℕ
 start_of None = 64
 start_of (Some below) = 72
 
--- the 64 bytes at the front: the magic; the LMS type and the one-time type of the key on top, as u32 by the codes of RFC
+-- the 64 bytes at the front: the magic; the LMS type and the one-time type of the key on top, as u32 by the codes of
+-- RFC
 -- 8554; its identifier, which the RFC calls I; and its seed
 pub record HasTop (magic file : List ℕ) (top : one.Secret) : Type 0 where
   pub magic_is : take 8 file ≡ magic

@@ -25,7 +25,8 @@ module _ {D : Type 0} (disk_of : disk.Ghosts D) (message : List ℕ) (old new : 
 
   -- a signature for the key of the file; or the file as it was, and why there is none; or its first unused leaf torn
   abbrev pub SignEnds : Result Signed KeyFault → Type 0
-  SignEnds (Ok signed) = (secret : Secret) × (signed.public ≡ public_bytes secret) × SignsWith disk_of secret message old new signed.signature
+  SignEnds (Ok signed) = (secret : Secret) × (signed.public ≡ public_bytes secret)
+      × SignsWith disk_of secret message old new signed.signature
   SignEnds (Err (Unopened fault)) = Finds (WhyUnopened fault)
   SignEnds (Err (Unsigned sign.Exhausted)) = Finds (λ file. (secret : Secret) × IsUsedUp file secret)
   SignEnds (Err (Unsigned sign.Disk)) = (secret : Secret) × MayTear disk_of secret old new

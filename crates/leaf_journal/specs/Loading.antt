@@ -20,7 +20,10 @@ magic_for true = codes "LMSKEY02"
 
 -- the key with this header, identifier and seed
 abbrev pub secret_with : Header → List ℕ → List ℕ → Secret
-secret_with header i seed = record { top = record { lms = header.lms; ots = header.ots; i = i; seed = seed }; below = header.below }
+secret_with header i seed = record {
+  top = record { lms = header.lms; ots = header.ots; i = i; seed = seed };
+  below = header.below;
+}
 
 -- the bytes begin as the file does: with its first 64 bytes, and with its first 72 where it has so many
 pub record Begins (head file : List ℕ) : Type 0 where

@@ -19,4 +19,9 @@ module _ {D : Type 0} (disk_of : disk.Ghosts D) (old new : D) where
 
   -- it is as it was, or it held nothing and has a part of the file; what it held is never written over
   abbrev pub IsSpared : ℕ → Type 0
-  IsSpared size = IsKept (disk_of.seen old) (disk_of.seen new) (disk_of.may_leave old) (disk_of.may_leave new) ⊎ IsCutShort size
+  IsSpared size = IsKept (disk_of.seen old) (disk_of.seen new) (disk_of.may_leave old) (disk_of.may_leave new)
+      ⊎ IsCutShort size
+
+-- the disk held nothing, or it might have left this file
+abbrev pub MayBeNew : {D : Type 0} → disk.Ghosts D → D → List ℕ → Type 0
+MayBeNew disk_of old file = (disk_of.seen old ≡ Some []) ⊎ disk_of.may_leave old file

@@ -57,8 +57,10 @@ released_in (failed s q ∷ earlier) = released_in earlier
 abbrev pub IsKeyRun : {S : Type 0} → (S → ℕ → Type 0) → S → List (Event S) → Type 0
 IsKeyRun {S} U start [] = Unit {0}
 IsKeyRun U start (opened s marks ∷ earlier) = Opens U (now_after start earlier) s marks × IsKeyRun U start earlier
-IsKeyRun U start (signed s q ∷ earlier) = Releases U (now_after start earlier) s (marks_after earlier) q × IsKeyRun U start earlier
-IsKeyRun U start (failed s q ∷ earlier) = Marks U (now_after start earlier) s (marks_after earlier) q × IsKeyRun U start earlier
+IsKeyRun U start (signed s q ∷ earlier) = Releases U (now_after start earlier) s (marks_after earlier) q
+    × IsKeyRun U start earlier
+IsKeyRun U start (failed s q ∷ earlier) = Marks U (now_after start earlier) s (marks_after earlier) q
+    × IsKeyRun U start earlier
 
 -- the leaf is one of these
 abbrev pub IsAmong : ℕ → List ℕ → Type 0

@@ -15,14 +15,16 @@ module _ {D : Type 0} (disk_of : disk.Ghosts D) where
   pub record SignsWith (secret : Secret) (message : List ℕ) (old new : D) (signature : List ℕ) : Type 0 where
     pub leaf : ℕ
     pub file : (now : List ℕ) → disk_of.seen new ≡ Some now
-        → (was : List ℕ) × (disk_of.seen old ≡ Some was) × IsLeastUnused was secret leaf × Written (start_of secret.below + leaf) (1 ∷ []) was now
+        → (was : List ℕ) × (disk_of.seen old ≡ Some was) × IsLeastUnused was secret leaf
+        × Written (start_of secret.below + leaf) (1 ∷ []) was now
     pub used : UsedInAll (disk_of.may_leave new) leaf
     pub signs : Signs secret message leaf signature
 
   -- what reading gives differs at most at the byte of the first unused leaf
   abbrev pub MayTear : Secret → D → D → Type 0
   MayTear secret old new = (now : List ℕ) → disk_of.seen new ≡ Some now
-      → (was : List ℕ) × (leaf : ℕ) × (disk_of.seen old ≡ Some was) × IsLeastUnused was secret leaf × Torn (start_of secret.below + leaf) 1 was now
+      → (was : List ℕ) × (leaf : ℕ) × (disk_of.seen old ≡ Some was) × IsLeastUnused was secret leaf
+      × Torn (start_of secret.below + leaf) 1 was now
 
   -- each leaf is used, and the disk is as it was
   pub record FindsNone (secret : Secret) (old new : D) : Type 0 where

@@ -1,6 +1,7 @@
 //! The header of a key file: its first 64 bytes, or 72 with two levels.
 
-ghost use Rattle.std.specs.Prelude.{◌≡◌, ◌+◌, ◌≤◌, ◌^◌, List, ℕ, Bool, length, take, IfNone, IfSome, IfOk, IfErr, IsErrOf, Option, Some};
+ghost use Rattle.std.specs.Prelude.{◌≡◌, ◌+◌, ◌≤◌, ◌^◌, List, ℕ, Bool, length, take, IfNone, IfSome, IfOk, IfErr};
+ghost use Rattle.std.specs.Prelude.{IsErrOf, Option, Some};
 ghost use Rattle.lmots.specs.OtsType as one_time;
 ghost use Rattle.lms_keys.specs.LmsType.{code, height};
 ghost use Rattle.lms_keys.specs.PublicKey.{number_in};
@@ -80,7 +81,8 @@ fn levels_in(head: &[u8; 72]) -> Option<bool>
 
 // Reads the first 64 bytes, and copies the identifier and the seed out. None where no key's file begins so.
 fn read_top(head: &[u8; 72], i: &mut [u8; 16], seed: &mut [u8; 32]) -> Option<Top>
-    ensures found { IfSome result (λ top. HasTop (magic_for top.two) head.now (record { lms = top.lms; ots = top.ots; i = i.new; seed = seed.new })) }
+    ensures found { IfSome result (λ top. HasTop (magic_for top.two) head.now
+        (record { lms = top.lms; ots = top.ots; i = i.new; seed = seed.new })) }
     ensures none { IfNone result ((two : Bool) (top : one.Secret) → HasTop (magic_for two) head.now top → ⊥) }
 {
     let two = levels_in(head)?;
@@ -107,7 +109,8 @@ fn below_in(head: &[u8; 72], two: bool, len: u64) -> Option<Option<Below>>
     ensures magic { IfSome result (λ below. magic_of below ≡ magic_for two) }
     ensures long { IfSome result (λ below. start_of below ≤ len) }
     ensures found { IfSome result (HasBelow head.now) }
-    ensures none { IfNone result ((below : Option Below) → magic_of below ≡ magic_for two → start_of below ≤ len → HasBelow head.now below → ⊥) }
+    ensures none { IfNone result ((below : Option Below) → magic_of below ≡ magic_for two → start_of below ≤ len
+        → HasBelow head.now below → ⊥) }
 {
     if !two {
         return Some(None);
@@ -131,9 +134,11 @@ pub fn read_header(
     seed: &mut [u8; 32],
 ) -> Result<Header, LoadFault>
     requires { 64 ≤ len }
-    ensures found { IfOk result (λ header. (file : List ℕ) → length file ≡ len → Begins head.now file → IsKeyFile file (secret_with header i.new seed.new)) }
+    ensures found { IfOk result (λ header. (file : List ℕ) → length file ≡ len → Begins head.now file
+        → IsKeyFile file (secret_with header i.new seed.new)) }
     ensures low { IfOk result (λ header. height header.lms + height_below header.below ≤ 15) }
-    ensures why { IfErr result (λ fault. (file : List ℕ) → length file ≡ len → Begins head.now file → WhyNotLoaded fault file) }
+    ensures why { IfErr result (λ fault. (file : List ℕ) → length file ≡ len → Begins head.now file
+        → WhyNotLoaded fault file) }
     ensures unread { IsErrOf result fault.Disk → ⊥ }
     ensures memory { IsErrOf result fault.Memory → ⊥ }
 {

@@ -16,7 +16,8 @@ pub fn write_leaf<D: Disk>(disk: &mut D, start: u64, leaf: u32) -> Result<(), Fa
     ensures only { OnOk result ((file : List ℕ) → D.seen disk.new ≡ Some file → Only file (D.may_leave disk.new)) }
     ensures written { OnOk result (Told (Written (start + leaf) (1 ∷ [])) (D.seen disk.old) (D.seen disk.new)) }
     ensures torn { Told (Torn (start + leaf) 1) (D.seen disk.old) (D.seen disk.new) }
-    ensures any_moment { LeavesOnly D.moment D.left_since disk.old disk.new (IsTornImage (start + leaf) 1 (D.may_leave disk.old)) }
+    ensures any_moment { LeavesOnly D.moment D.left_since disk.old disk.new
+        (IsTornImage (start + leaf) 1 (D.may_leave disk.old)) }
     ensures cause { HasCause each (D.faults disk.old) (D.faults disk.new) result }
 {
     disk.write_at(start + u64::from(leaf), &[1])?;

@@ -43,7 +43,8 @@ pub fn read_head<D: Disk>(
     i: &mut [u8; 16],
     seed: &mut [u8; 32],
 ) -> Result<Header, LoadFault>
-    ensures head { IfOk result (λ header. (file : List ℕ) → D.seen disk.new ≡ Some file → IsKeyFile file (secret_with header i.new seed.new)) }
+    ensures head { IfOk result (λ header. (file : List ℕ) → D.seen disk.new ≡ Some file
+        → IsKeyFile file (secret_with header i.new seed.new)) }
     ensures low { IfOk result (λ header. height header.lms + height_below header.below ≤ 15) }
     ensures memory { IsErrOf result fault.Memory → ⊥ }
     ensures why { IfErr result (λ fault. (file : List ℕ) → D.seen disk.new ≡ Some file → WhyNotLoaded fault file) }

@@ -1,16 +1,18 @@
 //! A new key file.
 
-ghost use Rattle.std.specs.Prelude.{◌≡◌, ◌+◌, ◌<◌, ◌≤◌, ◌↔◌, [], ℕ, List, length, IfOk, OnOk, OnErr, IsErrOf, Some, None};
+ghost use Rattle.std.specs.Prelude.{◌≡◌, ◌+◌, ◌<◌, ◌≤◌, ◌↔◌, [], ℕ, List, length, IfOk, OnOk, OnErr, IsErrOf, Some};
+ghost use Rattle.std.specs.Prelude.{None};
 ghost use Rattle.octets.specs.Causes.{HasCause, each};
 ghost use Rattle.edge_io.specs.Disk.{IsKept, Written};
+ghost use Rattle.edge_io.specs.Moments.{LeavesOnly};
 ghost use Rattle.lms_keys.specs.LmsType.{height};
 ghost use Rattle.lms_keys.specs.Secret.{public_key_of};
 ghost use Rattle.hss_keys.specs.Secret.{height_below, public_bytes};
 ghost use Rattle.hss_keys.specs.declared.below.Below.{Below};
 ghost use Rattle.leaf_journal.specs.Faults.{create_failed};
-ghost use Rattle.leaf_journal.specs.KeyFile.{IsNewKeyFile};
+ghost use Rattle.leaf_journal.specs.KeyFile.{IsNewKeyFile, KeepsUsed};
 ghost use Rattle.leaf_journal.specs.Loading.{secret_with};
-ghost use Rattle.leaf_journal.specs.Making.{IsCutShort, IsSpared, size_of};
+ghost use Rattle.leaf_journal.specs.Making.{IsCutShort, IsSpared, MayBeNew, size_of};
 ghost use Rattle.leaf_journal.specs.declared.faults.CreateFault.TheVariants as fault;
 
 use crate::CreateFault;
@@ -44,6 +46,7 @@ fn write_whole<D: Disk>(disk: &mut D, bytes: &[u8]) -> Result<(), Failed>
     ensures only { OnOk result ((c : List ℕ) → D.may_leave disk.new c → c ≡ bytes.now) }
     ensures file { OnOk result ((c : List ℕ) → D.seen disk.new ≡ Some c → (c ≡ bytes.now) × (D.seen disk.old ≡ Some [])) }
     ensures cut { OnErr result (IsCutShort D.Disk disk.old disk.new (length bytes.now)) }
+    ensures any_moment { LeavesOnly D.moment D.left_since disk.old disk.new (MayBeNew D.Disk disk.old) }
     ensures cause { HasCause each (D.faults disk.old) (D.faults disk.new) result }
 {
     disk.write_at(0, bytes)?;
@@ -56,8 +59,10 @@ fn expect_empty<D: Disk>(disk: &mut D) -> Result<(), CreateFault>
     ensures empty { OnOk result ((file : List ℕ) → D.seen disk.new ≡ Some file → file ≡ []) }
     ensures tall { IsErrOf result fault.TooTall → ⊥ }
     ensures memory { IsErrOf result fault.Memory → ⊥ }
-    ensures not_empty { (len : ℕ) → IsErrOf result (fault.NotEmpty len) → (file : List ℕ) → D.seen disk.new ≡ Some file → (len ≡ length file) × (0 < len) }
+    ensures not_empty { (len : ℕ) → IsErrOf result (fault.NotEmpty len) → (file : List ℕ) → D.seen disk.new ≡ Some file
+        → (len ≡ length file) × (0 < len) }
     ensures kept { IsKept (D.seen disk.old) (D.seen disk.new) (D.may_leave disk.old) (D.may_leave disk.new) }
+    ensures any_moment { LeavesOnly D.moment D.left_since disk.old disk.new (D.may_leave disk.old) }
     ensures cause { HasCause create_failed (D.faults disk.old) (D.faults disk.new) result }
 {
     let len = disk.len()?;
@@ -72,7 +77,8 @@ fn expect_empty<D: Disk>(disk: &mut D) -> Result<(), CreateFault>
 ///
 /// `TooTall` comes exactly for more than 15 levels, and `NotEmpty` exactly where the disk holds something; then, and
 /// at `Memory`, the disk is as it was. After `Disk` it is so too, or it held nothing and may hold a part of the file, with
-/// any bytes. After Ok a crash leaves the file and nothing else.
+/// any bytes. After Ok a crash leaves the file and nothing else. A leaf that was used in all that a crash might have left
+/// is used in all that one may leave at any moment of the call.
 pub fn create<D: Disk>(
     alloc: Global,
     disk: &mut D,
@@ -82,15 +88,22 @@ pub fn create<D: Disk>(
     seed: [u8; 32],
 ) -> Result<PublicKey, CreateFault>
     ensures key { IfOk result (λ key. key ≡ public_key_of (record { lms = lms; ots = ots; i = i; seed = seed })) }
-    ensures only { OnOk result ((c : List ℕ) → D.may_leave disk.new c → IsNewKeyFile (record { top = record { lms = lms; ots = ots; i = i; seed = seed }; below = None }) c) }
-    ensures file { OnOk result ((c : List ℕ) → D.seen disk.new ≡ Some c → IsNewKeyFile (record { top = record { lms = lms; ots = ots; i = i; seed = seed }; below = None }) c) }
+    ensures only { OnOk result ((c : List ℕ) → D.may_leave disk.new c
+        → IsNewKeyFile (record { top = record { lms = lms; ots = ots; i = i; seed = seed }; below = None }) c) }
+    ensures file { OnOk result ((c : List ℕ) → D.seen disk.new ≡ Some c
+        → IsNewKeyFile (record { top = record { lms = lms; ots = ots; i = i; seed = seed }; below = None }) c) }
     ensures one { OnOk result ((a b : List ℕ) → D.may_leave disk.new a → D.may_leave disk.new b → a ≡ b) }
     ensures was { OnOk result ((c : List ℕ) → D.seen disk.new ≡ Some c → D.seen disk.old ≡ Some []) }
     ensures tall { IsErrOf result fault.TooTall ↔ (15 < height lms) }
-    ensures not_empty { (len : ℕ) → IsErrOf result (fault.NotEmpty len) → (file : List ℕ) → D.seen disk.new ≡ Some file → (len ≡ length file) × (0 < len) }
+    ensures not_empty { (len : ℕ) → IsErrOf result (fault.NotEmpty len) → (file : List ℕ) → D.seen disk.new ≡ Some file
+        → (len ≡ length file) × (0 < len) }
     ensures memory { IsErrOf result fault.Memory → (file : List ℕ) → D.seen disk.new ≡ Some file → file ≡ [] }
-    ensures untouched { OnErr result ((IsErrOf result fault.Disk → ⊥) → IsKept (D.seen disk.old) (D.seen disk.new) (D.may_leave disk.old) (D.may_leave disk.new)) }
-    ensures spared { IsErrOf result fault.Disk → IsSpared D.Disk disk.old disk.new (size_of (record { top = record { lms = lms; ots = ots; i = i; seed = seed }; below = None })) }
+    ensures untouched { OnErr result ((IsErrOf result fault.Disk → ⊥)
+        → IsKept (D.seen disk.old) (D.seen disk.new) (D.may_leave disk.old) (D.may_leave disk.new)) }
+    ensures spared { IsErrOf result fault.Disk
+        → IsSpared D.Disk disk.old disk.new
+        (size_of (record { top = record { lms = lms; ots = ots; i = i; seed = seed }; below = None })) }
+    ensures any_moment { LeavesOnly D.moment D.left_since disk.old disk.new (KeepsUsed (D.may_leave disk.old)) }
     ensures cause { HasCause create_failed (D.faults disk.old) (D.faults disk.new) result }
 {
     if lms.height() > 15 {
@@ -123,7 +136,11 @@ fn public_of_two(
 ) -> Result<Octets, AllocError>
     requires { height lms ≤ 15 }
     ensures long { IfOk result (λ bytes. length bytes ≡ 60) }
-    ensures key { IfOk result (λ bytes. (below : Below) → bytes ≡ public_bytes (record { top = record { lms = lms; ots = ots; i = i; seed = seed }; below = Some below })) }
+    ensures key { IfOk result (λ bytes. (below : Below)
+        → bytes ≡ public_bytes (record {
+          top = record { lms = lms; ots = ots; i = i; seed = seed };
+          below = Some below;
+        })) }
 {
     let Ok(key) = SecretKey::of(alloc, lms, ots, i, seed) else {
         return Err(AllocError);
@@ -148,16 +165,36 @@ pub fn create_two<D: Disk>(
     seed: [u8; 32],
 ) -> Result<Octets, CreateFault>
     ensures long { IfOk result (λ bytes. length bytes ≡ 60) }
-    ensures key { IfOk result (λ bytes. bytes ≡ public_bytes (record { top = record { lms = top; ots = ots; i = i; seed = seed }; below = Some (record { lms = bottom; ots = ots }) })) }
-    ensures only { OnOk result ((c : List ℕ) → D.may_leave disk.new c → IsNewKeyFile (record { top = record { lms = top; ots = ots; i = i; seed = seed }; below = Some (record { lms = bottom; ots = ots }) }) c) }
-    ensures file { OnOk result ((c : List ℕ) → D.seen disk.new ≡ Some c → IsNewKeyFile (record { top = record { lms = top; ots = ots; i = i; seed = seed }; below = Some (record { lms = bottom; ots = ots }) }) c) }
+    ensures key { IfOk result (λ bytes. bytes
+        ≡ public_bytes (record {
+          top = record { lms = top; ots = ots; i = i; seed = seed };
+          below = Some (record { lms = bottom; ots = ots });
+        })) }
+    ensures only { OnOk result ((c : List ℕ) → D.may_leave disk.new c
+        → IsNewKeyFile (record {
+          top = record { lms = top; ots = ots; i = i; seed = seed };
+          below = Some (record { lms = bottom; ots = ots });
+        }) c) }
+    ensures file { OnOk result ((c : List ℕ) → D.seen disk.new ≡ Some c
+        → IsNewKeyFile (record {
+          top = record { lms = top; ots = ots; i = i; seed = seed };
+          below = Some (record { lms = bottom; ots = ots });
+        }) c) }
     ensures one { OnOk result ((a b : List ℕ) → D.may_leave disk.new a → D.may_leave disk.new b → a ≡ b) }
     ensures was { OnOk result ((c : List ℕ) → D.seen disk.new ≡ Some c → D.seen disk.old ≡ Some []) }
     ensures tall { IsErrOf result fault.TooTall ↔ (15 < height top + height bottom) }
-    ensures not_empty { (len : ℕ) → IsErrOf result (fault.NotEmpty len) → (file : List ℕ) → D.seen disk.new ≡ Some file → (len ≡ length file) × (0 < len) }
+    ensures not_empty { (len : ℕ) → IsErrOf result (fault.NotEmpty len) → (file : List ℕ) → D.seen disk.new ≡ Some file
+        → (len ≡ length file) × (0 < len) }
     ensures memory { IsErrOf result fault.Memory → (file : List ℕ) → D.seen disk.new ≡ Some file → file ≡ [] }
-    ensures untouched { OnErr result ((IsErrOf result fault.Disk → ⊥) → IsKept (D.seen disk.old) (D.seen disk.new) (D.may_leave disk.old) (D.may_leave disk.new)) }
-    ensures spared { IsErrOf result fault.Disk → IsSpared D.Disk disk.old disk.new (size_of (record { top = record { lms = top; ots = ots; i = i; seed = seed }; below = Some (record { lms = bottom; ots = ots }) })) }
+    ensures untouched { OnErr result ((IsErrOf result fault.Disk → ⊥)
+        → IsKept (D.seen disk.old) (D.seen disk.new) (D.may_leave disk.old) (D.may_leave disk.new)) }
+    ensures spared { IsErrOf result fault.Disk
+        → IsSpared D.Disk disk.old disk.new
+        (size_of (record {
+          top = record { lms = top; ots = ots; i = i; seed = seed };
+          below = Some (record { lms = bottom; ots = ots });
+        })) }
+    ensures any_moment { LeavesOnly D.moment D.left_since disk.old disk.new (KeepsUsed (D.may_leave disk.old)) }
     ensures cause { HasCause create_failed (D.faults disk.old) (D.faults disk.new) result }
 {
     if top.height() + bottom.height() > 15 {

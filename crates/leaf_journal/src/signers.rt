@@ -69,8 +69,10 @@ impl Signer {
         ensures loaded { IfOk result (λ signer. (file : List ℕ) → D.seen disk.new ≡ Some file → IsLoaded file signer) }
         ensures covers { IfOk result (λ signer. (file : List ℕ) → D.seen disk.new ≡ Some file → Covers signer file) }
         ensures why { IfErr result (λ fault. (file : List ℕ) → D.seen disk.new ≡ Some file → WhyNotLoaded fault file) }
-        ensures memory { IsErrOf result load_fault.Memory → (file : List ℕ) → D.seen disk.new ≡ Some file → (secret : Secret) × IsKeyFile file secret }
-        ensures opened { IfOk result (λ signer. (file : List ℕ) → D.seen disk.new ≡ Some file → Opens (in_use D.Disk) disk.old disk.new signer.marks) }
+        ensures memory { IsErrOf result load_fault.Memory → (file : List ℕ) → D.seen disk.new ≡ Some file
+            → (secret : Secret) × IsKeyFile file secret }
+        ensures opened { IfOk result (λ signer. (file : List ℕ) → D.seen disk.new ≡ Some file
+            → Opens (in_use D.Disk) disk.old disk.new signer.marks) }
         ensures kept { IsKept (D.seen disk.old) (D.seen disk.new) (D.may_leave disk.old) (D.may_leave disk.new) }
         ensures any_moment { LeavesOnly D.moment D.left_since disk.old disk.new (D.may_leave disk.old) }
         ensures cause { HasCause load_failed (D.faults disk.old) (D.faults disk.new) result }
@@ -109,16 +111,21 @@ impl Signer {
         ensures least { IfOk result (λ q. IsLeast self.old.marks q × (self.new ≡ marking self.old q)) }
         ensures used { IfOk result (UsedInAll (D.may_leave disk.new)) }
         ensures signed { IfOk result (λ q. Signs self.old.secret message.now q out.new) }
-        ensures written { IfOk result (λ q. Told (Written (start_of self.old.secret.below + q) (1 ∷ [])) (D.seen disk.old) (D.seen disk.new)) }
+        ensures written { IfOk result (λ q. Told (Written (start_of self.old.secret.below + q) (1 ∷ []))
+            (D.seen disk.old) (D.seen disk.new)) }
         ensures exhausted { IsErrOf result fault.Exhausted ↔ AllMarked self.old.marks }
         ensures untouched { IsErrOf result fault.Exhausted → (self.new ≡ self.old) × (disk.new ≡ disk.old) }
-        ensures failed { IsErrOf result fault.Disk → (q : ℕ) × IsLeast self.old.marks q × (self.new ≡ marking self.old q) × Told (Torn (start_of self.old.secret.below + q) 1) (D.seen disk.old) (D.seen disk.new) }
+        ensures failed { IsErrOf result fault.Disk → (q : ℕ) × IsLeast self.old.marks q
+            × (self.new ≡ marking self.old q) × Told (Torn (start_of self.old.secret.below + q) 1) (D.seen disk.old)
+            (D.seen disk.new) }
         ensures silent { OnErr result (out.new ≡ out.old) }
         ensures covers { (file : List ℕ) → D.seen disk.new ≡ Some file → Covers self.new file }
         ensures key { self.new.secret ≡ self.old.secret }
         ensures any_moment { LeavesOnly D.moment D.left_since disk.old disk.new (KeepsUsed (D.may_leave disk.old)) }
-        ensures released { IfOk result (λ q. (file : List ℕ) → D.seen disk.new ≡ Some file → Releases (in_use D.Disk) disk.old disk.new self.old.marks q) }
-        ensures lost { IsErrOf result fault.Disk → (file : List ℕ) → D.seen disk.new ≡ Some file → (q : ℕ) × Marks (in_use D.Disk) disk.old disk.new self.old.marks q }
+        ensures released { IfOk result (λ q. (file : List ℕ) → D.seen disk.new ≡ Some file
+            → Releases (in_use D.Disk) disk.old disk.new self.old.marks q) }
+        ensures lost { IsErrOf result fault.Disk → (file : List ℕ) → D.seen disk.new ≡ Some file → (q : ℕ)
+            × Marks (in_use D.Disk) disk.old disk.new self.old.marks q }
         ensures cause { HasCause sign_failed (D.faults disk.old) (D.faults disk.new) result }
     {
         let Some(place) = first_free(self.marks.as_slice()) else {

@@ -1,4 +1,5 @@
--- One-time keys and signatures: their types, a digest as digits, the chains, and what is made of them (RFC 8554, section 4).
+-- One-time keys and signatures: their types, a digest as digits, the chains, and what is made of them (RFC 8554,
+-- section 4).
 pub mod OtsType
 pub mod Digits
 pub mod Chain

@@ -11,7 +11,8 @@ pub record IsTable (at to : List ℕ) (values : List (List ℕ)) : Type 0 where
 
 -- each of the first n chains comes to z of its number where it is walked to its end
 pub record AreOnWay (i : List ℕ) (q n : ℕ) (z : ℕ → List ℕ) (at to : List ℕ) (values : List (List ℕ)) : Type 0 where
-  pub goes : (c : ℕ) → c < n → steps i q c (slice_index at c) (slice_index to c - slice_index at c) (slice_index_or values c []) ≡ z c
+  pub goes : (c : ℕ) → c < n → steps i q c (slice_index at c) (slice_index to c - slice_index at c)
+      (slice_index_or values c []) ≡ z c
 
 -- places for eight chains, none behind where its chain stands and none past the chain's end
 pub record ArePlaces (at to lanes places : List ℕ) : Type 0 where

@@ -46,7 +46,8 @@ fn with_checksum(kind: OtsType, digest: &[u8; 32]) -> [u8; 34]
 
 // The digits of a digest with its checksum, which say how far each chain is walked.
 pub(crate) fn digits_of(kind: OtsType, digest: &[u8; 32]) -> [u8; 265]
-    ensures digits { (chain : ℕ) → chain < chain_count kind → slice_index result chain ≡ digit_of kind digest.now chain }
+    ensures digits { (chain : ℕ) → chain < chain_count kind
+        → slice_index result chain ≡ digit_of kind digest.now chain }
     ensures low { (chain : ℕ) → chain < chain_count kind → slice_index result chain ≤ 2 ^ width kind - 1 }
 {
     let string = with_checksum(kind, digest);

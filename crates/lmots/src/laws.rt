@@ -36,5 +36,6 @@ pub fn winternitz(kind: OtsType, first: &[u8], second: &[u8])
 /// What is signed with a key is of the key's type, and the candidate that it leads to is the key.
 pub fn signed(kind: OtsType, i: &[u8], q: u32, seed: &[u8], message: &[u8])
     ensures shape { IsOfType kind (signature kind i.now q seed.now message.now) }
-    ensures key { candidate kind i.now q message.now (signature kind i.now q seed.now message.now) ≡ public_key kind i.now q seed.now }
+    ensures key { candidate kind i.now q message.now (signature kind i.now q seed.now message.now)
+        ≡ public_key kind i.now q seed.now }
 {}

@@ -1,10 +1,12 @@
 //! One-time keys and signatures: made from a seed, and judged by the key that a signature leads to.
 
-ghost use Rattle.std.specs.Prelude.{◌≡◌, ◌↔◌, ℕ, ◌+◌, ◌-◌, ◌^◌, ◌<◌, ◌≤◌, List, [], length, slice_index, slice_index_or, IsOk, IfOk};
+ghost use Rattle.std.specs.Prelude.{◌≡◌, ◌↔◌, ℕ, ◌+◌, ◌-◌, ◌^◌, ◌<◌, ◌≤◌, List, [], length, slice_index};
+ghost use Rattle.std.specs.Prelude.{slice_index_or, IsOk, IfOk};
 ghost use Rattle.lmots.specs.OtsType.{chain_count, signature_len, width};
 ghost use Rattle.lmots.specs.Chain.{private_element, steps};
 ghost use Rattle.lmots.specs.OnWay.{AreOnWay, IsTable};
-ghost use Rattle.lmots.specs.OneTime.{public_key, signature, candidate, element_in, key_of, IsOfType, HasBadLength, HasBadType};
+ghost use Rattle.lmots.specs.OneTime.{public_key, signature, candidate, element_in, key_of, IsOfType, HasBadLength};
+ghost use Rattle.lmots.specs.OneTime.{HasBadType};
 
 use crate::digits::digits_of;
 use crate::hashes::{key_hasher, message_digest, private_element};
@@ -49,7 +51,8 @@ pub(crate) fn chains_shown(kind: OtsType, signature: &[u8], digits: &[u8; 265]) 
     requires long { length signature.now ≡ signature_len kind }
     requires low { (chain : ℕ) → chain < chain_count kind → slice_index digits.now chain ≤ 2 ^ width kind - 1 }
     ensures table { IsTable result.at result.to result.values }
-    ensures on { (i : List ℕ) (q : ℕ) → AreOnWay i q (chain_count kind) (λ chain. steps i q chain (slice_index digits.now chain)
+    ensures on { (i : List ℕ) (q : ℕ)
+        → AreOnWay i q (chain_count kind) (λ chain. steps i q chain (slice_index digits.now chain)
         (2 ^ width kind - 1 - slice_index digits.now chain) (element_in signature.now chain)) result.at result.to result.values }
 {
     let mut chains = no_chains();

@@ -181,7 +181,8 @@ fn refill(chains: &Chains, order: &[u16; 272], count: u16, lanes: &mut [u16; 8],
 pub(crate) fn walk_all(kind: OtsType, i: &[u8; 16], q: u32, chains: &mut Chains)
     requires table { IsTable chains.old.at chains.old.to chains.old.values }
     ensures table { IsTable chains.new.at chains.new.to chains.new.values }
-    ensures goes { (z : ℕ → List ℕ) → AreOnWay i.now q (chain_count kind) z chains.old.at chains.old.to chains.old.values
+    ensures goes { (z : ℕ → List ℕ) → AreOnWay i.now q (chain_count kind) z chains.old.at chains.old.to
+        chains.old.values
         → AreOnWay i.now q (chain_count kind) z chains.new.at chains.new.to chains.new.values }
 {
     let count = kind.chain_count();

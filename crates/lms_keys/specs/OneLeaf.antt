@@ -5,7 +5,8 @@ use Prim.Native.Nat as Nat
 use Rattle.sha2.specs.Sha256.{sha256}
 use Rattle.lmots.specs.OtsType.{chain_count, width}
 use Rattle.lmots.specs.Chain.{step_text, steps}
-use Rattle.lmots.specs.OneTime.{candidate, digit_of, element_in, finished, key_text, message_digest, message_text, randomizer_in}
+use Rattle.lmots.specs.OneTime.{candidate, digit_of, element_in, finished, key_text, message_digest, message_text}
+use Rattle.lmots.specs.OneTime.{randomizer_in}
 use Rattle.lms_keys.specs.declared.public_key.PublicKey.{PublicKey}
 use Rattle.lms_keys.specs.LmsType.{height}
 use Rattle.lms_keys.specs.Tree.{above_text, climbed, leaf_text, leaf_value, sibling_in}

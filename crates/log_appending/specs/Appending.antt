@@ -14,10 +14,12 @@ use Rattle.log_appending.specs.Signing.{LosesLeaf, SignsEntry}
 use Rattle.log_appending.specs.Stores.{Gains, MayGain}
 use Rattle.log_appending.specs.Untouched.{Untouched}
 use Rattle.log_appending.specs.declared.appending.AppendFault.{AppendFault}
-use Rattle.log_appending.specs.declared.appending.AppendFault.TheVariants.{ClockFailed, Exhausted, DiskFailed, CommitFailed, Memory, MemoryAfter}
+use Rattle.log_appending.specs.declared.appending.AppendFault.TheVariants.{ClockFailed, Exhausted, DiskFailed}
+use Rattle.log_appending.specs.declared.appending.AppendFault.TheVariants.{CommitFailed, Memory, MemoryAfter}
 use Rattle.log_appending.specs.declared.appending.Appended.{Appended}
 
-module _ {R D : Type 0} (keeper_of : keeper.Ghosts R) (disk_of : disk.Ghosts D) (secret : Secret) (old new : R) (file file_now : D) where
+module _ {R D : Type 0} (keeper_of : keeper.Ghosts R) (disk_of : disk.Ghosts D) (secret : Secret) (old new : R)
+    (file file_now : D) where
   -- the entry was signed, the store has it, and this is its commit's id
   pub record AppendsDraft (draft : Draft) (id : List ℕ) : Type 0 where
     pub text : List ℕ
@@ -35,7 +37,8 @@ module _ {R D : Type 0} (keeper_of : keeper.Ghosts R) (disk_of : disk.Ghosts D) 
   -- failed; or nothing was done
   abbrev pub RefusesDraft : Draft → AppendFault → Type 0
   RefusesDraft draft ClockFailed = ⊥
-  RefusesDraft draft Exhausted = Untouched keeper_of disk_of old new file file_now × ((bytes : List ℕ) → disk_of.seen file_now ≡ Some bytes → IsUsedUp bytes secret)
+  RefusesDraft draft Exhausted = Untouched keeper_of disk_of old new file file_now
+      × ((bytes : List ℕ) → disk_of.seen file_now ≡ Some bytes → IsUsedUp bytes secret)
   RefusesDraft draft DiskFailed = Undisturbed keeper_of old new × MayTear disk_of secret file file_now
   RefusesDraft draft CommitFailed = MayAppend draft
   RefusesDraft draft Memory = Untouched keeper_of disk_of old new file file_now

@@ -2,7 +2,8 @@
 use Rattle.std.specs.Prelude.{◌≡◌, ℕ, List, [], ◌∷◌, Option}
 use Rattle.octets.specs.Content.{with_front}
 use Rattle.log_appending.specs.declared.appending.AppendFault.{AppendFault}
-use Rattle.log_appending.specs.declared.appending.AppendFault.TheVariants.{ClockFailed, Exhausted, DiskFailed, CommitFailed, Memory, MemoryAfter}
+use Rattle.log_appending.specs.declared.appending.AppendFault.TheVariants.{ClockFailed, Exhausted, DiskFailed}
+use Rattle.log_appending.specs.declared.appending.AppendFault.TheVariants.{CommitFailed, Memory, MemoryAfter}
 
 -- the clock failed and told nothing, or it told the seconds, and memory was wanting
 abbrev pub WhyUndrafted : Option (List ℕ) → Option (List ℕ) → AppendFault → Type 0

@@ -21,7 +21,12 @@ author_of seconds = codes "gittuf <gittuf@localhost> " ++ decimal seconds ++ cod
 
 -- the draft of the entry that comes after those of these ids
 unfoldable pub draft_after : List (List ℕ) → ℕ → EntryBody → Draft
-draft_after ids seconds body = record { parent = last_of ids; author = author_of seconds; number = length ids + 1; body = body }
+draft_after ids seconds body = record {
+  parent = last_of ids;
+  author = author_of seconds;
+  number = length ids + 1;
+  body = body;
+}
 
 -- what is signed of it
 unfoldable pub draft_text : Draft → List ℕ

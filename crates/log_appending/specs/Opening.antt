@@ -12,7 +12,8 @@ use Rattle.rsl_chain.specs.Logs.{IsBreakOf, IsLogOf}
 use Rattle.rsl_chain.specs.declared.log_faults.LogFault.{LogFault}
 use Rattle.rsl_chain.specs.declared.log_faults.LogFault.TheVariants as log
 use Rattle.log_appending.specs.declared.opening.ReadingFault.{ReadingFault}
-use Rattle.log_appending.specs.declared.opening.ReadingFault.TheVariants.{KeyFile, DiskFailed, LogBroken, TooLarge, KeeperFailed, Memory}
+use Rattle.log_appending.specs.declared.opening.ReadingFault.TheVariants.{KeyFile, DiskFailed, LogBroken, TooLarge}
+use Rattle.log_appending.specs.declared.opening.ReadingFault.TheVariants.{KeeperFailed, Memory}
 
 -- what a refusal of the key file is here, and one of the log
 abbrev pub opened_fault : OpenFault → ReadingFault
@@ -62,7 +63,8 @@ module _ {R D : Type 0} (keeper_of : keeper.Ghosts R) (disk_of : disk.Ghosts D) 
 
   -- the log has as many entries as a log may have
   abbrev pub IsFull : Type 0
-  IsFull = (r : Repository) → keeper_of.content store ≡ Some r → (ids : List (List ℕ)) × IsLogOf r ids × (length ids ≡ 1000000)
+  IsFull = (r : Repository) → keeper_of.content store ≡ Some r → (ids : List (List ℕ)) × IsLogOf r ids
+      × (length ids ≡ 1000000)
 
   -- what each refusal says of the key file and of the store: the log is read only behind a key file
   abbrev pub WhyUnread : ReadingFault → Type 0

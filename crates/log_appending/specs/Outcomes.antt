@@ -1,4 +1,5 @@
--- How `record` and `annotate` end the program, what they come to where store and disk tell what they hold, and the laws of
+-- How `record` and `annotate` end the program, what they come to where store and disk tell what they hold, and the laws
+-- of
 -- them.
 use Rattle.std.specs.Prelude.{◌≡◌, ◌<◌, ◌⊎◌, ℕ, Bool, List, length, Option, Some, Result, Ok, Err}
 use Rattle.git_object.specs.Repository.{Repository}
@@ -104,13 +105,21 @@ RecordComes file was (Err SinkFailed) = ⊥
 -- ---- the laws
 -- it comes to one outcome at most
 pub record OneOfLog : Type 0 where
-  pub recorded : (file : List ℕ) (was : Repository) (a b : Result (Unit {0}) RecordFault) → RecordComes file was a → RecordComes file was b → a ≡ b
+  pub recorded : (file : List ℕ) (was : Repository) (a b : Result (Unit {0}) RecordFault) → RecordComes file was a
+      → RecordComes file was b → a ≡ b
 
 -- what ended is what the command comes to, or it stopped
 pub record TellsOfLog {R D : Type 0} (keeper_of : keeper.Ghosts R) (disk_of : disk.Ghosts D) : Type 0 where
-  pub recorded : (name : List ℕ) (left left_now : Option (List ℕ)) (was now : Repository) (file file_now : List ℕ) (old new : R) (key key_now : D) (printed printed_now : Option (List ℕ)) (outcome : Result (Unit {0}) RecordFault)
-      → keeper_of.content old ≡ Some was → keeper_of.content new ≡ Some now → disk_of.seen key ≡ Some file → disk_of.seen key_now ≡ Some file_now
-      → RecordEnds keeper_of disk_of name left left_now old new key key_now printed printed_now outcome → RecordComes file was outcome ⊎ IsStopped (record_ending outcome)
-  pub annotated : (noted : List (List ℕ)) (skip : Bool) (message : List ℕ) (left left_now : Option (List ℕ)) (was now : Repository) (file file_now : List ℕ) (old new : R) (key key_now : D) (printed printed_now : Option (List ℕ)) (outcome : Result (Unit {0}) RecordFault)
-      → keeper_of.content old ≡ Some was → keeper_of.content new ≡ Some now → disk_of.seen key ≡ Some file → disk_of.seen key_now ≡ Some file_now
-      → AnnotateEnds keeper_of disk_of noted skip message left left_now old new key key_now printed printed_now outcome → RecordComes file was outcome ⊎ IsStopped (record_ending outcome)
+  pub recorded : (name : List ℕ) (left left_now : Option (List ℕ)) (was now : Repository) (file file_now : List ℕ)
+      (old new : R) (key key_now : D) (printed printed_now : Option (List ℕ)) (outcome : Result (Unit {0}) RecordFault)
+      → keeper_of.content old ≡ Some was → keeper_of.content new ≡ Some now → disk_of.seen key ≡ Some file
+      → disk_of.seen key_now ≡ Some file_now
+      → RecordEnds keeper_of disk_of name left left_now old new key key_now printed printed_now outcome
+      → RecordComes file was outcome ⊎ IsStopped (record_ending outcome)
+  pub annotated : (noted : List (List ℕ)) (skip : Bool) (message : List ℕ) (left left_now : Option (List ℕ))
+      (was now : Repository) (file file_now : List ℕ) (old new : R) (key key_now : D)
+      (printed printed_now : Option (List ℕ)) (outcome : Result (Unit {0}) RecordFault)
+      → keeper_of.content old ≡ Some was → keeper_of.content new ≡ Some now → disk_of.seen key ≡ Some file
+      → disk_of.seen key_now ≡ Some file_now
+      → AnnotateEnds keeper_of disk_of noted skip message left left_now old new key key_now printed printed_now outcome
+      → RecordComes file was outcome ⊎ IsStopped (record_ending outcome)

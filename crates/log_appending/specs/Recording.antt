@@ -73,23 +73,29 @@ SaysUnread reading.TooLarge printed printed_now = printed_now ≡ printed
 SaysUnread reading.KeeperFailed printed printed_now = printed_now ≡ printed
 SaysUnread reading.Memory printed printed_now = printed_now ≡ printed
 
--- how it is told why nothing was read: as it is, and of a broken log with the line of its break, of which a front may be
+-- how it is told why nothing was read: as it is, and of a broken log with the line of its break, of which a front may
+-- be
 -- printed where the sink fails
 abbrev pub TellsUnread : Option (List ℕ) → Option (List ℕ) → ReadingFault → RecordFault → Type 0
 TellsUnread printed printed_now fault (Unread told) = (told ≡ fault) × SaysUnread fault printed printed_now
-TellsUnread printed printed_now fault (BreakUntold id) = (fault ≡ reading.LogBroken id) × GainsPart printed printed_now (break_line id)
+TellsUnread printed printed_now fault (BreakUntold id) = (fault ≡ reading.LogBroken id)
+    × GainsPart printed printed_now (break_line id)
 TellsUnread printed printed_now fault (Unappended other) = ⊥
 TellsUnread printed printed_now fault SinkFailed = ⊥
 
 -- the repository's log, and what is so of an entry's body behind it
-pub record IsRead (IsSo : List (List ℕ) → EntryBody → Repository → Type 0) (ids : List (List ℕ)) (body : EntryBody) (r : Repository) : Type 0 where
+pub record IsRead (IsSo : List (List ℕ) → EntryBody → Repository → Type 0) (ids : List (List ℕ)) (body : EntryBody)
+    (r : Repository) : Type 0 where
   pub log : IsLogOf r ids
   pub so : IsSo ids body r
 
-module _ {R D : Type 0} (keeper_of : keeper.Ghosts R) (disk_of : disk.Ghosts D) (left left_now : Option (List ℕ)) (old new : R) (file file_now : D) where
-  -- the log was read and a body made, of which this is so in any case, and this in the repository; and adding an entry of
+module _ {R D : Type 0} (keeper_of : keeper.Ghosts R) (disk_of : disk.Ghosts D) (left left_now : Option (List ℕ))
+    (old new : R) (file file_now : D) where
+  -- the log was read and a body made, of which this is so in any case, and this in the repository; and adding an entry
+  -- of
   -- it came to this
-  pub record Tries (Is : EntryBody → Type 0) (IsSo : List (List ℕ) → EntryBody → Repository → Type 0) (result : Result Appended AppendFault) : Type 0 where
+  pub record Tries (Is : EntryBody → Type 0) (IsSo : List (List ℕ) → EntryBody → Repository → Type 0)
+      (result : Result Appended AppendFault) : Type 0 where
     pub secret : Secret
     pub ids : List (List ℕ)
     pub body : EntryBody
@@ -113,11 +119,14 @@ module _ {R D : Type 0} (keeper_of : keeper.Ghosts R) (disk_of : disk.Ghosts D) 
 
     -- an entry was added and told; or why not, what is left of it, and what was printed
     abbrev pub AddsTold : Option (List ℕ) → Option (List ℕ) → Result (Unit {0}) RecordFault → Type 0
-    AddsTold printed printed_now (Ok done) = (appended : Appended) × Tries Is IsSo (Ok appended) × (printed_now ≡ with_end printed (entry_line appended))
+    AddsTold printed printed_now (Ok done) = (appended : Appended) × Tries Is IsSo (Ok appended)
+        × (printed_now ≡ with_end printed (entry_line appended))
     AddsTold printed printed_now (Err (Unread fault)) = Refuses fault × SaysUnread fault printed printed_now
-    AddsTold printed printed_now (Err (BreakUntold id)) = Refuses (reading.LogBroken id) × GainsPart printed printed_now (break_line id)
+    AddsTold printed printed_now (Err (BreakUntold id)) = Refuses (reading.LogBroken id)
+        × GainsPart printed printed_now (break_line id)
     AddsTold printed printed_now (Err (Unappended fault)) = Tries Is IsSo (Err fault) × (printed_now ≡ printed)
-    AddsTold printed printed_now (Err SinkFailed) = (appended : Appended) × Tries Is IsSo (Ok appended) × GainsPart printed printed_now (entry_line appended)
+    AddsTold printed printed_now (Err SinkFailed) = (appended : Appended) × Tries Is IsSo (Ok appended)
+        × GainsPart printed printed_now (entry_line appended)
 
 -- ---- `record`
 
@@ -129,12 +138,15 @@ Records name body = (target : List ℕ) × (body ≡ Reference name target)
 abbrev pub RecordsValue : List ℕ → List (List ℕ) → EntryBody → Repository → Type 0
 RecordsValue name ids body r = body ≡ Reference name (value_of r name)
 
-module _ {R D : Type 0} (keeper_of : keeper.Ghosts R) (disk_of : disk.Ghosts D) (name : List ℕ) (left left_now : Option (List ℕ)) (old new : R) (file file_now : D) where
+module _ {R D : Type 0} (keeper_of : keeper.Ghosts R) (disk_of : disk.Ghosts D) (name : List ℕ)
+    (left left_now : Option (List ℕ)) (old new : R) (file file_now : D) where
   abbrev pub ValueEnds : Result Appended NotAppended → Type 0
-  ValueEnds result = Adds keeper_of disk_of left left_now old new file file_now (Records name) (RecordsValue name) result
+  ValueEnds result = Adds keeper_of disk_of left left_now old new file file_now (Records name) (RecordsValue name)
+      result
 
   abbrev pub RecordEnds : Option (List ℕ) → Option (List ℕ) → Result (Unit {0}) RecordFault → Type 0
-  RecordEnds printed printed_now result = AddsTold keeper_of disk_of left left_now old new file file_now (Records name) (RecordsValue name) printed printed_now result
+  RecordEnds printed printed_now result = AddsTold keeper_of disk_of left left_now old new file file_now (Records name)
+      (RecordsValue name) printed printed_now result
 
 -- ---- `annotate`
 
@@ -146,9 +158,12 @@ Annotates noted skip message body = body ≡ Annotation noted skip message
 abbrev pub AnyNoted : List (List ℕ) → EntryBody → Repository → Type 0
 AnyNoted ids body r = Unit {0}
 
-module _ {R D : Type 0} (keeper_of : keeper.Ghosts R) (disk_of : disk.Ghosts D) (noted : List (List ℕ)) (skip : Bool) (message : List ℕ) (left left_now : Option (List ℕ)) (old new : R) (file file_now : D) where
+module _ {R D : Type 0} (keeper_of : keeper.Ghosts R) (disk_of : disk.Ghosts D) (noted : List (List ℕ)) (skip : Bool)
+    (message : List ℕ) (left left_now : Option (List ℕ)) (old new : R) (file file_now : D) where
   abbrev pub NoteEnds : Result Appended NotAppended → Type 0
-  NoteEnds result = Adds keeper_of disk_of left left_now old new file file_now (Annotates noted skip message) AnyNoted result
+  NoteEnds result = Adds keeper_of disk_of left left_now old new file file_now (Annotates noted skip message) AnyNoted
+      result
 
   abbrev pub AnnotateEnds : Option (List ℕ) → Option (List ℕ) → Result (Unit {0}) RecordFault → Type 0
-  AnnotateEnds printed printed_now result = AddsTold keeper_of disk_of left left_now old new file file_now (Annotates noted skip message) AnyNoted printed printed_now result
+  AnnotateEnds printed printed_now result = AddsTold keeper_of disk_of left left_now old new file file_now
+      (Annotates noted skip message) AnyNoted printed printed_now result

@@ -6,7 +6,8 @@ use Rattle.leaf_journal.specs.Using.{FindsNone, MayTear, SignsWith}
 use Rattle.rsl_chain.specs.declared.drafts.Draft.{Draft}
 use Rattle.log_appending.specs.Entries.{ReadsAs, draft_text, entry_text}
 use Rattle.log_appending.specs.declared.appending.AppendFault.{AppendFault}
-use Rattle.log_appending.specs.declared.appending.AppendFault.TheVariants.{ClockFailed, Exhausted, DiskFailed, CommitFailed, Memory, MemoryAfter}
+use Rattle.log_appending.specs.declared.appending.AppendFault.TheVariants.{ClockFailed, Exhausted, DiskFailed}
+use Rattle.log_appending.specs.declared.appending.AppendFault.TheVariants.{CommitFailed, Memory, MemoryAfter}
 
 -- which refusals are a fault of the clock, of the disk, of the store
 abbrev pub clock_failed : AppendFault → Bool
@@ -46,7 +47,8 @@ module _ {D : Type 0} (disk_of : disk.Ghosts D) (secret : Secret) (draft : Draft
     pub signature : List ℕ
     pub signs : SignsWith disk_of secret (draft_text draft) old new signature
 
-  -- the body of a signed entry; or each leaf is used; or the first unused one is torn; or nothing was done; or a leaf is
+  -- the body of a signed entry; or each leaf is used; or the first unused one is torn; or nothing was done; or a leaf
+  -- is
   -- lost
   abbrev pub SignEnds : Result (List ℕ) AppendFault → Type 0
   SignEnds (Ok text) = SignsEntry text

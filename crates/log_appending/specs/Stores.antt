@@ -31,7 +31,8 @@ module _ {R : Type 0} (keeper_of : keeper.Ghosts R) (text : List ℕ) (old new :
   pub record Gains : Type 0 where
     pub held : Told (GainsEntry text) (keeper_of.content old) (keeper_of.content new)
     pub tells : keeper_of.tells_left new ≡ true → keeper_of.tells_left old ≡ true
-    pub stop : keeper_of.tells_left new ≡ true → (now : Repository) → keeper_of.content new ≡ Some now → (r : Repository) → keeper_of.left new r → r ≡ now
+    pub stop : keeper_of.tells_left new ≡ true → (now : Repository) → keeper_of.content new ≡ Some now
+        → (r : Repository) → keeper_of.left new r → r ≡ now
 
   -- the repository is as before or has the entry more, and a stop leaves no more than it could, and that
   pub record MayGain : Type 0 where

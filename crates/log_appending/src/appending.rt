@@ -90,7 +90,8 @@ pub fn append_entry<R: Keeper, D: Disk, C: Clock>(
     requires room { length opened.key.room.items ≡ signature_len opened.key.signer.secret }
     requires short { length opened.log.ids < 1000000 }
     requires body { IsBody body }
-    ensures ends { AppendEnds R.Keeper D.Disk opened.key.signer.secret keeper.old keeper.new disk.old disk.new opened.log.ids body (C.left clock.old) (C.left clock.new) result }
+    ensures ends { AppendEnds R.Keeper D.Disk opened.key.signer.secret keeper.old keeper.new disk.old disk.new
+        opened.log.ids body (C.left clock.old) (C.left clock.new) result }
     ensures any_moment { LeavesOnly D.moment D.left_since disk.old disk.new (KeepsUsed (D.may_leave disk.old)) }
     ensures keeper { HasCause commit_failed (R.faults keeper.old) (R.faults keeper.new) result }
     ensures disk { HasCause disk_failed (D.faults disk.old) (D.faults disk.new) result }

@@ -47,7 +47,9 @@ pub fn draft_entry<C: Clock>(
 ) -> Result<Draft, AppendFault>
     requires short { length log.now.ids < 1000000 }
     requires body { IsBody body }
-    ensures draft { IfOk result (λ draft. (seconds : ℕ) × (C.left clock.old ≡ with_front (seconds ∷ []) (C.left clock.new)) × (draft ≡ draft_after log.now.ids seconds body)) }
+    ensures draft { IfOk result (λ draft. (seconds : ℕ)
+        × (C.left clock.old ≡ with_front (seconds ∷ []) (C.left clock.new))
+        × (draft ≡ draft_after log.now.ids seconds body)) }
     ensures valid { IfOk result IsDraft }
     ensures why { IfErr result (WhyUndrafted (C.left clock.old) (C.left clock.new)) }
     ensures clock { HasCause clock_failed (C.faults clock.old) (C.faults clock.new) result }

@@ -9,7 +9,8 @@ ghost use Rattle.edge_io.specs.Moments.{LeavesOnly};
 ghost use Rattle.hss_keys.specs.Secret.{signature_len};
 ghost use Rattle.leaf_journal.specs.Signing.{IsLoaded};
 ghost use Rattle.rsl_chain.specs.Logs.{IsLogOf};
-ghost use Rattle.log_appending.specs.Opening.{IsAnyLength, WhyUnread, log_fault, opened_fault, unread_disk, unread_keeper};
+ghost use Rattle.log_appending.specs.Opening.{IsAnyLength, WhyUnread, log_fault, opened_fault, unread_disk};
+ghost use Rattle.log_appending.specs.Opening.{unread_keeper};
 
 use edge_io::Disk;
 use git_object::ObjectId;
@@ -68,7 +69,8 @@ pub fn open_whole_log<R: Keeper, D: Disk>(
     keeper: &mut R,
     disk: &mut D,
 ) -> Result<OpenLog, ReadingFault>
-    ensures loaded { IfOk result (λ opened. (file : List ℕ) → D.seen disk.new ≡ Some file → IsLoaded file opened.key.signer) }
+    ensures loaded { IfOk result (λ opened. (file : List ℕ) → D.seen disk.new ≡ Some file
+        → IsLoaded file opened.key.signer) }
     ensures room { IfOk result (λ opened. length opened.key.room.items ≡ signature_len opened.key.signer.secret) }
     ensures log { IfOk result (λ opened. (r : Repository) → R.content keeper.new ≡ Some r → IsLogOf r opened.log.ids) }
     ensures few { IfOk result (λ opened. length opened.log.ids ≤ 1000000) }
@@ -101,7 +103,8 @@ pub fn open_log<R: Keeper, D: Disk>(
     keeper: &mut R,
     disk: &mut D,
 ) -> Result<OpenLog, ReadingFault>
-    ensures loaded { IfOk result (λ opened. (file : List ℕ) → D.seen disk.new ≡ Some file → IsLoaded file opened.key.signer) }
+    ensures loaded { IfOk result (λ opened. (file : List ℕ) → D.seen disk.new ≡ Some file
+        → IsLoaded file opened.key.signer) }
     ensures room { IfOk result (λ opened. length opened.key.room.items ≡ signature_len opened.key.signer.secret) }
     ensures log { IfOk result (λ opened. (r : Repository) → R.content keeper.new ≡ Some r → IsLogOf r opened.log.ids) }
     ensures short { IfOk result (λ opened. length opened.log.ids < 1000000) }

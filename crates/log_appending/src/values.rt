@@ -35,7 +35,8 @@ fn body_of<R: Keeper>(
     name: &RefName,
     keeper: &mut R,
 ) -> Result<EntryBody, KeeperFault>
-    ensures body { IfOk result (λ body. (target : List ℕ) × (body ≡ Reference name.now target) × ((r : Repository) → R.content keeper.new ≡ Some r → target ≡ value_of r name.now)) }
+    ensures body { IfOk result (λ body. (target : List ℕ) × (body ≡ Reference name.now target)
+        × ((r : Repository) → R.content keeper.new ≡ Some r → target ≡ value_of r name.now)) }
     ensures same { Undisturbed R.Keeper keeper.old keeper.new }
     ensures cause { HasCause keeper_failed (R.faults keeper.old) (R.faults keeper.new) result }
     ensures reads { R.reads keeper.new ≡ R.reads keeper.old }
@@ -57,7 +58,8 @@ pub fn append_value<R: Keeper, D: Disk, C: Clock>(
     clock: &mut C,
 ) -> Result<Appended, NotAppended>
     requires { name.now ≡ log_name → ⊥ }
-    ensures ends { ValueEnds R.Keeper D.Disk name.now (C.left clock.old) (C.left clock.new) keeper.old keeper.new disk.old disk.new result }
+    ensures ends { ValueEnds R.Keeper D.Disk name.now (C.left clock.old) (C.left clock.new) keeper.old keeper.new
+        disk.old disk.new result }
     ensures any_moment { LeavesOnly D.moment D.left_since disk.old disk.new (KeepsUsed (D.may_leave disk.old)) }
     ensures keeper { HasCause no_keeper (R.faults keeper.old) (R.faults keeper.new) result }
     ensures disk { HasCause no_disk (D.faults disk.old) (D.faults disk.new) result }

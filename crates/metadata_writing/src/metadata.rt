@@ -4,7 +4,8 @@ ghost use Rattle.std.specs.Prelude.{◌≡◌, IfOk, IsErrOf, codes};
 ghost use Rattle.serde_json.specs.Data.{member, no_members, object, string};
 ghost use Rattle.serde_json.specs.View.{view};
 ghost use Rattle.metadata_writing.specs.Texts.{AreNamed, HasFileTexts, HasRootTexts};
-ghost use Rattle.metadata_writing.specs.Written.{file_data, file_first, file_second, role_first, role_second, root_data, root_first, root_second};
+ghost use Rattle.metadata_writing.specs.Written.{file_data, file_first, file_second, role_first, role_second};
+ghost use Rattle.metadata_writing.specs.Written.{root_data, root_first, root_second};
 
 use crate::WriteFault;
 use crate::texts::text_json;
@@ -54,7 +55,9 @@ fn roles_json<Form, T: ToJson<Form>>(
     root: &T,
     targets: &T,
 ) -> Result<Value, WriteFault>
-    ensures written { IfOk result (λ value. view value ≡ object (member (codes "root") (T.written root.now) (member (codes "targets") (T.written targets.now) no_members))) }
+    ensures written { IfOk result (λ value. view value
+        ≡ object (member (codes "root") (T.written root.now)
+        (member (codes "targets") (T.written targets.now) no_members))) }
     ensures unwritable { IsErrOf result WriteFault.Unwritable → T.texts root.now → T.texts targets.now → ⊥ }
 {
     let first = match root.to_json(alloc) {

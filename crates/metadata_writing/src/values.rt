@@ -4,7 +4,8 @@ ghost use Rattle.std.specs.Prelude.{◌≡◌, ◌++◌, ◌∷◌, [], All, IfO
 ghost use Rattle.serde_json.specs.Data.{string};
 ghost use Rattle.serde_json.specs.View.{view};
 ghost use Rattle.metadata_writing.specs.Texts.{HasRuleTexts, HasText, IsNamed};
-ghost use Rattle.metadata_writing.specs.Written.{hex_data, key_data, list_data, name_data, pattern_data, person_data, rule_first, rule_second};
+ghost use Rattle.metadata_writing.specs.Written.{hex_data, key_data, list_data, name_data, pattern_data, person_data};
+ghost use Rattle.metadata_writing.specs.Written.{rule_first, rule_second};
 
 use crate::WriteFault;
 use crate::texts::{hex_json, key_kind, pattern_json, text_json};

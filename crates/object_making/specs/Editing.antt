@@ -15,9 +15,11 @@ place Greater entry first rest after = first ∷ after
 -- the entry before those that come after it in Git's order, and in the place of one that stands there already
 abbrev pub put_entry : TreeEntry → List TreeEntry → List TreeEntry
 put_entry entry [] = entry ∷ []
-put_entry entry (first ∷ rest) = place (by_bytes (sort_key entry) (sort_key first)) entry first rest (put_entry entry rest)
+put_entry entry (first ∷ rest) = place (by_bytes (sort_key entry) (sort_key first)) entry first rest
+    (put_entry entry rest)
 
--- the same in words of the tree: it is in Git's order, has the entry under its name, and under each other name what it had
+-- the same in words of the tree: it is in Git's order, has the entry under its name, and under each other name what it
+-- had
 pub record IsPut (old : List TreeEntry) (entry : TreeEntry) (new : List TreeEntry) : Type 0 where
   pub formed : AreWellFormed new
   pub put : entry_named entry.name new ≡ Some entry

@@ -9,7 +9,8 @@ use Rattle.tree_paths.specs.Readings.{Trees}
 
 -- where the object is a tree, its id leads to the entries of its body
 abbrev pub KeepsPair : Trees → Pair → Type 0
-KeepsPair trees pair = (entries : List TreeEntry) → pair.kind ≡ kind.Tree → IsTreeText (record { entries = entries }) pair.body → trees (pair_id pair) ≡ Some entries
+KeepsPair trees pair = (entries : List TreeEntry) → pair.kind ≡ kind.Tree
+    → IsTreeText (record { entries = entries }) pair.body → trees (pair_id pair) ≡ Some entries
 
 -- this holds of each of these objects
 abbrev pub Keeps : Trees → List Pair → Type 0

@@ -16,10 +16,12 @@ AreFormed trees = (id : List ℕ) → AreWellFormed (listed (trees id))
 
 -- there are no trees that have exactly these paths at a place, with so many levels left
 abbrev pub IsNoTree : ℕ → List ℕ → List Listed → Type 0
-IsNoTree left front listing = (trees : Trees) (id : List ℕ) → AreFormed trees → path_values (steps trees left front id) ≡ values listing → ⊥
+IsNoTree left front listing = (trees : Trees) (id : List ℕ) → AreFormed trees → path_values (steps trees left front id)
+    ≡ values listing → ⊥
 
 -- a part of a tree's entries has the paths that are left, and may stand after those that are made
-pub record Matches (into : List ℕ → List ℕ → List Step) (holder front : List ℕ) (made : List TreeEntry) (rest : List Listed) : Type 0 where
+pub record Matches (into : List ℕ → List ℕ → List Step) (holder front : List ℕ) (made : List TreeEntry)
+    (rest : List Listed) : Type 0 where
   pub entries : List TreeEntry
   pub formed : AreWellFormed entries
   pub ahead : AllByRecursion (λ earlier. AllByRecursion (Precedes earlier) entries) made

@@ -31,7 +31,8 @@ pub record IsRow (row : Row) : Type 0 where
 -- a row, and then this: the octal digits of its mode, a space, how many bytes it has in decimal, a space, its path, a
 -- line feed, its bytes, a line feed
 abbrev pub row_then : Row → List ℕ → List ℕ
-row_then row rest = mode_text row.mode ++ 32 ∷ (decimal (length row.body) ++ 32 ∷ (row.path ++ 10 ∷ (row.body ++ 10 ∷ rest)))
+row_then row rest = mode_text row.mode ++ 32
+    ∷ (decimal (length row.body) ++ 32 ∷ (row.path ++ 10 ∷ (row.body ++ 10 ∷ rest)))
 
 -- one row after the other, and then this
 abbrev pub rows_then : List Row → List ℕ → List ℕ

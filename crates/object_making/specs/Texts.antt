@@ -20,4 +20,8 @@ parents_of (Some id) = id ∷ []
 
 -- a commit of a tree after at most one parent
 abbrev pub commit_pair : List ℕ → Option (List ℕ) → ℕ → List ℕ → Pair
-commit_pair tree parent seconds message = record { kind = kind.Commit; body = commit_lines tree (parents_of parent) ++ commit_rest (author_of seconds) message }
+commit_pair tree parent seconds message =
+    record {
+      kind = kind.Commit;
+      body = commit_lines tree (parents_of parent) ++ commit_rest (author_of seconds) message;
+    }

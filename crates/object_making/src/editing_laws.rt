@@ -10,6 +10,7 @@ ghost use Rattle.object_making.specs.Named.{IsAlike};
 /// An entry that is well named is put in Git's order among the entries of a tree, and has its name there; under every
 /// other name stands what stood there. What had its name before, if anything, is a directory exactly where it is one.
 pub fn entries_put()
-    ensures { (entry : TreeEntry) (entries : List TreeEntry) → IsEntryName entry.name → AreWellFormed entries → IsAlike entry.mode (entry_named entry.name entries)
+    ensures { (entry : TreeEntry) (entries : List TreeEntry) → IsEntryName entry.name → AreWellFormed entries
+        → IsAlike entry.mode (entry_named entry.name entries)
         → IsPut entries entry (put_entry entry entries) }
 {}

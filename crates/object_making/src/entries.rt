@@ -31,9 +31,11 @@ pub fn push_entry(
     id: ObjectId,
 ) -> Result<bool, Memory>
     requires { AreWellFormed tree.old.entries }
-    ensures added { IfOk result (λ taken. taken ≡ true → tree.new.entries ≡ tree.old.entries ++ entry_of mode name.now id ∷ []) }
+    ensures added { IfOk result (λ taken. taken ≡ true → tree.new.entries ≡ tree.old.entries
+        ++ entry_of mode name.now id ∷ []) }
     ensures formed { AreWellFormed tree.new.entries }
-    ensures refused { IfOk result (λ taken. taken ≡ false → AreWellFormed (tree.old.entries ++ entry_of mode name.now id ∷ []) → ⊥) }
+    ensures refused { IfOk result (λ taken. taken ≡ false
+        → AreWellFormed (tree.old.entries ++ entry_of mode name.now id ∷ []) → ⊥) }
 {
     let entry = TreeEntry {
         mode,
@@ -55,7 +57,8 @@ pub fn push_listed(
     listed: &Listed,
 ) -> Result<bool, Memory>
     requires { AreWellFormed tree.old.entries }
-    ensures added { IfOk result (λ taken. taken ≡ true → tree.new.entries ≡ tree.old.entries ++ entry_of listed.now.mode name.now listed.now.id ∷ []) }
+    ensures added { IfOk result (λ taken. taken ≡ true → tree.new.entries ≡ tree.old.entries
+        ++ entry_of listed.now.mode name.now listed.now.id ∷ []) }
     ensures plain { IfOk result (λ taken. taken ≡ true → is_dir listed.now.mode ≡ false) }
     ensures formed { AreWellFormed tree.new.entries }
     ensures refused { IfOk result (λ taken. taken ≡ false → is_dir listed.now.mode ≡ false

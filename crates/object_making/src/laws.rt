@@ -15,7 +15,8 @@ ghost use Rattle.object_making.specs.declared.listed.Listed.{Listed};
 
 /// The trees of a repository that has each of some objects under its own id keep them.
 pub fn kept()
-    ensures { (r : Repository) (readings : Readings) → AreReadings r readings → (pairs : List Pair) → AllByRecursion (λ pair. HasObject r (pair_id pair) pair) pairs → Keeps readings.trees pairs }
+    ensures { (r : Repository) (readings : Readings) → AreReadings r readings → (pairs : List Pair)
+        → AllByRecursion (λ pair. HasObject r (pair_id pair) pair) pairs → Keeps readings.trees pairs }
 {}
 
 /// The entries of a repository's trees are as Git has them.
@@ -26,5 +27,6 @@ pub fn formed()
 /// Where trees have a listing, its paths rise strictly by bytes, each has one to 32 names that entries may have and no
 /// directory's mode, and none stands in a directory that has the path of another. Any other listing is no tree's.
 pub fn listings()
-    ensures { (trees : Trees) (root : List ℕ) (listing : List Listed) → AreFormed trees → path_values (steps trees 32 [] root) ≡ values listing → IsListing listing }
+    ensures { (trees : Trees) (root : List ℕ) (listing : List Listed) → AreFormed trees
+        → path_values (steps trees 32 [] root) ≡ values listing → IsListing listing }
 {}

@@ -41,8 +41,10 @@ impl From<Memory> for ListingFault {
 
 // Adds a row at the end.
 fn push_row(alloc: Global, row: &RowParts<'_>, listing: &mut Listing) -> Result<(), Memory>
-    ensures listed { OnOk result (listing.new.listed ≡ listing.old.listed ++ listed_of (row_of row.now.mode row.now.path.now row.now.body.now) ∷ []) }
-    ensures blobs { OnOk result (listing.new.blobs ≡ listing.old.blobs ++ blob_of (row_of row.now.mode row.now.path.now row.now.body.now) ∷ []) }
+    ensures listed { OnOk result (listing.new.listed ≡ listing.old.listed
+        ++ listed_of (row_of row.now.mode row.now.path.now row.now.body.now) ∷ []) }
+    ensures blobs { OnOk result (listing.new.blobs ≡ listing.old.blobs
+        ++ blob_of (row_of row.now.mode row.now.path.now row.now.body.now) ∷ []) }
 {
     let blob = Object::new(alloc, Kind::Blob, Octets::from_slice(alloc, row.body)?)?;
     let listed = Listed {

@@ -40,18 +40,26 @@ fn put_directory<'a>(
     requires starts { StartsAt place.now listing.now }
     ensures kept { Adds objects.old objects.new }
     ensures formed { AreWellFormed tree.new.entries }
-    ensures put { IfOk result (λ put. IfSome put (λ after. (front : List ℕ) → IsPlace front name.now place.now → (trees : Trees) (holder : List ℕ) → Keeps trees objects.new
+    ensures put { IfOk result (λ put. IfSome put (λ after. (front : List ℕ) → IsPlace front name.now place.now
+        → (trees : Trees) (holder : List ℕ) → Keeps trees objects.new
         → path_values (below (steps trees (left - 1)) holder front tree.new.entries) ++ values after.now
         ≡ path_values (below (steps trees (left - 1)) holder front tree.old.entries) ++ values listing.now)) }
-    ensures ids { IfOk result (λ put. IfSome put (λ after. (trees : Trees) (before : List (List ℕ)) → Keeps trees objects.new → map pair_id objects.old ≡ before ++ ids_below (tree_ids trees (left - 1)) tree.old.entries
+    ensures ids { IfOk result (λ put. IfSome put (λ after. (trees : Trees) (before : List (List ℕ))
+        → Keeps trees objects.new → map pair_id objects.old ≡ before ++ ids_below (tree_ids trees (left - 1))
+        tree.old.entries
         → map pair_id objects.new ≡ before ++ ids_below (tree_ids trees (left - 1)) tree.new.entries)) }
-    ensures visited { IfOk result (λ put. IfSome put (λ after. (front : List ℕ) → IsPlace front name.now place.now → (trees : Trees) (holder : List ℕ) → Keeps trees objects.new
-        → AreOpen trees (below (steps trees (left - 1)) holder front tree.old.entries) → AreOpen trees (below (steps trees (left - 1)) holder front tree.new.entries))) }
+    ensures visited { IfOk result (λ put. IfSome put (λ after. (front : List ℕ) → IsPlace front name.now place.now
+        → (trees : Trees) (holder : List ℕ) → Keeps trees objects.new
+        → AreOpen trees (below (steps trees (left - 1)) holder front tree.old.entries)
+        → AreOpen trees (below (steps trees (left - 1)) holder front tree.new.entries))) }
     ensures some { IfOk result (λ put. IfSome put (λ after. 1 ≤ length tree.new.entries)) }
-    ensures none { IfOk result (λ put. IfNone put ((front : List ℕ) (trees : Trees) (holder : List ℕ) → AreFormed trees → IsPlace front name.now place.now
+    ensures none { IfOk result (λ put. IfNone put ((front : List ℕ) (trees : Trees) (holder : List ℕ) → AreFormed trees
+        → IsPlace front name.now place.now
         → Matches (steps trees (left - 1)) holder front tree.old.entries listing.now → ⊥)) }
-    ensures next { IfOk result (λ put. IfSome put (λ after. (front : List ℕ) (trees : Trees) (holder : List ℕ) → AreFormed trees → IsPlace front name.now place.now
-        → Matches (steps trees (left - 1)) holder front tree.old.entries listing.now → Matches (steps trees (left - 1)) holder front tree.new.entries after.now)) }
+    ensures next { IfOk result (λ put. IfSome put (λ after. (front : List ℕ) (trees : Trees) (holder : List ℕ)
+        → AreFormed trees → IsPlace front name.now place.now
+        → Matches (steps trees (left - 1)) holder front tree.old.entries listing.now
+        → Matches (steps trees (left - 1)) holder front tree.new.entries after.now)) }
     ensures shorter { IfOk result (λ put. IfSome put (λ after. length after.now < length listing.now)) }
 {
     if left == 1 {
@@ -79,9 +87,12 @@ fn make_tree(
 ) -> Result<Option<ObjectId>, Memory>
     requires level { 1 ≤ left }
     ensures kept { Adds objects.old objects.new }
-    ensures made { IfOk result (λ made. IfSome made (λ id. (trees : Trees) → Keeps trees objects.new → path_values (steps trees left front.now id) ≡ values listing.now)) }
-    ensures ids { IfOk result (λ made. IfSome made (λ id. (trees : Trees) → Keeps trees objects.new → map pair_id objects.new ≡ map pair_id objects.old ++ tree_ids trees left id)) }
-    ensures visited { IfOk result (λ made. IfSome made (λ id. (trees : Trees) → Keeps trees objects.new → (length listing.now ≡ 0 → length front.now ≡ 0) → AreOpen trees (steps trees left front.now id))) }
+    ensures made { IfOk result (λ made. IfSome made (λ id. (trees : Trees) → Keeps trees objects.new
+        → path_values (steps trees left front.now id) ≡ values listing.now)) }
+    ensures ids { IfOk result (λ made. IfSome made (λ id. (trees : Trees) → Keeps trees objects.new
+        → map pair_id objects.new ≡ map pair_id objects.old ++ tree_ids trees left id)) }
+    ensures visited { IfOk result (λ made. IfSome made (λ id. (trees : Trees) → Keeps trees objects.new
+        → (length listing.now ≡ 0 → length front.now ≡ 0) → AreOpen trees (steps trees left front.now id))) }
     ensures none { IfOk result (λ made. IfNone made (IsNoTree left front.now listing.now)) }
 {
     let mut tree = Tree {
@@ -124,9 +135,12 @@ pub fn make_trees(
     objects: &mut Objects,
 ) -> Result<Option<ObjectId>, Memory>
     ensures kept { Adds objects.old objects.new }
-    ensures made { IfOk result (λ made. IfSome made (λ root. (trees : Trees) → Keeps trees objects.new → path_values (steps trees 32 [] root) ≡ values listing.now)) }
-    ensures ids { IfOk result (λ made. IfSome made (λ root. (trees : Trees) → Keeps trees objects.new → map pair_id objects.new ≡ map pair_id objects.old ++ tree_ids trees 32 root)) }
-    ensures visited { IfOk result (λ made. IfSome made (λ root. (trees : Trees) → Keeps trees objects.new → AreOpen trees (steps trees 32 [] root))) }
+    ensures made { IfOk result (λ made. IfSome made (λ root. (trees : Trees) → Keeps trees objects.new
+        → path_values (steps trees 32 [] root) ≡ values listing.now)) }
+    ensures ids { IfOk result (λ made. IfSome made (λ root. (trees : Trees) → Keeps trees objects.new
+        → map pair_id objects.new ≡ map pair_id objects.old ++ tree_ids trees 32 root)) }
+    ensures visited { IfOk result (λ made. IfSome made (λ root. (trees : Trees) → Keeps trees objects.new
+        → AreOpen trees (steps trees 32 [] root))) }
     ensures none { IfOk result (λ made. IfNone made (IsNoTree 32 [] listing.now)) }
 {
     make_tree(alloc, listing, b"", MOST_LEVELS, objects)

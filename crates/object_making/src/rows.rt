@@ -28,7 +28,8 @@ pub struct RowParts<'a> {
 fn split_mode(text: &[u8]) -> Option<(Mode, &[u8])>
     ensures found { IfSome result (λ parts. text.now ≡ mode_text parts.0 ++ 32 ∷ parts.1.now) }
     ensures mode { IfSome result (λ parts. IsFileMode parts.0) }
-    ensures none { IfNone result ((mode : Mode) (more : List ℕ) → IsFileMode mode → text.now ≢ mode_text mode ++ 32 ∷ more) }
+    ensures none { IfNone result ((mode : Mode) (more : List ℕ) → IsFileMode mode → text.now ≢ mode_text mode ++ 32
+        ∷ more) }
 {
     match Mode::split_front(text) {
         Some((Mode::File, rest)) => Some((Mode::File, rest)),
@@ -44,7 +45,8 @@ fn split_mode(text: &[u8]) -> Option<(Mode, &[u8])>
 fn split_size(text: &[u8]) -> Option<(u64, &[u8])>
     ensures found { IfSome result (λ parts. text.now ≡ decimal parts.0 ++ 32 ∷ parts.1.now) }
     ensures small { IfSome result (λ parts. parts.0 ≤ largest_body) }
-    ensures none { IfNone result ((size : ℕ) (more : List ℕ) → size ≤ largest_body → text.now ≢ decimal size ++ 32 ∷ more) }
+    ensures none { IfNone result ((size : ℕ) (more : List ℕ) → size ≤ largest_body
+        → text.now ≢ decimal size ++ 32 ∷ more) }
 {
     let Some((word, rest)) = split_word(text) else {
         return None;
@@ -61,7 +63,8 @@ fn split_path(text: &[u8]) -> Option<(&[u8], &[u8])>
     ensures found { IfSome result (λ parts. text.now ≡ parts.0.now ++ 10 ∷ parts.1.now) }
     ensures line { IfSome result (λ parts. has_byte 10 parts.0.now ≡ false) }
     ensures short { IfSome result (λ parts. length parts.0.now ≤ 4096) }
-    ensures none { IfNone result ((path more : List ℕ) → has_byte 10 path ≡ false → length path ≤ 4096 → text.now ≢ path ++ 10 ∷ more) }
+    ensures none { IfNone result ((path more : List ℕ) → has_byte 10 path ≡ false → length path ≤ 4096
+        → text.now ≢ path ++ 10 ∷ more) }
 {
     let Some((path, rest)) = split_line(text) else {
         return None;
@@ -93,7 +96,8 @@ fn split_file(text: &[u8], size: usize) -> Option<((&[u8], &[u8]), &[u8])>
     ensures line { IfSome result (λ parts. has_byte 10 parts.0.0.now ≡ false) }
     ensures short { IfSome result (λ parts. length parts.0.0.now ≤ 4096) }
     ensures size { IfSome result (λ parts. length parts.0.1.now ≡ size) }
-    ensures none { IfNone result ((path body more : List ℕ) → has_byte 10 path ≡ false → length path ≤ 4096 → length body ≡ size → text.now ≢ path ++ 10 ∷ (body ++ 10 ∷ more)) }
+    ensures none { IfNone result ((path body more : List ℕ) → has_byte 10 path ≡ false → length path ≤ 4096
+        → length body ≡ size → text.now ≢ path ++ 10 ∷ (body ++ 10 ∷ more)) }
 {
     let Some((path, after)) = split_path(text) else {
         return None;
@@ -106,7 +110,8 @@ fn split_file(text: &[u8], size: usize) -> Option<((&[u8], &[u8]), &[u8])>
 
 /// The row in front of a text, and what follows it.
 pub fn split_row(text: &[u8]) -> Option<(RowParts<'_>, &[u8])>
-    ensures found { IfSome result (λ parts. text.now ≡ row_then (row_of parts.0.mode parts.0.path.now parts.0.body.now) parts.1.now) }
+    ensures found { IfSome result (λ parts. text.now ≡ row_then (row_of parts.0.mode parts.0.path.now parts.0.body.now)
+        parts.1.now) }
     ensures row { IfSome result (λ parts. IsRow (row_of parts.0.mode parts.0.path.now parts.0.body.now)) }
     ensures none { IfNone result ((row : Row) (more : List ℕ) → IsRow row → text.now ≢ row_then row more) }
 {

@@ -1,9 +1,6 @@
 //! Bytes, lists, causes of refusals and finite maps: what every crate of the project speaks with.
 //!
-//! This crate stands on the standard library alone and has no idea of Git. A crate above may rely on
-//! contracts that see `Octets` as a list of bytes and `Items<T>` as a list of `T`, on one refusal for
-//! want of memory, and on the definitions in `specs/`: when a count of faults rose, how content that
-//! may not be told changes, and finite maps in the order of their keys' bytes.
+//! What it promises, and where to begin: `README.md` in this crate's folder.
 
 #![tactic(auto)]
 

@@ -1,5 +1,6 @@
 -- The epochs of a log: the entries that bring a policy into force. Entries are numbered from 1.
-use Rattle.std.specs.Prelude.{◌≡◌, ◌++◌, ℕ, suc, zero, Bool, false, List, [], ◌∷◌, Option, Some, None, Result, Ok, Err, is_none, nat_lt, option_and_then, unwrap_or}
+use Rattle.std.specs.Prelude.{◌≡◌, ◌++◌, ℕ, suc, zero, Bool, false, List, [], ◌∷◌, Option, Some, None, Result, Ok, Err}
+use Rattle.std.specs.Prelude.{is_none, nat_lt, option_and_then, unwrap_or}
 use Rattle.std.specs.List.{filter}
 
 -- the numbers from 1 to n

@@ -17,9 +17,12 @@ HasFile files name = (file : PolicyFile) × (Contains files file × (file.name �
 -- a new file of the name has a version above that of an old one
 abbrev pub IsRaised : List PolicyFile → List PolicyFile → List ℕ → Type 0
 IsRaised old new name =
-    (now : PolicyFile) × (Contains new now × ((now.name ≡ name) × ((was : PolicyFile) × (Contains old was × ((was.name ≡ name) × (was.version < now.version))))))
+    (now : PolicyFile) × (Contains new now
+    × ((now.name ≡ name) × ((was : PolicyFile)
+    × (Contains old was × ((was.name ≡ name) × (was.version < now.version))))))
 
--- a file may go: the top file where the root has a higher version, and another where the file that held its rule has one or is
+-- a file may go: the top file where the root has a higher version, and another where the file that held its rule has
+-- one or is
 -- gone too
 abbrev pub MayGo : Policy → Policy → Option (List ℕ) → Type 0
 MayGo old new None = old.root.version < new.root.version
@@ -30,11 +33,14 @@ pub record Follows (old new : Policy) : Type 0 where
   -- another root has the next version
   pub next : IsOther old new → new.root.version ≡ old.root.version + 1
   -- and as many persons of the old root role as it asks for signed it, with keys of the old root
-  pub signed : IsOther old new → old.root.root.threshold ≤ count_in old.root.root.persons (env_signers new.envelope old.root.keys)
+  pub signed : IsOther old new → old.root.root.threshold ≤ count_in old.root.root.persons
+      (env_signers new.envelope old.root.keys)
   -- a rule file that both have has the same payload or a higher version
-  pub raised : (was now : PolicyFile) → Contains old.files was → Contains new.files now → now.name ≡ was.name → (now.payload ≡ was.payload → ⊥) → was.version < now.version
+  pub raised : (was now : PolicyFile) → Contains old.files was → Contains new.files now → now.name ≡ was.name
+      → (now.payload ≡ was.payload → ⊥) → was.version < now.version
   -- a rule file that only the old one has may go
-  pub dropped : (was : PolicyFile) → Contains old.files was → (HasFile new.files was.name → ⊥) → MayGo old new was.holder
+  pub dropped : (was : PolicyFile) → Contains old.files was → (HasFile new.files was.name → ⊥)
+      → MayGo old new was.holder
 
 -- the id is that of a key of some person
 abbrev pub IsKeyOf : List Person → List ℕ → Type 0

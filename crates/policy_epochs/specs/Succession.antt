@@ -1,5 +1,6 @@
 -- What keeps a valid policy from taking effect: rules from one policy to the next, and of the first.
-use Rattle.std.specs.Prelude.{◌==◌, ◌+◌, ◌&&◌, ◌||◌, ℕ, Bool, List, Option, Some, None, nat_le, nat_lt, not, if◌then◌else◌}
+use Rattle.std.specs.Prelude.{◌==◌, ◌+◌, ◌&&◌, ◌||◌, ℕ, Bool, List, Option, Some, None, nat_le, nat_lt, not}
+use Rattle.std.specs.Prelude.{if◌then◌else◌}
 use Rattle.std.specs.List.{find, list_all, list_any}
 use Rattle.std.specs.Option.{option_map}
 use Rattle.std.specs.Str.{bytes_eq}
@@ -10,7 +11,8 @@ use Rattle.root_metadata.specs.Risings.{has_key}
 use Rattle.root_metadata.specs.Shapes.{only_if}
 use Rattle.root_metadata.specs.declared.persons.Person.{Person}
 use Rattle.policy_epochs.specs.declared.faults.PolicyFault.{PolicyFault}
-use Rattle.policy_epochs.specs.declared.faults.PolicyFault.TheVariants.{Anchor, FileDropped, FileVersion, RootSuccession, RootVersion}
+use Rattle.policy_epochs.specs.declared.faults.PolicyFault.TheVariants.{Anchor, FileDropped, FileVersion}
+use Rattle.policy_epochs.specs.declared.faults.PolicyFault.TheVariants.{RootSuccession, RootVersion}
 use Rattle.policy_epochs.specs.declared.policies.Policy.{Policy}
 use Rattle.policy_epochs.specs.declared.policies.PolicyFile.{PolicyFile}
 
@@ -43,7 +45,8 @@ same_root old new = bytes_eq new.envelope.payload old.envelope.payload
 -- a root that is another has the next version
 abbrev pub version_fault : Policy → Policy → Option PolicyFault
 version_fault old new =
-    only_if (not (same_root old new || new.root.version == old.root.version + 1)) (RootVersion old.root.version new.root.version)
+    only_if (not (same_root old new || new.root.version == old.root.version + 1))
+    (RootVersion old.root.version new.root.version)
 
 -- the persons of the old root role who are among the signers are as many as it asks for
 abbrev pub signing_fault : Policy → List (List ℕ) → Option PolicyFault
@@ -62,7 +65,8 @@ has_file files name = list_any (λ file. bytes_eq file.name name) files
 
 -- the new file is the old one with other bytes and no higher version
 abbrev pub is_changed : PolicyFile → PolicyFile → Bool
-is_changed old new = bytes_eq new.name old.name && (not (bytes_eq new.payload old.payload) && nat_le new.version old.version)
+is_changed old new = bytes_eq new.name old.name
+    && (not (bytes_eq new.payload old.payload) && nat_le new.version old.version)
 
 abbrev pub is_lowered : List PolicyFile → PolicyFile → Bool
 is_lowered new old = list_any (λ file. is_changed old file) new
@@ -78,7 +82,8 @@ is_above old name file = bytes_eq file.name name && was_lower old name file.vers
 abbrev pub is_raised : List PolicyFile → List PolicyFile → List ℕ → Bool
 is_raised old new name = list_any (λ file. is_above old name file) new
 
--- a file may go where what held its rule has a higher version or is gone too, and the top file where the root's is higher
+-- a file may go where what held its rule has a higher version or is gone too, and the top file where the root's is
+-- higher
 abbrev pub may_go : List PolicyFile → List PolicyFile → Bool → Option (List ℕ) → Bool
 may_go old new root_raised None = root_raised
 may_go old new root_raised (Some name) = is_raised old new name || not (has_file new name)
@@ -93,12 +98,14 @@ lowered_fault old new = option_map (λ file. FileVersion file.name) (find (is_lo
 -- a rule file that only the old one has may go
 abbrev pub dropped_fault : Policy → Policy → Option PolicyFault
 dropped_fault old new =
-    option_map (λ file. FileDropped file.name) (find (is_dropped old.files new.files (nat_lt old.root.version new.root.version)) old.files)
+    option_map (λ file. FileDropped file.name)
+    (find (is_dropped old.files new.files (nat_lt old.root.version new.root.version)) old.files)
 
 -- ---- all of them
 -- the first rule that a policy after another breaks
 abbrev pub following_fault : Policy → Policy → Option PolicyFault
-following_fault old new = or_next (version_fault old new) (or_next (root_fault old new) (or_next (lowered_fault old new) (dropped_fault old new)))
+following_fault old new = or_next (version_fault old new)
+    (or_next (root_fault old new) (or_next (lowered_fault old new) (dropped_fault old new)))
 
 -- the first rule that a policy breaks under the one in force, or as the first of a log
 abbrev pub succession : Option (List (List ℕ)) → Option Policy → Policy → Option PolicyFault

@@ -20,7 +20,8 @@ fault_text fault.NoRoot = codes "no-root"
 fault_text (fault.BadFile file) = codes "bad-file " ++ escaped file
 fault_text (fault.RootThreshold got need) = codes "root-threshold " ++ decimal got ++ codes " of " ++ decimal need
 fault_text (fault.Forest forest) = forest_text forest
-fault_text (fault.FileThreshold file got need) = codes "file-threshold " ++ escaped file ++ codes " " ++ decimal got ++ codes " of " ++ decimal need
+fault_text (fault.FileThreshold file got need) = codes "file-threshold " ++ escaped file ++ codes " " ++ decimal got
+    ++ codes " of " ++ decimal need
 fault_text fault.Anchor = codes "anchor"
 fault_text (fault.RootVersion old new) = codes "root-version " ++ decimal old ++ codes " " ++ decimal new
 fault_text (fault.RootSuccession got need) = codes "root-succession " ++ decimal got ++ codes " of " ++ decimal need

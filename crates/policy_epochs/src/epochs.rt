@@ -34,7 +34,8 @@ impl Epochs {
     /// The policy in force: of whatever log these epochs stand for, the policy of the last epoch.
     pub fn current(&self) -> Option<&Policy>
         ensures value { option_copied result ≡ self.now.current }
-        ensures epochs { (checked : Found) (n : ℕ) (list : List ℕ) → Stands self.now checked n → AreEpochs checked (succession self.now.anchor) n list → option_copied result ≡ policy_in checked list }
+        ensures epochs { (checked : Found) (n : ℕ) (list : List ℕ) → Stands self.now checked n
+            → AreEpochs checked (succession self.now.anchor) n list → option_copied result ≡ policy_in checked list }
     {
         self.current.as_ref()
     }
@@ -53,8 +54,10 @@ impl Epochs {
         found: Result<Policy, PolicyFault>,
     ) -> Result<EpochVerdict, Memory>
         ensures anchor { self.new.anchor ≡ self.old.anchor }
-        ensures verdict { IfOk result (λ verdict. verdict ≡ verdict_of (fault_under (succession self.old.anchor) self.old.current found)) }
-        ensures kept { OnOk result (self.new.current ≡ next_policy (succession self.old.anchor) self.old.current (Some found)) }
+        ensures verdict { IfOk result (λ verdict. verdict
+            ≡ verdict_of (fault_under (succession self.old.anchor) self.old.current found)) }
+        ensures kept { OnOk result (self.new.current ≡ next_policy (succession self.old.anchor) self.old.current
+            (Some found)) }
         ensures same { OnErr result (self.new ≡ self.old) }
         ensures memory { OnErr result (IsOk found) }
     {
@@ -80,10 +83,15 @@ impl Epochs {
         found: Result<Policy, PolicyFault>,
     ) -> Result<EpochVerdict, Memory>
         ensures anchor { self.new.anchor ≡ self.old.anchor }
-        ensures verdict { IfOk result (λ verdict. verdict ≡ verdict_of (fault_under (succession self.old.anchor) self.old.current found)) }
-        ensures stands { OnOk result ((checked : Found) (n number : ℕ) → IsNext checked n number found → Stands self.old checked n → Stands self.new checked number) }
-        ensures epoch { IfOk result (λ verdict. (checked : Found) (n number : ℕ) (list : List ℕ) → IsNext checked n number found → Stands self.old checked n → AreEpochs checked (succession self.old.anchor) number list
-            → verdict ≡ verdict_of (fault_under (succession self.old.anchor) (policy_in checked (below number list)) found)) }
+        ensures verdict { IfOk result (λ verdict. verdict
+            ≡ verdict_of (fault_under (succession self.old.anchor) self.old.current found)) }
+        ensures stands { OnOk result ((checked : Found) (n number : ℕ) → IsNext checked n number found
+            → Stands self.old checked n → Stands self.new checked number) }
+        ensures epoch { IfOk result (λ verdict. (checked : Found) (n number : ℕ) (list : List ℕ)
+            → IsNext checked n number found → Stands self.old checked n
+            → AreEpochs checked (succession self.old.anchor) number list
+            → verdict ≡ verdict_of (fault_under (succession self.old.anchor) (policy_in checked (below number list))
+            found)) }
         ensures same { OnErr result (self.new ≡ self.old) }
         ensures memory { OnErr result (IsOk found) }
     {
@@ -96,7 +104,8 @@ impl Epochs {
         alloc: Global,
         found: Result<Policy, PolicyFault>,
     ) -> Result<EpochVerdict, Memory>
-        ensures verdict { IfOk result (λ verdict. verdict ≡ verdict_of (fault_under (succession self.now.anchor) self.now.current found)) }
+        ensures verdict { IfOk result (λ verdict. verdict
+            ≡ verdict_of (fault_under (succession self.now.anchor) self.now.current found)) }
         ensures memory { OnErr result (IsOk found) }
     {
         match found {

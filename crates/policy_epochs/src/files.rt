@@ -3,7 +3,8 @@
 ghost use Rattle.std.specs.Prelude.{◌≡◌};
 ghost use Rattle.std.specs.List.{find};
 ghost use Rattle.std.specs.Option.{option_copied};
-ghost use Rattle.policy_epochs.specs.Succession.{has_file, is_above, is_changed, is_dropped, is_lowered, is_raised, may_go, was_lower};
+ghost use Rattle.policy_epochs.specs.Succession.{has_file, is_above, is_changed, is_dropped, is_lowered, is_raised};
+ghost use Rattle.policy_epochs.specs.Succession.{may_go, was_lower};
 
 use crate::PolicyFile;
 use octets::Octets;

@@ -2,7 +2,8 @@
 
 ghost use Rattle.std.specs.Prelude.{◌≡◌, ◌==◌, ◌+◌, IfOk};
 ghost use Rattle.std.specs.Option.{option_copied};
-ghost use Rattle.policy_epochs.specs.Succession.{anchor_fault, dropped_fault, following_fault, lowered_fault, root_fault, same_root, signing_fault, succession, version_fault};
+ghost use Rattle.policy_epochs.specs.Succession.{anchor_fault, dropped_fault, following_fault, lowered_fault};
+ghost use Rattle.policy_epochs.specs.Succession.{root_fault, same_root, signing_fault, succession, version_fault};
 
 use crate::anchors::are_exactly;
 use crate::files::{find_dropped, find_lowered};

@@ -46,7 +46,8 @@ fn numbered(
 }
 
 fn of_file(alloc: Global, file: &[u8], got: usize, need: u32) -> Result<Octets, Memory>
-    ensures { IfOk result (λ text. text ≡ codes "file-threshold " ++ escaped file.now ++ codes " " ++ decimal got ++ codes " of " ++ decimal need) }
+    ensures { IfOk result (λ text. text ≡ codes "file-threshold " ++ escaped file.now ++ codes " " ++ decimal got
+        ++ codes " of " ++ decimal need) }
 {
     let mut text = named(alloc, b"file-threshold ", file)?;
     text.append(b" ")?;

@@ -4,8 +4,10 @@ pub mod Counting
 pub mod TextsRead
 pub mod Assembled
 pub mod Told
-pub mod Blobs
 pub mod FilesInOrder
 pub mod Passing
 pub mod InTurn
 pub mod Joining
+pub mod Holders
+pub mod ReadFiles
+pub mod Valids

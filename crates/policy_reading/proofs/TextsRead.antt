@@ -4,13 +4,13 @@ use Rattle.std.specs.Prelude.{IfOk, IfSome, option_and_then}
 use Rattle.std.specs.Option.{option_map}
 use Rattle.git_object.specs.Objects.{Pair}
 use Rattle.git_object.specs.Repository.{Repository}
-use Rattle.policy_reading.specs.Texts.{file_text}
+use Rattle.tree_paths.specs.Blobs.{blob_at}
 
-module _ {A : Type 0} (f : List ℕ → Option A) (r : Repository) (id : List ℕ) (found : Option Pair) (read : option_map (λ (pair : Pair). pair.body) found ≡ file_text r id) where
-  pub nothing_read : found ≡ None → None ≡ option_and_then f (file_text r id)
+module _ {A : Type 0} (f : List ℕ → Option A) (r : Repository) (id : List ℕ) (found : Option Pair) (read : option_map (λ (pair : Pair). pair.body) found ≡ blob_at r id) where
+  pub nothing_read : found ≡ None → None ≡ option_and_then f (blob_at r id)
   nothing_read none = ap (option_and_then f) (ap (option_map (λ (pair : Pair). pair.body)) (sym none) ∙ read)
 
-  pub text_read : (pair : Pair) (text : List ℕ) (x : Option A) → found ≡ Some pair → text ≡ pair.body → x ≡ f text → x ≡ option_and_then f (file_text r id)
+  pub text_read : (pair : Pair) (text : List ℕ) (x : Option A) → found ≡ Some pair → text ≡ pair.body → x ≡ f text → x ≡ option_and_then f (blob_at r id)
   text_read pair text x some is value = value ∙ ap f is ∙ ap (option_and_then f) (ap (option_map (λ (pair : Pair). pair.body)) (sym some) ∙ read)
 
 -- a name that was read

@@ -2,8 +2,8 @@
 use Rattle.std.proofs.Common.{◌≡◌, ℕ, List, Option, Some, refl, sym, ap, ◌∙◌}
 use Rattle.git_object.specs.Repository.{Repository}
 use Rattle.tree_paths.specs.Readings.{AreReadings, IsHeadAt, Readings, Told}
-use Rattle.tree_paths.specs.declared.heads.Head.{Head}
-use Rattle.tree_paths.specs.declared.heads.Head.TheVariants.{Next, Other, Root}
+use Rattle.tree_paths.specs.declared.heads.TargetHead.{TargetHead}
+use Rattle.tree_paths.specs.declared.heads.TargetHead.TheVariants.{Next, Other, Root}
 use Rattle.tree_paths.proofs.Existence.{one_reading}
 use Rattle.tree_paths.proofs.ObjectsRead.{commit_there, tag_there}
 use Rattle.tree_paths.specs.Repositories.{readings_of}
@@ -12,7 +12,7 @@ use Rattle.tree_paths.proofs.Existence.{are_readings}
 pub told_readings : (r : Repository) (content : Option Repository) → content ≡ Some r → Told content (readings_of r)
 told_readings r content told = record { repository = r; told = told; are = are_readings r }
 
-one_head : (r : Repository) (id : List ℕ) (x y : Head) → IsHeadAt r id x → IsHeadAt r id y → x ≡ y
+one_head : (r : Repository) (id : List ℕ) (x y : TargetHead) → IsHeadAt r id x → IsHeadAt r id y → x ≡ y
 one_head r id Other Other p q = refl
 one_head r id Other (Root tree) p q = absurd (p.no_commit tree q)
 one_head r id Other (Next object names) p q = absurd (p.no_tag object names q)

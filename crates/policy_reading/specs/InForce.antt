@@ -1,5 +1,6 @@
 -- The policy in force after the entries of a log, each judged in one repository. Entries are numbered from 1.
-use Rattle.std.specs.Prelude.{◌≡◌, ◌+◌, ◌-◌, ◌++◌, ℕ, List, ◌∷◌, length, Option, Some, None, Result, option_and_then, if◌then◌else◌}
+use Rattle.std.specs.Prelude.{◌≡◌, ◌+◌, ◌-◌, ◌++◌, ℕ, List, ◌∷◌, length, Option, Some, None, Result, option_and_then}
+use Rattle.std.specs.Prelude.{if◌then◌else◌}
 use Rattle.std.specs.List.{slice_get}
 use Rattle.git_object.specs.Repository.{Repository}
 use Rattle.rsl_chain.specs.Entries.{is_of, target_of}
@@ -43,7 +44,8 @@ pub record StandsFor (r : Repository) (entries : List Entry) (epochs : Epochs) :
 
 -- the epochs afterwards stand for a log with the entry, whatever log they stood for before
 pub record Takes (r : Repository) (entry : Entry) (before after : Epochs) : Type 0 where
-  pub stands : (checked : Found) (n : ℕ) → checked (n + 1) ≡ found_in r entry → Stands before checked n → Stands after checked (n + 1)
+  pub stands : (checked : Found) (n : ℕ) → checked (n + 1) ≡ found_in r entry → Stands before checked n
+      → Stands after checked (n + 1)
 
 -- the same with the entry at an id
 pub record TakesAt (r : Repository) (id : List ℕ) (before after : Epochs) : Type 0 where

@@ -1,5 +1,6 @@
 -- The files of a policy: those of the directory `metadata` of its target.
-use Rattle.std.specs.Prelude.{◌&&◌, ◌++◌, ◌-◌, ℕ, Bool, true, false, not, List, [], ◌∷◌, Option, Some, None, codes, length, map, take, if◌then◌else◌}
+use Rattle.std.specs.Prelude.{◌&&◌, ◌++◌, ◌-◌, ℕ, Bool, true, false, not, List, [], ◌∷◌, Option, Some, None, codes}
+use Rattle.std.specs.Prelude.{length, map, take, if◌then◌else◌}
 use Rattle.std.specs.BTreeMap.{insert_entry}
 use Rattle.std.specs.Bool.{nat_eq}
 use Rattle.std.specs.List.{cons_option, ends_with, find}

@@ -31,7 +31,8 @@ abbrev pub by_root_entry : Repository → List FileAt → Option TreeEntry → R
 by_root_entry r ats None = Err NoRoot
 by_root_entry r ats (Some entry) = by_root_file r ats (root_at r entry.id)
 
--- the policy of the entries of a directory `metadata`: the root is there and good, then each rule file is good, then all is valid
+-- the policy of the entries of a directory `metadata`: the root is there and good, then each rule file is good, then
+-- all is valid
 unfoldable pub policy_in : Repository → List TreeEntry → Result Policy PolicyFault
 policy_in r entries = by_root_entry r (rule_files entries) (find (is_called (codes "root")) entries)
 
@@ -53,6 +54,8 @@ file_reads readings state.Absent = 0
 file_reads readings (state.Broken id) = 0
 file_reads readings (state.Whole tree paths dirs) = 3 + length (rule_files (metadata_entries readings.trees tree))
 
--- the most reads that the policy of a target takes: nine of peeling, one for each tree of the walk, and those of its files
+-- the most reads that the policy of a target takes: nine of peeling, one for each tree of the walk, and those of its
+-- files
 unfoldable pub policy_reads : Repository → List ℕ → ℕ
-policy_reads r target = 9 + walk_visits (readings_of r) target + file_reads (readings_of r) (state_at (walk_of (readings_of r) target))
+policy_reads r target = 9 + walk_visits (readings_of r) target + file_reads (readings_of r)
+    (state_at (walk_of (readings_of r) target))

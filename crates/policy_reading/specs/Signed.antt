@@ -13,7 +13,7 @@ use Rattle.rule_files.specs.Files as files
 use Rattle.rule_files.specs.declared.rules.RuleFile.{RuleFile}
 use Rattle.policy_epochs.specs.declared.faults.PolicyFault.{PolicyFault}
 use Rattle.policy_epochs.specs.declared.faults.PolicyFault.TheVariants.{BadFile}
-use Rattle.policy_reading.specs.Texts.{file_text}
+use Rattle.tree_paths.specs.Blobs.{blob_at}
 use Rattle.policy_reading.specs.declared.found_files.FileAt.{FileAt}
 use Rattle.policy_reading.specs.declared.signed_files.SignedFile.{SignedFile}
 use Rattle.policy_reading.specs.declared.signed_files.SignedRoot.{SignedRoot}
@@ -57,12 +57,13 @@ signed_file stem text = option_and_then (file_in stem) (envelope_in text)
 
 -- the root at an id: None where the object is no such blob, or is refused
 abbrev pub root_at : Repository → List ℕ → Option SignedRoot
-root_at r id = option_and_then signed_root (file_text r id)
+root_at r id = option_and_then signed_root (blob_at r id)
 
 abbrev pub rule_file_at : Repository → FileAt → Option SignedFile
-rule_file_at r at = option_and_then (signed_file at.stem) (file_text r at.id)
+rule_file_at r at = option_and_then (signed_file at.stem) (blob_at r at.id)
 
-abbrev pub put_first : List ℕ → Option SignedFile → Result (List SignedFile) PolicyFault → Result (List SignedFile) PolicyFault
+abbrev pub put_first : List ℕ → Option SignedFile → Result (List SignedFile) PolicyFault
+    → Result (List SignedFile) PolicyFault
 put_first stem None rest = Err (BadFile stem)
 put_first stem (Some file) (Ok files) = Ok (file ∷ files)
 put_first stem (Some file) (Err fault) = Err fault

@@ -1,5 +1,6 @@
 -- Whether the files of a policy are signed by those who must, and what is made of them.
-use Rattle.std.specs.Prelude.{◌++◌, ℕ, Bool, List, [], ◌∷◌, Option, Some, None, Result, Ok, Err, codes, is_some, map, nat_le, not, if◌then◌else◌}
+use Rattle.std.specs.Prelude.{◌++◌, ℕ, Bool, List, [], ◌∷◌, Option, Some, None, Result, Ok, Err, codes, is_some, map}
+use Rattle.std.specs.Prelude.{nat_le, not, if◌then◌else◌}
 use Rattle.std.specs.List.{find, flat_map}
 use Rattle.std.specs.Option.{option_map}
 use Rattle.std.specs.Str.{bytes_eq}
@@ -87,11 +88,13 @@ abbrev pub by_holder : Sealed → Option RuleFile → Option PolicyFault
 by_holder sealed None = no_rule sealed
 by_holder sealed (Some holder) = by_rule sealed holder (rule_named sealed.name holder)
 
--- the top file is signed as the root's role for it asks, with keys of the root, and any other as the rule of its name asks,
+-- the top file is signed as the root's role for it asks, with keys of the root, and any other as the rule of its name
+-- asks,
 -- with keys of the file that holds this rule
 unfoldable pub file_fault : Root → List RuleFile → Sealed → Option PolicyFault
 file_fault root files sealed =
-    (if is_top sealed.name then signing_fault sealed root.keys root.targets.persons root.targets.threshold else by_holder sealed (holder_of files sealed.name))
+    (if is_top sealed.name then signing_fault sealed root.keys root.targets.persons root.targets.threshold
+    else by_holder sealed (holder_of files sealed.name))
 
 -- the first of the files that is signed by too few
 abbrev pub files_fault : Root → List RuleFile → List Sealed → Option PolicyFault
@@ -105,7 +108,12 @@ unfoldable pub holder_name : List RuleFile → List ℕ → Option (List ℕ)
 holder_name files name = (if is_top name then None else option_map (λ holder. holder.name) (holder_of files name))
 
 abbrev pub policy_file : List RuleFile → Sealed → PolicyFile
-policy_file files sealed = record { name = sealed.name; payload = sealed.envelope.payload; version = sealed.version; holder = holder_name files sealed.name }
+policy_file files sealed = record {
+  name = sealed.name;
+  payload = sealed.envelope.payload;
+  version = sealed.version;
+  holder = holder_name files sealed.name;
+}
 
 -- the keys of the root, and those of each file in turn
 abbrev pub all_keys : Root → List RuleFile → List Key

@@ -26,7 +26,8 @@ fn check_entries<R: Keeper>(
     keeper: &mut R,
     entries: &[TreeEntry],
 ) -> Result<Result<Policy, PolicyFault>, KeeperFault>
-    ensures policy { IfOk result (λ found. (r : Repository) → R.content keeper.new ≡ Some r → found ≡ policy_in r entries.now) }
+    ensures policy { IfOk result (λ found. (r : Repository) → R.content keeper.new ≡ Some r
+        → found ≡ policy_in r entries.now) }
     ensures order { IfOk result (λ found. IfOk found (λ policy. AreInOrder (names_of policy.files))) }
     ensures same { Undisturbed R.Keeper keeper.old keeper.new }
     ensures cause { HasCause keeper_failed (R.faults keeper.old) (R.faults keeper.new) result }
@@ -55,11 +56,13 @@ pub fn check_policy<R: Keeper>(
     keeper: &mut R,
     target: &ObjectId,
 ) -> Result<Result<Policy, PolicyFault>, KeeperFault>
-    ensures policy { IfOk result (λ found. (r : Repository) → R.content keeper.new ≡ Some r → found ≡ policy_of r target.now) }
+    ensures policy { IfOk result (λ found. (r : Repository) → R.content keeper.new ≡ Some r
+        → found ≡ policy_of r target.now) }
     ensures order { IfOk result (λ found. IfOk found (λ policy. AreInOrder (names_of policy.files))) }
     ensures same { Undisturbed R.Keeper keeper.old keeper.new }
     ensures cause { HasCause keeper_failed (R.faults keeper.old) (R.faults keeper.new) result }
-    ensures reads { (r : Repository) → R.content keeper.new ≡ Some r → R.reads keeper.new ≤ R.reads keeper.old + policy_reads r target.now }
+    ensures reads { (r : Repository) → R.content keeper.new ≡ Some r → R.reads keeper.new ≤ R.reads keeper.old
+        + policy_reads r target.now }
 {
     match own_state(alloc, keeper, target)? {
         State::Absent | State::Broken { id: _ } => Ok(Err(PolicyFault::Unreadable)),

@@ -4,7 +4,8 @@ ghost use Rattle.std.specs.Prelude.{◌≡◌, ◌++◌, [], map, IfOk, OnOk};
 ghost use Rattle.std.specs.List.{find};
 ghost use Rattle.std.specs.Option.{option_copied};
 ghost use Rattle.tree_paths.specs.Walks.{is_dir};
-ghost use Rattle.policy_reading.specs.Metadata.{file_at, is_below_top, is_called, is_file, is_metadata, is_other, is_policy_file, put_file, put_files, rule_files, stem_of, top_file};
+ghost use Rattle.policy_reading.specs.Metadata.{file_at, is_below_top, is_called, is_file, is_metadata, is_other};
+ghost use Rattle.policy_reading.specs.Metadata.{is_policy_file, put_file, put_files, rule_files, stem_of, top_file};
 
 use git_object::{Mode, ObjectId, TreeEntry};
 use octets::{Items, Memory, Octets};

@@ -3,7 +3,8 @@
 ghost use Rattle.std.specs.Prelude.{◌≡◌, ◌≢◌, ◌++◌, ◌∷◌, [], map, IfOk, OnOk, Ok};
 ghost use Rattle.policy_epochs.specs.declared.faults.PolicyFault.TheVariants as fault;
 ghost use Rattle.rule_delegations.specs.declared.assembling.AssembleFault.TheVariants as refusal;
-ghost use Rattle.policy_reading.specs.Validity.{all_keys, assembled, by_forest, empty_top, judged, missing_top, policy_file, policy_made, sealed_of, with_top};
+ghost use Rattle.policy_reading.specs.Validity.{all_keys, assembled, by_forest, empty_top, judged, missing_top};
+ghost use Rattle.policy_reading.specs.Validity.{policy_file, policy_made, sealed_of, with_top};
 
 use crate::signed_files::{Sealed, SealedFiles, SignedFile, SignedFiles, SignedRoot};
 use crate::thresholds::{files_fault, holder_name, is_top, root_fault};

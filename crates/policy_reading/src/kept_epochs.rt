@@ -25,14 +25,21 @@ pub fn extend<R: Keeper>(
     target: &ObjectId,
 ) -> Result<EpochVerdict, KeeperFault>
     ensures anchor { epochs.new.anchor ≡ epochs.old.anchor }
-    ensures verdict { IfOk result (λ verdict. (r : Repository) → R.content keeper.new ≡ Some r → verdict ≡ verdict_of (fault_under (succession epochs.old.anchor) epochs.old.current (policy_of r target.now))) }
-    ensures stands { OnOk result ((r : Repository) → R.content keeper.new ≡ Some r → (checked : Found) (n number : ℕ) → IsNext checked n number (policy_of r target.now) → Stands epochs.old checked n → Stands epochs.new checked number) }
-    ensures epoch { IfOk result (λ verdict. (r : Repository) → R.content keeper.new ≡ Some r → (checked : Found) (n number : ℕ) (list : List ℕ) → IsNext checked n number (policy_of r target.now) → Stands epochs.old checked n → AreEpochs checked (succession epochs.old.anchor) number list
-        → verdict ≡ verdict_of (fault_under (succession epochs.old.anchor) (policy_in checked (below number list)) (policy_of r target.now))) }
+    ensures verdict { IfOk result (λ verdict. (r : Repository) → R.content keeper.new ≡ Some r
+        → verdict ≡ verdict_of (fault_under (succession epochs.old.anchor) epochs.old.current (policy_of r target.now))) }
+    ensures stands { OnOk result ((r : Repository) → R.content keeper.new ≡ Some r → (checked : Found) (n number : ℕ)
+        → IsNext checked n number (policy_of r target.now) → Stands epochs.old checked n
+        → Stands epochs.new checked number) }
+    ensures epoch { IfOk result (λ verdict. (r : Repository) → R.content keeper.new ≡ Some r
+        → (checked : Found) (n number : ℕ) (list : List ℕ) → IsNext checked n number (policy_of r target.now)
+        → Stands epochs.old checked n → AreEpochs checked (succession epochs.old.anchor) number list
+        → verdict ≡ verdict_of (fault_under (succession epochs.old.anchor) (policy_in checked (below number list))
+        (policy_of r target.now))) }
     ensures kept { OnErr result (epochs.new ≡ epochs.old) }
     ensures same { Undisturbed R.Keeper keeper.old keeper.new }
     ensures cause { HasCause keeper_failed (R.faults keeper.old) (R.faults keeper.new) result }
-    ensures reads { (r : Repository) → R.content keeper.new ≡ Some r → R.reads keeper.new ≤ R.reads keeper.old + policy_reads r target.now }
+    ensures reads { (r : Repository) → R.content keeper.new ≡ Some r → R.reads keeper.new ≤ R.reads keeper.old
+        + policy_reads r target.now }
 {
     let found = check_policy(alloc, keeper, target)?;
     Ok(epochs.take(alloc, found)?)
@@ -45,10 +52,12 @@ pub fn look<R: Keeper>(
     keeper: &mut R,
     target: &ObjectId,
 ) -> Result<EpochVerdict, KeeperFault>
-    ensures verdict { IfOk result (λ verdict. (r : Repository) → R.content keeper.new ≡ Some r → verdict ≡ verdict_of (fault_under (succession epochs.now.anchor) epochs.now.current (policy_of r target.now))) }
+    ensures verdict { IfOk result (λ verdict. (r : Repository) → R.content keeper.new ≡ Some r
+        → verdict ≡ verdict_of (fault_under (succession epochs.now.anchor) epochs.now.current (policy_of r target.now))) }
     ensures same { Undisturbed R.Keeper keeper.old keeper.new }
     ensures cause { HasCause keeper_failed (R.faults keeper.old) (R.faults keeper.new) result }
-    ensures reads { (r : Repository) → R.content keeper.new ≡ Some r → R.reads keeper.new ≤ R.reads keeper.old + policy_reads r target.now }
+    ensures reads { (r : Repository) → R.content keeper.new ≡ Some r → R.reads keeper.new ≤ R.reads keeper.old
+        + policy_reads r target.now }
 {
     let found = check_policy(alloc, keeper, target)?;
     Ok(epochs.judge(alloc, found)?)

@@ -8,13 +8,14 @@ ghost use Rattle.keeper_api.specs.Undisturbed.{Undisturbed};
 ghost use Rattle.policy_epochs.specs.declared.faults.PolicyFault.TheVariants as fault;
 ghost use Rattle.policy_reading.specs.Signed.{read_files, root_at, rule_file_at};
 
+use crate::FileAt;
 use crate::signed_files::{SignedFile, SignedFiles, SignedRoot, signed_file, signed_root};
-use crate::{FileAt, load_blob};
 use git_object::ObjectId;
 use keeper_api::{Keeper, KeeperFault};
 use octets::{Memory, Octets};
 use policy_epochs::PolicyFault;
 use std::alloc::Global;
+use tree_paths::load_blob;
 
 /// The root at an id; None where the object is missing, no blob, longer than 1 MiB, or refused.
 pub fn load_root<R: Keeper>(
@@ -40,7 +41,8 @@ fn load_file<R: Keeper>(
     keeper: &mut R,
     at: &FileAt,
 ) -> Result<Option<SignedFile>, KeeperFault>
-    ensures read { IfOk result (λ found. (r : Repository) → R.content keeper.new ≡ Some r → found ≡ rule_file_at r at.now) }
+    ensures read { IfOk result (λ found. (r : Repository) → R.content keeper.new ≡ Some r
+        → found ≡ rule_file_at r at.now) }
     ensures named { IfOk result (λ found. IfSome found (λ signed. signed.file.name ≡ at.now.stem)) }
     ensures same { Undisturbed R.Keeper keeper.old keeper.new }
     ensures cause { HasCause keeper_failed (R.faults keeper.old) (R.faults keeper.new) result }
@@ -67,8 +69,10 @@ pub fn load_files<R: Keeper>(
     keeper: &mut R,
     ats: &[FileAt],
 ) -> Result<Result<SignedFiles, PolicyFault>, KeeperFault>
-    ensures read { IfOk result (λ found. (r : Repository) → R.content keeper.new ≡ Some r → found ≡ read_files r ats.now) }
-    ensures named { IfOk result (λ found. IfOk found (λ files. map (λ signed. signed.file.name) files ≡ map (λ at. at.stem) ats.now)) }
+    ensures read { IfOk result (λ found. (r : Repository) → R.content keeper.new ≡ Some r
+        → found ≡ read_files r ats.now) }
+    ensures named { IfOk result (λ found. IfOk found
+        (λ files. map (λ signed. signed.file.name) files ≡ map (λ at. at.stem) ats.now)) }
     ensures same { Undisturbed R.Keeper keeper.old keeper.new }
     ensures cause { HasCause keeper_failed (R.faults keeper.old) (R.faults keeper.new) result }
     ensures reads { R.reads keeper.new ≤ R.reads keeper.old + length ats.now }

@@ -10,7 +10,8 @@ ghost use Rattle.rsl_chain.specs.Logs.{IsBrokenAs, IsNamed, IsNoEntryAs, log_fai
 ghost use Rattle.rsl_chain.specs.Histories.{AreEntriesAt};
 ghost use Rattle.policy_epochs.specs.Standing.{Found, Stands};
 ghost use Rattle.policy_reading.specs.Policies.{policy_reads};
-ghost use Rattle.policy_reading.specs.InForce.{HasEntries, HasEpochs, MissesEntry, StandsAt, Takes, TakesAt, epoch_fault};
+ghost use Rattle.policy_reading.specs.InForce.{HasEntries, HasEpochs, MissesEntry, StandsAt, Takes, TakesAt};
+ghost use Rattle.policy_reading.specs.InForce.{epoch_fault};
 ghost use Rattle.policy_reading.specs.Reading.{ReadsLog, entry_reads, taking_reads};
 
 use crate::{extend, look};
@@ -29,10 +30,12 @@ fn take_entry<R: Keeper>(
     entry: &Entry,
 ) -> Result<(), KeeperFault>
     ensures anchor { epochs.new.anchor ≡ epochs.old.anchor }
-    ensures takes { OnOk result ((r : Repository) → R.content keeper.new ≡ Some r → Takes r entry.now epochs.old epochs.new) }
+    ensures takes { OnOk result ((r : Repository) → R.content keeper.new ≡ Some r
+        → Takes r entry.now epochs.old epochs.new) }
     ensures same { Undisturbed R.Keeper keeper.old keeper.new }
     ensures cause { HasCause keeper_failed (R.faults keeper.old) (R.faults keeper.new) result }
-    ensures reads { (r : Repository) → R.content keeper.new ≡ Some r → R.reads keeper.new ≤ R.reads keeper.old + taking_reads r (Some entry.now) }
+    ensures reads { (r : Repository) → R.content keeper.new ≡ Some r → R.reads keeper.new ≤ R.reads keeper.old
+        + taking_reads r (Some entry.now) }
 {
     match &entry.body {
         EntryBody::Reference { name, target } => {
@@ -63,12 +66,15 @@ fn take_id<R: Keeper>(
     id: &ObjectId,
 ) -> Result<(), LogFault>
     ensures anchor { epochs.new.anchor ≡ epochs.old.anchor }
-    ensures takes { OnOk result ((r : Repository) → R.content keeper.new ≡ Some r → TakesAt r id.now epochs.old epochs.new) }
-    ensures broken { IfErr result (λ fault. (r : Repository) → R.content keeper.new ≡ Some r → IsNoEntryAs r id.now fault) }
+    ensures takes { OnOk result ((r : Repository) → R.content keeper.new ≡ Some r
+        → TakesAt r id.now epochs.old epochs.new) }
+    ensures broken { IfErr result (λ fault. (r : Repository) → R.content keeper.new ≡ Some r
+        → IsNoEntryAs r id.now fault) }
     ensures named { IfErr result (IsNamed id.now) }
     ensures same { Undisturbed R.Keeper keeper.old keeper.new }
     ensures cause { HasCause log_failed (R.faults keeper.old) (R.faults keeper.new) result }
-    ensures reads { (r : Repository) → R.content keeper.new ≡ Some r → R.reads keeper.new ≤ R.reads keeper.old + entry_reads r id.now }
+    ensures reads { (r : Repository) → R.content keeper.new ≡ Some r → R.reads keeper.new ≤ R.reads keeper.old
+        + entry_reads r id.now }
 {
     let entry = match read_entry(alloc, keeper, id) {
         Ok(entry) => entry,
@@ -91,10 +97,12 @@ fn take_ids<R: Keeper>(
     requires { (checked : Found) → Stands epochs.old checked 0 }
     ensures anchor { epochs.new.anchor ≡ epochs.old.anchor }
     ensures stands { OnOk result ((r : Repository) → R.content keeper.new ≡ Some r → StandsAt r ids.now epochs.new) }
-    ensures broken { IfErr result (λ fault. (r : Repository) → R.content keeper.new ≡ Some r → MissesEntry r ids.now fault) }
+    ensures broken { IfErr result (λ fault. (r : Repository) → R.content keeper.new ≡ Some r
+        → MissesEntry r ids.now fault) }
     ensures same { Undisturbed R.Keeper keeper.old keeper.new }
     ensures cause { HasCause log_failed (R.faults keeper.old) (R.faults keeper.new) result }
-    ensures reads { (r : Repository) → R.content keeper.new ≡ Some r → R.reads keeper.new ≤ R.reads keeper.old + sum_by (entry_reads r) ids.now }
+    ensures reads { (r : Repository) → R.content keeper.new ≡ Some r → R.reads keeper.new ≤ R.reads keeper.old
+        + sum_by (entry_reads r) ids.now }
 {
     'ids: for id in ids {
         match take_id(alloc, epochs, keeper, id) {
@@ -115,11 +123,14 @@ pub fn epochs_at<R: Keeper>(
     ids: &[ObjectId],
 ) -> Result<Epochs, LogFault>
     ensures anchor { IfOk result (λ epochs. epochs.anchor ≡ anchor) }
-    ensures stands { IfOk result (λ epochs. (r : Repository) → R.content keeper.new ≡ Some r → StandsAt r ids.now epochs) }
-    ensures broken { IfErr result (λ fault. (r : Repository) → R.content keeper.new ≡ Some r → MissesEntry r ids.now fault) }
+    ensures stands { IfOk result (λ epochs. (r : Repository) → R.content keeper.new ≡ Some r
+        → StandsAt r ids.now epochs) }
+    ensures broken { IfErr result (λ fault. (r : Repository) → R.content keeper.new ≡ Some r
+        → MissesEntry r ids.now fault) }
     ensures same { Undisturbed R.Keeper keeper.old keeper.new }
     ensures cause { HasCause log_failed (R.faults keeper.old) (R.faults keeper.new) result }
-    ensures reads { (r : Repository) → R.content keeper.new ≡ Some r → R.reads keeper.new ≤ R.reads keeper.old + sum_by (entry_reads r) ids.now }
+    ensures reads { (r : Repository) → R.content keeper.new ≡ Some r → R.reads keeper.new ≤ R.reads keeper.old
+        + sum_by (entry_reads r) ids.now }
 {
     let mut epochs = Epochs::new(anchor);
     match take_ids(alloc, &mut epochs, keeper, ids) {
@@ -143,7 +154,8 @@ pub fn load_epochs<R: Keeper>(
     ensures broken { IfErr result (λ fault. (r : Repository) → R.content keeper.new ≡ Some r → IsBrokenAs r fault) }
     ensures same { Undisturbed R.Keeper keeper.old keeper.new }
     ensures cause { HasCause log_failed (R.faults keeper.old) (R.faults keeper.new) result }
-    ensures reads { OnOk result ((r : Repository) → R.content keeper.new ≡ Some r → ReadsLog r (R.reads keeper.old) (R.reads keeper.new)) }
+    ensures reads { OnOk result ((r : Repository) → R.content keeper.new ≡ Some r
+        → ReadsLog r (R.reads keeper.old) (R.reads keeper.new)) }
 {
     let log = match Log::load(alloc, keeper) {
         Ok(log) => log,
@@ -164,12 +176,15 @@ pub fn epoch_fault<R: Keeper>(
     ids: &[ObjectId],
     target: &ObjectId,
 ) -> Result<Option<PolicyFault>, LogFault>
-    ensures fault { IfOk result (λ fault. (r : Repository) → R.content keeper.new ≡ Some r → (entries : List Entry) → AreEntriesAt r ids.now entries → fault ≡ epoch_fault anchor r entries target.now) }
+    ensures fault { IfOk result (λ fault. (r : Repository) → R.content keeper.new ≡ Some r → (entries : List Entry)
+        → AreEntriesAt r ids.now entries → fault ≡ epoch_fault anchor r entries target.now) }
     ensures there { OnOk result ((r : Repository) → R.content keeper.new ≡ Some r → HasEntries r ids.now) }
-    ensures broken { IfErr result (λ fault. (r : Repository) → R.content keeper.new ≡ Some r → MissesEntry r ids.now fault) }
+    ensures broken { IfErr result (λ fault. (r : Repository) → R.content keeper.new ≡ Some r
+        → MissesEntry r ids.now fault) }
     ensures same { Undisturbed R.Keeper keeper.old keeper.new }
     ensures cause { HasCause log_failed (R.faults keeper.old) (R.faults keeper.new) result }
-    ensures reads { (r : Repository) → R.content keeper.new ≡ Some r → R.reads keeper.new ≤ R.reads keeper.old + (sum_by (entry_reads r) ids.now + policy_reads r target.now) }
+    ensures reads { (r : Repository) → R.content keeper.new ≡ Some r → R.reads keeper.new ≤ R.reads keeper.old
+        + (sum_by (entry_reads r) ids.now + policy_reads r target.now) }
 {
     let epochs = match epochs_at(alloc, keeper, anchor, ids) {
         Ok(epochs) => epochs,

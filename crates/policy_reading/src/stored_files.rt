@@ -1,7 +1,6 @@
-//! The files of a policy as a store holds them.
+//! The trees of a policy as a store holds them.
 
 ghost use Rattle.std.specs.Prelude.{◌≡◌, ◌≤◌, ◌+◌, IfOk, Some};
-ghost use Rattle.std.specs.Option.{option_map};
 ghost use Rattle.octets.specs.Causes.{HasCause};
 ghost use Rattle.git_object.specs.Repository.{Repository};
 ghost use Rattle.keeper_api.specs.Faults.{keeper_failed};
@@ -10,16 +9,12 @@ ghost use Rattle.tree_paths.specs.Listings.{walk_visits};
 ghost use Rattle.tree_paths.specs.States.{state_at, walk_of};
 ghost use Rattle.policy_reading.specs.Metadata.{metadata_entries};
 ghost use Rattle.tree_paths.specs.Repositories.{readings_of};
-ghost use Rattle.policy_reading.specs.Texts.{file_text, is_small_blob};
 
 use crate::found_files::find_metadata;
-use git_object::{Kind, Object, ObjectId, TreeEntries};
-use keeper_api::{Keeper, KeeperFault, load_object};
+use git_object::{ObjectId, TreeEntries};
+use keeper_api::{Keeper, KeeperFault};
 use std::alloc::Global;
 use tree_paths::{State, load_tree, state_of};
-
-/// The most bytes of a file: 1 MiB.
-const LARGEST_FILE: usize = 1048576;
 
 /// The state of a target. It makes at most nine reads beside one for each tree of its walk.
 pub fn own_state<R: Keeper>(
@@ -27,10 +22,12 @@ pub fn own_state<R: Keeper>(
     keeper: &mut R,
     target: &ObjectId,
 ) -> Result<State, KeeperFault>
-    ensures state { IfOk result (λ state. (r : Repository) → R.content keeper.new ≡ Some r → state ≡ state_at (walk_of (readings_of r) target.now)) }
+    ensures state { IfOk result (λ state. (r : Repository) → R.content keeper.new ≡ Some r
+        → state ≡ state_at (walk_of (readings_of r) target.now)) }
     ensures same { Undisturbed R.Keeper keeper.old keeper.new }
     ensures cause { HasCause keeper_failed (R.faults keeper.old) (R.faults keeper.new) result }
-    ensures reads { (r : Repository) → R.content keeper.new ≡ Some r → R.reads keeper.new ≤ R.reads keeper.old + 9 + walk_visits (readings_of r) target.now }
+    ensures reads { (r : Repository) → R.content keeper.new ≡ Some r → R.reads keeper.new ≤ R.reads keeper.old + 9
+        + walk_visits (readings_of r) target.now }
 {
     state_of(alloc, keeper, target)
 }
@@ -41,7 +38,8 @@ fn load_own_tree<R: Keeper>(
     keeper: &mut R,
     id: &ObjectId,
 ) -> Result<Option<TreeEntries>, KeeperFault>
-    ensures read { IfOk result (λ found. (r : Repository) → R.content keeper.new ≡ Some r → found ≡ (readings_of r).trees id.now) }
+    ensures read { IfOk result (λ found. (r : Repository) → R.content keeper.new ≡ Some r
+        → found ≡ (readings_of r).trees id.now) }
     ensures same { Undisturbed R.Keeper keeper.old keeper.new }
     ensures cause { HasCause keeper_failed (R.faults keeper.old) (R.faults keeper.new) result }
     ensures reads { R.reads keeper.new ≤ R.reads keeper.old + 1 }
@@ -56,7 +54,8 @@ pub fn load_metadata<R: Keeper>(
     keeper: &mut R,
     tree: &ObjectId,
 ) -> Result<TreeEntries, KeeperFault>
-    ensures read { IfOk result (λ entries. (r : Repository) → R.content keeper.new ≡ Some r → entries ≡ metadata_entries (readings_of r).trees tree.now) }
+    ensures read { IfOk result (λ entries. (r : Repository) → R.content keeper.new ≡ Some r
+        → entries ≡ metadata_entries (readings_of r).trees tree.now) }
     ensures same { Undisturbed R.Keeper keeper.old keeper.new }
     ensures cause { HasCause keeper_failed (R.faults keeper.old) (R.faults keeper.new) result }
     ensures reads { R.reads keeper.new ≤ R.reads keeper.old + 2 }
@@ -70,35 +69,5 @@ pub fn load_metadata<R: Keeper>(
     match load_own_tree(alloc, keeper, &directory.id)? {
         Some(entries) => Ok(entries),
         None => Ok(TreeEntries::new(alloc)),
-    }
-}
-
-fn is_small_blob(object: &Object) -> bool
-    ensures { result ≡ is_small_blob object.now }
-{
-    match object.kind() {
-        Kind::Blob => object.body().len() <= LARGEST_FILE,
-        Kind::Tree | Kind::Commit | Kind::Tag => false,
-    }
-}
-
-/// The blob of a file; None where there is none of at most 1 MiB.
-pub fn load_blob<R: Keeper>(
-    alloc: Global,
-    keeper: &mut R,
-    id: &ObjectId,
-) -> Result<Option<Object>, KeeperFault>
-    ensures read { IfOk result (λ found. (r : Repository) → R.content keeper.new ≡ Some r → option_map (λ pair. pair.body) found ≡ file_text r id.now) }
-    ensures same { Undisturbed R.Keeper keeper.old keeper.new }
-    ensures cause { HasCause keeper_failed (R.faults keeper.old) (R.faults keeper.new) result }
-    ensures reads { R.reads keeper.new ≤ R.reads keeper.old + 1 }
-{
-    let Some(object) = load_object(alloc, keeper, id)? else {
-        return Ok(None);
-    };
-    if is_small_blob(&object) {
-        Ok(Some(object))
-    } else {
-        Ok(None)
     }
 }

@@ -2,7 +2,8 @@
 
 ghost use Rattle.std.specs.Prelude.{◌≡◌, IfOk, nat_le};
 ghost use Rattle.std.specs.Option.{option_copied};
-ghost use Rattle.policy_reading.specs.Validity.{by_holder, file_fault, files_fault, holder_name, holder_of, holds, is_top, no_rule, root_fault, rule_named, signing_fault};
+ghost use Rattle.policy_reading.specs.Validity.{by_holder, file_fault, files_fault, holder_name, holder_of, holds};
+ghost use Rattle.policy_reading.specs.Validity.{is_top, no_rule, root_fault, rule_named, signing_fault};
 
 use crate::signed_files::{Sealed, SignedRoot};
 use approvals::env_signers;

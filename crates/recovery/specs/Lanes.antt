@@ -1,5 +1,6 @@
 -- What is kept of each reference: three lists of entry numbers.
-use Rattle.std.specs.Prelude.{◌==◌, ◌++◌, ◌<◌, ◌||◌, ◌&&◌, ℕ, Bool, not, List, [], ◌∷◌, Option, Some, None, if◌then◌else◌, nat_le, unwrap_or, refl}
+use Rattle.std.specs.Prelude.{◌==◌, ◌++◌, ◌<◌, ◌||◌, ◌&&◌, ℕ, Bool, not, List, [], ◌∷◌, Option, Some, None}
+use Rattle.std.specs.Prelude.{if◌then◌else◌, nat_le, unwrap_or, refl}
 use Rattle.std.specs.Coded.{Coded, code_by, coded×, coded_list, coded_ℕ}
 use Rattle.std.specs.FinMap.{get}
 use Rattle.std.specs.List.{All, filter, list_any}
@@ -14,8 +15,10 @@ pub record Lane : Type 0 where
 -- a lane is told apart as the tuple of its lists
 abbrev pub lane_coded : Coded Lane
 lane_coded =
-    code_by (List ℕ × (List ℕ × List ℕ)) (coded× (coded_list coded_ℕ) (coded× (coded_list coded_ℕ) (coded_list coded_ℕ)))
-    (λ l. (l.pushed, (l.unskipped, l.pending))) (λ p. record { pushed = p.0; unskipped = p.1.0; pending = p.1.1 }) (λ _. refl)
+    code_by (List ℕ × (List ℕ × List ℕ))
+    (coded× (coded_list coded_ℕ) (coded× (coded_list coded_ℕ) (coded_list coded_ℕ)))
+    (λ l. (l.pushed, (l.unskipped, l.pending))) (λ p. record { pushed = p.0; unskipped = p.1.0; pending = p.1.1 })
+    (λ _. refl)
 
 abbrev pub empty_lane : Lane
 empty_lane = record { pushed = []; unskipped = []; pending = [] }

@@ -1,5 +1,6 @@
 -- One row for each number, in the order of the numbers, and one slot for each name.
-use Rattle.std.specs.Prelude.{◌≡◌, ◌==◌, ◌&&◌, ◌<◌, ◌≤◌, ◌-◌, ℕ, true, false, not, List, [], length, map, slice_index_or}
+use Rattle.std.specs.Prelude.{◌≡◌, ◌==◌, ◌&&◌, ◌<◌, ◌≤◌, ◌-◌, ℕ, true, false, not, List, [], length, map}
+use Rattle.std.specs.Prelude.{slice_index_or}
 use Rattle.std.specs.List.{filter}
 use Rattle.recovery.specs.Lanes.{Lane}
 use Rattle.recovery.specs.declared.rows.Row.{Row}
@@ -27,7 +28,11 @@ unskipped_at slot rows = map (λ r. r.number) (filter (λ r. r.slot == slot && n
 
 -- what is kept of a slot
 abbrev pub lane_at : List Row → List Slot → ℕ → Lane
-lane_at rows slots k = record { pushed = numbers_at k rows; unskipped = unskipped_at k rows; pending = (slot_at slots k).pending }
+lane_at rows slots k = record {
+  pushed = numbers_at k rows;
+  unskipped = unskipped_at k rows;
+  pending = (slot_at slots k).pending;
+}
 
 -- the place right after one of the slot's rows, or 0, behind which all of them (below `to`) are skipped
 pub record IsAfter (slot : ℕ) (rows : List Row) (to last : ℕ) : Type 0 where

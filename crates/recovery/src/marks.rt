@@ -1,9 +1,11 @@
 //! The marks of all references.
 
-ghost use Rattle.std.specs.Prelude.{◌≡◌, ◌↔◌, ◌≤◌, ℕ, List, false, length, nat_lt, if◌then◌else◌, IfNone, IfSome, IsTrue, OnOk, OnErr};
+ghost use Rattle.std.specs.Prelude.{◌≡◌, ◌↔◌, ◌≤◌, ℕ, List, false, length, nat_lt, if◌then◌else◌, IfNone, IfSome};
+ghost use Rattle.std.specs.Prelude.{IsTrue, OnOk, OnErr};
 ghost use Rattle.std.specs.List.{All, list_any};
 ghost use Rattle.std.specs.Str.{bytes_eq};
-ghost use Rattle.recovery.specs.Lanes.{IsNew, empty_lane, first_of, is_in, is_skipped_in, lane_of, last_of, with_fix, with_number, with_skip};
+ghost use Rattle.recovery.specs.Lanes.{IsNew, empty_lane, first_of, is_in, is_skipped_in, lane_of, last_of, with_fix};
+ghost use Rattle.recovery.specs.Lanes.{with_number, with_skip};
 
 use crate::rows::{Row, number_before, place_of};
 use crate::slots::{Slot, fix_slot, open_slot, push_row, skip_row, slot_of};

@@ -1,6 +1,7 @@
 //! Slots: one for each name.
 
-ghost use Rattle.std.specs.Prelude.{◌≡◌, ◌<◌, ◌≤◌, ◌++◌, ◌∷◌, [], ℕ, List, length, vec_len, if◌then◌else◌, slice_set, Some, IfOk, OnOk, OnErr};
+ghost use Rattle.std.specs.Prelude.{◌≡◌, ◌<◌, ◌≤◌, ◌++◌, ◌∷◌, [], ℕ, List, length, vec_len, if◌then◌else◌, slice_set};
+ghost use Rattle.std.specs.Prelude.{Some, IfOk, OnOk, OnErr};
 ghost use Rattle.std.specs.BTreeMap as tree;
 ghost use Rattle.std.specs.List.{All};
 ghost use Rattle.std.specs.Ordering.{is_eq};
@@ -39,7 +40,9 @@ fn insert_name(
     name: RefName,
     slot: usize,
 ) -> Result<(), Memory>
-    ensures put { OnOk result ((q : List ℕ) → tree.get by_bytes names.new q ≡ (if is_eq (by_bytes name q) then Some slot else tree.get by_bytes names.old q)) }
+    ensures put { OnOk result ((q : List ℕ)
+        → tree.get by_bytes names.new q
+        ≡ (if is_eq (by_bytes name q) then Some slot else tree.get by_bytes names.old q)) }
     ensures same { OnErr result (names.new.entries ≡ names.old.entries) }
 {
     let _had = names.insert(name, slot)?;
@@ -80,7 +83,8 @@ pub fn open_slot(
 // Notes a number as pending, where it is.
 fn note_pending(slot: &mut Slot, number: u64, pending: bool) -> Result<(), Memory>
     requires { All (λ n. n < number) slot.old.pending }
-    ensures noted { OnOk result (slot.new ≡ record slot.old { pending = (if pending then slot.old.pending ++ number ∷ [] else slot.old.pending) }) }
+    ensures noted { OnOk result (slot.new
+        ≡ record slot.old { pending = (if pending then slot.old.pending ++ number ∷ [] else slot.old.pending) }) }
     ensures same { OnErr result (slot.new ≡ slot.old) }
 {
     if pending {
@@ -100,8 +104,10 @@ pub fn push_row(
     requires within { at < vec_len slots.old }
     requires few { (slot_at slots.old.items at).count ≤ vec_len rows.old }
     requires rising { All (λ n. n < number) (slot_at slots.old.items at).pending }
-    ensures row { OnOk result (rows.new.items ≡ rows.old.items ++ pushed_row at number (slot_at slots.old.items at) ∷ []) }
-    ensures slot { OnOk result (slots.new.items ≡ slice_set slots.old.items at (pushed_slot (length rows.old.items) number pending (slot_at slots.old.items at))) }
+    ensures row { OnOk result (rows.new.items ≡ rows.old.items ++ pushed_row at number (slot_at slots.old.items at)
+        ∷ []) }
+    ensures slot { OnOk result (slots.new.items ≡ slice_set slots.old.items at
+        (pushed_slot (length rows.old.items) number pending (slot_at slots.old.items at))) }
     ensures same { OnErr result (rows.new.items ≡ rows.old.items) }
     ensures same_slots { OnErr result (slots.new.items ≡ slots.old.items) }
 {

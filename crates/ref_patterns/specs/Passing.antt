@@ -27,6 +27,7 @@ is_stuck Stuck = true
 
 -- what looking for a place comes to from which the rest after a star can be passed
 abbrev pub IsFound : List ℕ → List ℕ → Pass → Type 0
-IsFound rest text (Star after left) = (after_star (matches rest) text ≡ matches (42 ∷ after.now) left.now) × (length after.now + 1 ≤ length rest)
+IsFound rest text (Star after left) = (after_star (matches rest) text ≡ matches (42 ∷ after.now) left.now)
+    × (length after.now + 1 ≤ length rest)
 IsFound rest text Whole = after_star (matches rest) text ≡ true
 IsFound rest text Stuck = after_star (matches rest) text ≡ false

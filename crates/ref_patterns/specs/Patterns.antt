@@ -1,5 +1,6 @@
 -- Patterns: the prefix of a space and a glob.
-use Rattle.std.specs.Prelude.{ℕ, ◌+◌, ◌==◌, ◌||◌, Bool, true, false, List, [], ◌∷◌, length, drop, codes, nat_lt, nat_eq, Option, Some, None, Result, Ok, Err, if◌then◌else◌}
+use Rattle.std.specs.Prelude.{ℕ, ◌+◌, ◌==◌, ◌||◌, Bool, true, false, List, [], ◌∷◌, length, drop, codes, nat_lt, nat_eq}
+use Rattle.std.specs.Prelude.{Option, Some, None, Result, Ok, Err, if◌then◌else◌}
 use Rattle.std.specs.List.{position, starts_with}
 use Rattle.ref_patterns.specs.declared.pattern.PatternFault.{PatternFault}
 use Rattle.ref_patterns.specs.declared.pattern.PatternFault.TheVariants.{BadPattern, Memory}
@@ -24,7 +25,8 @@ same_space File File = true
 -- the space whose prefix stands in front
 abbrev pub space_of : List ℕ → Option Space
 space_of text =
-    (if starts_with nat_eq text (codes "git:") then Some Git else (if starts_with nat_eq text (codes "file:") then Some File else None))
+    (if starts_with nat_eq text (codes "git:") then Some Git else
+    (if starts_with nat_eq text (codes "file:") then Some File else None))
 
 -- `[` and `\`, which are kept for later
 abbrev pub is_bracket : ℕ → Bool
@@ -41,7 +43,8 @@ from_glob space (b ∷ bs) = from_bracket space (b ∷ bs) (position is_bracket 
 
 abbrev pub from_space : List ℕ → Option Space → Result Parts PatternFault
 from_space text None = Err (BadPattern 0)
-from_space text (Some space) = (if nat_lt 512 (length text) then Err (BadPattern 512) else from_glob space (drop (length (prefix space)) text))
+from_space text (Some space) =
+    (if nat_lt 512 (length text) then Err (BadPattern 512) else from_glob space (drop (length (prefix space)) text))
 
 -- what a text is read as, want of memory aside
 abbrev pub reading : List ℕ → Result Parts PatternFault

@@ -99,7 +99,8 @@ impl Pattern {
     /// The pattern that a text is. Memory is taken only for a pattern, so no other text is answered for want of it.
     pub fn read(alloc: Global, text: &[u8]) -> Result<Pattern, PatternFault>
         ensures ok { IfOk result (λ pattern. reading text.now ≡ Ok pattern) }
-        ensures refused { IfErr result (λ e. ((e ≡ fault.Memory) × (is_ok (reading text.now) ≡ true)) ⊎ (reading text.now ≡ Err e)) }
+        ensures refused { IfErr result (λ e. ((e ≡ fault.Memory) × (is_ok (reading text.now) ≡ true))
+            ⊎ (reading text.now ≡ Err e)) }
     {
         let (space, glob) = match split(text) {
             Ok(parts) => parts,

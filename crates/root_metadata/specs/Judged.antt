@@ -1,5 +1,6 @@
 -- What may be wrong with keys, thresholds and persons as they are written.
-use Rattle.std.specs.Prelude.{ℕ, ◌==◌, ◌&&◌, ◌||◌, ◌∷◌, ◌++◌, Bool, false, not, List, [], Option, Some, None, codes, count_by, is_some, length, nat_le, nat_lt, option_map, if◌then◌else◌}
+use Rattle.std.specs.Prelude.{ℕ, ◌==◌, ◌&&◌, ◌||◌, ◌∷◌, ◌++◌, Bool, false, not, List, [], Option, Some, None, codes}
+use Rattle.std.specs.Prelude.{count_by, is_some, length, nat_le, nat_lt, option_map, if◌then◌else◌}
 use Rattle.std.specs.List.{list_all, list_any}
 use Rattle.std.specs.Str.{bytes_eq}
 use Rattle.sha2.specs.Sha256.{sha256}
@@ -40,7 +41,8 @@ is_named name person = bytes_eq person.name name
 
 -- a listed text is one of the file: in schema 1 the id of a key of it, in schema 2 the name of a person of it
 abbrev pub is_known : Roster → List ℕ → Bool
-is_known roster text = (if roster.schema == 1 then is_listed_id roster.keys (hex_bytes 32 text) else list_any (is_named text) roster.persons)
+is_known roster text = (if roster.schema == 1 then is_listed_id roster.keys (hex_bytes 32 text) else list_any
+    (is_named text) roster.persons)
 
 -- the threshold is 0, or more than those who are listed and are of the file
 abbrev pub has_bad_threshold : Roster → RawRole → Bool
@@ -48,7 +50,8 @@ has_bad_threshold roster role = role.threshold == 0 || nat_lt (count_by (is_know
 
 -- `A` to `Z`, `a` to `z`, `0` to `9`, `.`, `_` and `-`
 abbrev pub is_name_byte : ℕ → Bool
-is_name_byte b = (nat_le 65 b && nat_le b 90) || (nat_le 97 b && nat_le b 122) || (nat_le 48 b && nat_le b 57) || b == 46 || b == 95 || b == 45
+is_name_byte b = (nat_le 65 b && nat_le b 90) || (nat_le 97 b && nat_le b 122) || (nat_le 48 b && nat_le b 57)
+    || b == 46 || b == 95 || b == 45
 
 -- 1 to 64 such bytes
 abbrev pub is_name : List ℕ → Bool
@@ -61,7 +64,8 @@ has_few_ids person = nat_le 1 (length person.keyids) && nat_le (length person.ke
 -- a name that is none, or an earlier person's; not 1 to 16 distinct ids; or an id that no key of the file has
 abbrev pub is_bad_person : List RawKey → List Person → Person → Bool
 is_bad_person keys earlier person =
-    not (is_name person.name) || list_any (is_named person.name) earlier || not (has_few_ids person) || not (list_all (is_listed keys) person.keyids)
+    not (is_name person.name) || list_any (is_named person.name) earlier || not (has_few_ids person)
+    || not (list_all (is_listed keys) person.keyids)
 
 -- an id of the person is an earlier person's
 abbrev pub shares_key : List Person → Person → Bool
@@ -70,7 +74,8 @@ shares_key earlier person = list_any (λ id. list_any (λ other. has_key (λ k. 
 -- the place of the first who is wrong beside those before him
 abbrev pub first_wrong : (List Person → Person → Bool) → List Person → List Person → Option ℕ
 first_wrong wrong earlier [] = None
-first_wrong wrong earlier (p ∷ ps) = (if wrong earlier p then Some (length earlier) else first_wrong wrong (earlier ++ p ∷ []) ps)
+first_wrong wrong earlier (p ∷ ps) =
+    (if wrong earlier p then Some (length earlier) else first_wrong wrong (earlier ++ p ∷ []) ps)
 
 -- more than 1,024 of something
 abbrev pub too_many : ℕ → Option ℕ

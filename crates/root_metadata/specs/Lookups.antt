@@ -22,8 +22,10 @@ has_id ids None = false
 has_id ids (Some id) = has_key (λ k. k) ids id
 
 abbrev pub is_found : Known → ℕ → List ℕ → Bool
-is_found known schema text = (if schema == 1 then has_id known.ids (hex_bytes 32 text) else has_key (λ n. n) known.names text)
+is_found known schema text = (if schema == 1 then has_id known.ids (hex_bytes 32 text) else has_key (λ n. n) known.names
+    text)
 
 abbrev pub is_bad_beside : Known → List Person → Person → Bool
 is_bad_beside known earlier person =
-    not (is_name person.name) || list_any (is_named person.name) earlier || not (has_few_ids person) || not (list_all (has_key (λ k. k) known.ids) person.keyids)
+    not (is_name person.name) || list_any (is_named person.name) earlier || not (has_few_ids person)
+    || not (list_all (has_key (λ k. k) known.ids) person.keyids)

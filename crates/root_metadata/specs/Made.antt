@@ -18,7 +18,8 @@ key_made key = record { id = key.id; public = unwrap_or (public_of key) [] }
 -- the person that a listed text is: in schema 1 the one whose only key it is, in schema 2 the first of that name
 abbrev pub person_made : Roster → List ℕ → Option Person
 person_made roster text =
-    (if roster.schema == 1 then option_map (λ id. record { name = text; keyids = id ∷ [] }) (hex_bytes 32 text) else find (is_named text) roster.persons)
+    (if roster.schema == 1 then option_map (λ id. record { name = text; keyids = id ∷ [] }) (hex_bytes 32 text)
+    else find (is_named text) roster.persons)
 
 -- the persons that are listed, without those who are no persons of the file
 abbrev pub persons_made : Roster → List (List ℕ) → List Person

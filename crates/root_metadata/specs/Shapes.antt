@@ -1,5 +1,6 @@
 -- Metadata as it is written, in JSON: its keys, persons and roles, before anything is judged.
-use Rattle.std.specs.Prelude.{ℕ, ◌==◌, ◌||◌, ◌^◌, ◌∷◌, Bool, false, List, [], Option, Some, None, codes, is_some, nat_le, nat_lt, option_and_then, if◌then◌else◌}
+use Rattle.std.specs.Prelude.{ℕ, ◌==◌, ◌||◌, ◌^◌, ◌∷◌, Bool, false, List, [], Option, Some, None, codes, is_some}
+use Rattle.std.specs.Prelude.{nat_le, nat_lt, option_and_then, if◌then◌else◌}
 use Rattle.std.specs.BTreeSet.{insert_key}
 use Rattle.std.specs.List.{list_all}
 use Rattle.std.specs.Option.{option_map}
@@ -33,13 +34,15 @@ key_id_at key d = option_and_then key_id_of (get key d)
 -- a key: its id, the kind that it says, and the text of its public bytes
 abbrev pub key_of : Data → Option RawKey
 key_of d =
-    option_and_then (λ id. option_and_then (λ keytype. option_map (λ public. record { id = id; keytype = keytype; public = public })
+    option_and_then (λ id. option_and_then
+    (λ keytype. option_map (λ public. record { id = id; keytype = keytype; public = public })
     (text_at (codes "public") d)) (text_at (codes "keytype") d)) (key_id_at (codes "keyid") d)
 
 -- a person: a name, and the listed ids of keys as a set
 abbrev pub person_of : Data → Option Person
 person_of d =
-    option_and_then (λ name. option_map (λ ids. record { name = name; keyids = set_of ids }) (each_at key_id_of (codes "keyids") d)) (text_at (codes "name") d)
+    option_and_then (λ name. option_map (λ ids. record { name = name; keyids = set_of ids })
+    (each_at key_id_of (codes "keyids") d)) (text_at (codes "name") d)
 
 -- the schema that a value under the field says: 1 where there is none
 abbrev pub schema_in : Option Data → Option ℕ
@@ -63,11 +66,14 @@ is_id_text text = is_some (hex_bytes 32 text)
 abbrev pub listed_of : ℕ → Data → Option (List (List ℕ))
 listed_of schema d =
     (if schema == 1
-    then option_and_then (λ texts. only_if (list_all is_id_text texts) (set_of texts)) (each_at as_str (codes "keyids") d)
+    then option_and_then (λ texts. only_if (list_all is_id_text texts) (set_of texts))
+    (each_at as_str (codes "keyids") d)
     else option_map set_of (each_at as_str (codes "persons") d))
 
 abbrev pub role_of : ℕ → Data → Option RawRole
-role_of schema d = option_and_then (λ listed. option_map (λ threshold. record { listed = listed; threshold = threshold }) (threshold_of d)) (listed_of schema d)
+role_of schema d = option_and_then
+    (λ listed. option_map (λ threshold. record { listed = listed; threshold = threshold }) (threshold_of d))
+    (listed_of schema d)
 
 -- the persons that a file lists: none in schema 1
 abbrev pub persons_of : ℕ → Data → Option (List Person)
@@ -85,6 +91,8 @@ is_kind kind d = is_text kind (text_at (codes "type") d)
 abbrev pub roster_of : List ℕ → Data → Option Roster
 roster_of kind d =
     (if is_kind kind d
-    then option_and_then (λ schema. option_and_then (λ version. option_and_then (λ keys. option_map (λ persons. record { schema = schema; version = version; keys = keys; persons = persons })
+    then option_and_then (λ schema. option_and_then
+    (λ version. option_and_then (λ keys. option_map
+    (λ persons. record { schema = schema; version = version; keys = keys; persons = persons })
     (persons_of schema d)) (each_at key_of (codes "keys") d)) (version_of d)) (schema_of d)
     else None)

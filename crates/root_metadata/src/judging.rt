@@ -6,7 +6,8 @@ ghost use Rattle.std.specs.Str.{bytes_eq};
 ghost use Rattle.sha2.specs.Sha256.{sha256};
 ghost use Rattle.root_metadata.specs.Lookups.{IsIndex, is_bad_beside, is_found};
 ghost use Rattle.root_metadata.specs.Risings.{has_key};
-ghost use Rattle.root_metadata.specs.Judged.{first_wrong, has_bad_threshold, has_few_ids, has_own_id, is_bad_person, is_key, is_name, is_name_byte, is_named, shares_key, too_many};
+ghost use Rattle.root_metadata.specs.Judged.{first_wrong, has_bad_threshold, has_few_ids, has_own_id, is_bad_person};
+ghost use Rattle.root_metadata.specs.Judged.{is_key, is_name, is_name_byte, is_named, shares_key, too_many};
 
 use crate::{KeyId, Keyed, Known, Person, RawKey, RawRole, Roster, key_id};
 use json_fields::read_hex;

@@ -1,9 +1,6 @@
 //! Keys, persons, roles and the root of a policy's metadata.
 //!
-//! A person is a name and the set of keys that are his; a role is the persons who may sign and how many of them must. This
-//! crate stands on `octets`, `git_object` for the ids of keys, and `sha2`. A crate above may rely on `KeyIds` and
-//! `Persons` being seen as lists that rise strictly, so each is a set, and on `key_id` being the SHA-256 of a public key's
-//! bytes.
+//! What it promises, and where to begin: `README.md` in this crate's folder.
 
 #![tactic(auto)]
 

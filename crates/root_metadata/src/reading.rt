@@ -3,7 +3,8 @@
 ghost use Rattle.std.specs.Prelude.{◌≡◌, IfOk, IsErrOf, None, Some};
 ghost use Rattle.std.specs.List.{list_all};
 ghost use Rattle.serde_json.specs.View.{view};
-ghost use Rattle.root_metadata.specs.Shapes.{is_id_text, is_kind, key_id_at, key_of, listed_of, person_of, persons_of, role_of, roster_of, schema_of, threshold_of, version_of};
+ghost use Rattle.root_metadata.specs.Shapes.{is_id_text, is_kind, key_id_at, key_of, listed_of, person_of, persons_of};
+ghost use Rattle.root_metadata.specs.Shapes.{role_of, roster_of, schema_of, threshold_of, version_of};
 
 use crate::sets::{id_set, name_set};
 use crate::{KeyId, Names, Person, RawKey, RawRole, Roster};

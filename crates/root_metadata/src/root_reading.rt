@@ -3,7 +3,9 @@
 ghost use Rattle.std.specs.Prelude.{◌≡◌, ◌⊎◌, IfOk, IfErr, IsErrOf, None, Ok, Err, Some};
 ghost use Rattle.serde_json.specs.View.{view};
 ghost use Rattle.root_metadata.specs.Lookups.{IsIndex};
-ghost use Rattle.root_metadata.specs.Roots.{count_fault, fault_of, from_json, from_shape, id_fault, key_fault, person_fault, reading, role_at, root_made, root_of, shared_fault, threshold_fault};
+ghost use Rattle.root_metadata.specs.Roots.{count_fault, fault_of, from_json, from_shape, id_fault, key_fault};
+ghost use Rattle.root_metadata.specs.Roots.{person_fault, reading, role_at, root_made, root_of, shared_fault};
+ghost use Rattle.root_metadata.specs.Roots.{threshold_fault};
 ghost use Rattle.root_metadata.specs.declared.roots.MetaFault.TheVariants as fault;
 
 use crate::judging::{bad_key, bad_person, has_bad_threshold, other_id, shared_key, too_many};

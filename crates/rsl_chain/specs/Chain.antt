@@ -1,5 +1,6 @@
 -- The log of a repository as one chain, and its break: relations over what each id leads to.
-use Rattle.std.specs.Prelude.{◌≡◌, ◌≤◌, ◌<◌, ◌+◌, ◌-◌, ◌⊎◌, ◌↔◌, ◌++◌, ℕ, List, [], ◌∷◌, length, Option, Some, None, IfSome}
+use Rattle.std.specs.Prelude.{◌≡◌, ◌≤◌, ◌<◌, ◌+◌, ◌-◌, ◌⊎◌, ◌↔◌, ◌++◌, ℕ, List, [], ◌∷◌, length, Option, Some, None}
+use Rattle.std.specs.Prelude.{IfSome}
 use Rattle.rsl_chain.specs.declared.heads.Head.{Head}
 
 -- what each id leads to: an entry's number and parent
@@ -18,7 +19,8 @@ head_after front = record { number = length front + 1; parent = last_of front }
 
 -- oldest first: each is an entry that counts those before it, and whose only parent is the last of them
 abbrev pub AreLinked : Entries → List (List ℕ) → Type 0
-AreLinked entries ids = (front : List (List ℕ)) (id : List ℕ) (rest : List (List ℕ)) → ids ≡ front ++ id ∷ rest → entries id ≡ Some (head_after front)
+AreLinked entries ids = (front : List (List ℕ)) (id : List ℕ) (rest : List (List ℕ)) → ids ≡ front ++ id ∷ rest
+    → entries id ≡ Some (head_after front)
 
 -- these ids are the log whose reference has this value
 pub record IsLog (entries : Entries) (tip : Option (List ℕ)) (ids : List (List ℕ)) : Type 0 where
@@ -34,7 +36,8 @@ pub record Stands (entries : Entries) (wanted : Option ℕ) (id : List ℕ) (hea
 abbrev pub Leads : Entries → Option ℕ → List ℕ → List (List ℕ) → List ℕ → Type 0
 Leads entries wanted id [] bad = (id ≡ bad) × ((head : Head) → Stands entries wanted id head → ⊥)
 Leads entries wanted id (parent ∷ parents) bad =
-    (head : Head) × Stands entries wanted id head × (head.parent ≡ Some parent) × Leads entries (Some (head.number - 1)) parent parents bad
+    (head : Head) × Stands entries wanted id head × (head.parent ≡ Some parent)
+    × Leads entries (Some (head.number - 1)) parent parents bad
 
 abbrev pub BreaksFrom : Entries → Option ℕ → List ℕ → List ℕ → Type 0
 BreaksFrom entries wanted id bad = (parents : List (List ℕ)) × Leads entries wanted id parents bad
@@ -56,13 +59,17 @@ AreHeads entries = (id : List ℕ) → IfSome (entries id) IsHead
 -- ---- what holds of them
 
 abbrev pub OneLog : Type 0
-OneLog = (entries : Entries) (tip : Option (List ℕ)) (xs ys : List (List ℕ)) → IsLog entries tip xs → IsLog entries tip ys → xs ≡ ys
+OneLog = (entries : Entries) (tip : Option (List ℕ)) (xs ys : List (List ℕ)) → IsLog entries tip xs
+    → IsLog entries tip ys → xs ≡ ys
 
 abbrev pub OneBreak : Type 0
-OneBreak = (entries : Entries) (tip : Option (List ℕ)) (x y : List ℕ) → IsBreak entries tip x → IsBreak entries tip y → x ≡ y
+OneBreak = (entries : Entries) (tip : Option (List ℕ)) (x y : List ℕ) → IsBreak entries tip x → IsBreak entries tip y
+    → x ≡ y
 
 abbrev pub NeverBoth : Type 0
-NeverBoth = (entries : Entries) (tip : Option (List ℕ)) (ids : List (List ℕ)) (bad : List ℕ) → IsLog entries tip ids → IsBreak entries tip bad → ⊥
+NeverBoth = (entries : Entries) (tip : Option (List ℕ)) (ids : List (List ℕ)) (bad : List ℕ) → IsLog entries tip ids
+    → IsBreak entries tip bad → ⊥
 
 abbrev pub LogOrBreak : Type 0
-LogOrBreak = (entries : Entries) (tip : Option (List ℕ)) → AreHeads entries → ((ids : List (List ℕ)) × IsLog entries tip ids) ⊎ ((bad : List ℕ) × IsBreak entries tip bad)
+LogOrBreak = (entries : Entries) (tip : Option (List ℕ)) → AreHeads entries
+    → ((ids : List (List ℕ)) × IsLog entries tip ids) ⊎ ((bad : List ℕ) × IsBreak entries tip bad)

@@ -1,5 +1,6 @@
 -- The text of an entry's body, as it is written.
-use Rattle.std.specs.Prelude.{◌≡◌, ◌≤◌, ◌<◌, ◌++◌, ◌==◌, ◌-◌, ℕ, Bool, true, false, List, [], ◌∷◌, map, cond, length, Option, Some, None, Ok, codes, decimal}
+use Rattle.std.specs.Prelude.{◌≡◌, ◌≤◌, ◌<◌, ◌++◌, ◌==◌, ◌-◌, ℕ, Bool, true, false, List, [], ◌∷◌, map, cond, length}
+use Rattle.std.specs.Prelude.{Option, Some, None, Ok, codes, decimal}
 use Rattle.std.specs.List.{AllByRecursion, flat_map}
 use Rattle.base64.specs.Engines.{standard}
 use Rattle.base64.specs.GeneralPurpose.{IsBytes, encode_of}
@@ -72,7 +73,8 @@ message_lines (b ∷ bytes) = message_begin ∷ (cut 64 (encode_of standard (b �
 
 abbrev pub reference_lines : List ℕ → List ℕ → ℕ → List (List ℕ)
 reference_lines name target n =
-    codes "RSL Reference Entry" ∷ [] ∷ (codes "ref: " ++ name) ∷ (codes "targetID: " ++ encode_lower target) ∷ number_line n ∷ []
+    codes "RSL Reference Entry" ∷ [] ∷ (codes "ref: " ++ name) ∷ (codes "targetID: " ++ encode_lower target)
+    ∷ number_line n ∷ []
 
 abbrev pub annotation_lines : List (List ℕ) → Bool → List ℕ → ℕ → List (List ℕ)
 annotation_lines ids skip message n =
@@ -162,4 +164,5 @@ IsReadBack d text = entry_of text ≡ Ok (entry_of_draft d None text)
 -- and with one that is not empty: as the same of each draft that has the unsigned text
 abbrev pub IsReadWith : List ℕ → SignatureLine → List ℕ → Type 0
 IsReadWith unsigned s text =
-    (d : Draft) → IsDraft d → IsValid d → unsigned ≡ unsigned_text d → 0 < length s.signature → entry_of text ≡ Ok (entry_of_draft d (Some s) text)
+    (d : Draft) → IsDraft d → IsValid d → unsigned ≡ unsigned_text d → 0 < length s.signature
+    → entry_of text ≡ Ok (entry_of_draft d (Some s) text)

@@ -4,11 +4,16 @@ use Rattle.std.specs.Prelude.{ℕ, ◌==◌, ◌+◌, Bool, true, false, List, [
 use Rattle.std.specs.Str.{bytes_eq}
 use Rattle.rsl_chain.specs.Lines.{begins, id_after, is_full, name_after, number_after, piece_text, signature_after}
 use Rattle.rsl_chain.specs.declared.places.Part.{Part}
-use Rattle.rsl_chain.specs.declared.places.Part.TheVariants.{Nothing, Parent, Signature, Name, Target, Id, Skip, Number, Piece}
+use Rattle.rsl_chain.specs.declared.places.Part.TheVariants.{Nothing, Parent, Signature, Name, Target, Id, Skip, Number}
+use Rattle.rsl_chain.specs.declared.places.Part.TheVariants.{Piece}
 use Rattle.rsl_chain.specs.declared.places.Place.{Place}
 use Rattle.rsl_chain.specs.declared.places.Step.{Step}
 use Rattle.rsl_chain.specs.declared.places.Want.{Want}
-use Rattle.rsl_chain.specs.declared.places.Want.TheVariants.{Tree, ParentOrAuthor, Author, Committer, SignatureOrGap, Gap, Title, ReferenceGap, ReferenceName, ReferenceTarget, ReferenceNumber, AnnotationGap, FirstId, IdOrSkip, AnnotationNumber, MessageOrEnd, FirstPiece, PieceOrMessageEnd, MessageEnd, End}
+use Rattle.rsl_chain.specs.declared.places.Want.TheVariants.{Tree, ParentOrAuthor, Author, Committer, SignatureOrGap}
+use Rattle.rsl_chain.specs.declared.places.Want.TheVariants.{Gap, Title, ReferenceGap, ReferenceName, ReferenceTarget}
+use Rattle.rsl_chain.specs.declared.places.Want.TheVariants.{ReferenceNumber, AnnotationGap, FirstId, IdOrSkip}
+use Rattle.rsl_chain.specs.declared.places.Want.TheVariants.{AnnotationNumber, MessageOrEnd, FirstPiece}
+use Rattle.rsl_chain.specs.declared.places.Want.TheVariants.{PieceOrMessageEnd, MessageEnd, End}
 use Rattle.rsl_chain.specs.declared.words.SignatureLine.{SignatureLine}
 
 -- the empty tree's line: an entry has no files
@@ -27,7 +32,10 @@ start = record { want = Tree; parent = None; number = 0; ids = 0 }
 
 -- on to another place, with what the line says
 abbrev pub goes : Want → Part → Place → Option Step
-goes want part p = Some (record { place = record { want = want; parent = p.parent; number = p.number; ids = p.ids }; part = part })
+goes want part p = Some (record {
+  place = record { want = want; parent = p.parent; number = p.number; ids = p.ids };
+  part = part;
+})
 
 -- a line that says nothing more, where a test of it holds
 abbrev pub plain_if : Bool → Want → Place → Option Step
@@ -39,7 +47,11 @@ author_step line p = plain_if (begins (codes "author ") line) Committer p
 
 -- the line of the parent, or else at once that of the author
 abbrev pub parent_step : Option (List ℕ) → List ℕ → Place → Option Step
-parent_step (Some id) line p = Some (record { place = record { want = Author; parent = Some id; number = p.number; ids = p.ids }; part = Parent id })
+parent_step (Some id) line p =
+    Some (record {
+      place = record { want = Author; parent = Some id; number = p.number; ids = p.ids };
+      part = Parent id;
+    })
 parent_step None line p = author_step line p
 
 -- the line of the signature, or else at once the gap
@@ -66,7 +78,10 @@ fits n None = n == 1
 fits n (Some parent) = nat_le 2 n
 
 abbrev pub number_if : Bool → Want → ℕ → Place → Option Step
-number_if true want n p = Some (record { place = record { want = want; parent = p.parent; number = n; ids = p.ids }; part = Number n })
+number_if true want n p = Some (record {
+  place = record { want = want; parent = p.parent; number = n; ids = p.ids };
+  part = Number n;
+})
 number_if false want n p = None
 
 abbrev pub number_step : Want → Option ℕ → Place → Option Step
@@ -75,11 +90,20 @@ number_step want None p = None
 
 -- one more id, of which there are at most 256
 abbrev pub id_if : Bool → List ℕ → Place → Option Step
-id_if true id p = Some (record { place = record { want = IdOrSkip; parent = p.parent; number = p.number; ids = p.ids + 1 }; part = Id id })
+id_if true id p = Some (record {
+  place = record {
+    want = IdOrSkip;
+    parent = p.parent;
+    number = p.number;
+    ids = p.ids + 1;
+  };
+  part = Id id;
+})
 id_if false id p = None
 
 abbrev pub first_id_step : Option (List ℕ) → Place → Option Step
-first_id_step (Some id) p = Some (record { place = record { want = IdOrSkip; parent = p.parent; number = p.number; ids = 1 }; part = Id id })
+first_id_step (Some id) p = Some
+    (record { place = record { want = IdOrSkip; parent = p.parent; number = p.number; ids = 1 }; part = Id id })
 first_id_step None p = None
 
 abbrev pub id_step : Option (List ℕ) → Place → Option Step
@@ -117,7 +141,8 @@ row Author line p = author_step line p
 row Committer line p = plain_if (begins (codes "committer ") line) SignatureOrGap p
 row SignatureOrGap line p = signature_step (signature_after line) line p
 row Gap line p = plain_if (bytes_eq line []) Title p
-row Title line p = title_step (bytes_eq line (codes "RSL Reference Entry")) (bytes_eq line (codes "RSL Annotation Entry")) p
+row Title line p = title_step (bytes_eq line (codes "RSL Reference Entry"))
+    (bytes_eq line (codes "RSL Annotation Entry")) p
 row ReferenceGap line p = plain_if (bytes_eq line []) ReferenceName p
 row ReferenceName line p = name_step (name_after line) p
 row ReferenceTarget line p = target_step (id_after (codes "targetID: ") line) p

@@ -13,9 +13,11 @@ use Rattle.rsl_chain.specs.Logs.{IsLogOf, entry_of_pair, heads_of}
 -- what each of these ids leads to in the first repository it leads to in the second
 abbrev pub KeepsEntries : List (List ℕ) → Repository → Repository → Type 0
 KeepsEntries ids small large =
-    (front : List (List ℕ)) (id : List ℕ) (rest : List (List ℕ)) → ids ≡ front ++ id ∷ rest → Keeps (heads_of small id) (heads_of large id)
+    (front : List (List ℕ)) (id : List ℕ) (rest : List (List ℕ)) → ids ≡ front ++ id ∷ rest
+    → Keeps (heads_of small id) (heads_of large id)
 
--- the log's entries stay, one that counts them and goes back to the last of them stands at the id, and the log's reference
+-- the log's entries stay, one that counts them and goes back to the last of them stands at the id, and the log's
+-- reference
 -- is put there
 pub record GainsEntry (ids : List (List ℕ)) (id : List ℕ) (small large : Repository) : Type 0 where
   pub keeps : KeepsEntries ids small large
@@ -26,7 +28,8 @@ pub record GainsEntry (ids : List (List ℕ)) (id : List ℕ) (small large : Rep
 
 -- the log is then the old one and the new entry
 abbrev pub LogGrows : Type 0
-LogGrows = (ids : List (List ℕ)) (id : List ℕ) (small large : Repository) → IsLogOf small ids → GainsEntry ids id small large → IsLogOf large (ids ++ id ∷ [])
+LogGrows = (ids : List (List ℕ)) (id : List ℕ) (small large : Repository) → IsLogOf small ids
+    → GainsEntry ids id small large → IsLogOf large (ids ++ id ∷ [])
 
 -- a larger repository keeps every entry
 abbrev pub LargerKeeps : Type 0
@@ -35,5 +38,6 @@ LargerKeeps = (ids : List (List ℕ)) (small large : Repository) → Larger smal
 -- an entry that is read records no value of the log's own reference
 abbrev pub NeverTheLog : Type 0
 NeverTheLog =
-    (id : List ℕ) (kind : Kind) (body : List ℕ) (entry : Entry) (name target : List ℕ) → entry_of_pair id kind body ≡ Some entry
+    (id : List ℕ) (kind : Kind) (body : List ℕ) (entry : Entry) (name target : List ℕ)
+    → entry_of_pair id kind body ≡ Some entry
     → entry.body ≡ Reference name target → name ≡ log_name → ⊥

@@ -1,14 +1,20 @@
--- The format of an entry's body: what stands in its lines, the table of its places, and the reading of a whole body.
+-- the lines of a body
 pub mod Lines
+-- which lines may stand at each place, and what they say
 pub mod Grammar
+-- the reading of a whole body
 pub mod Reading
+-- which line is the first that is not as wanted
 pub mod FirstWrong
--- The log of a repository as one chain or a break of it, and the entries that the repository's ids lead to.
+-- the log as one chain, and its break
 pub mod Chain
+-- the entries that the ids of a repository lead to
 pub mod Logs
-pub mod Growing
--- The text of an entry, as it is written.
-pub mod Drafts
+-- entries, each with the repository in which it is judged
 pub mod Entries
--- The log of a repository with its entries, and what of it a run printed.
+-- the log of a repository with its entries
 pub mod Histories
+-- a log that grows by an entry
+pub mod Growing
+-- the text of an entry, as it is written
+pub mod Drafts

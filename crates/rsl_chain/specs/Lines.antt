@@ -1,5 +1,6 @@
 -- The lines of a body, and what stands in them.
-use Rattle.std.specs.Prelude.{ℕ, ◌==◌, ◌&&◌, ◌||◌, Bool, not, List, [], ◌∷◌, length, Option, Some, None, nat_le, slice_index, if◌then◌else◌, is_some, cond, take, drop, codes}
+use Rattle.std.specs.Prelude.{ℕ, ◌==◌, ◌&&◌, ◌||◌, Bool, not, List, [], ◌∷◌, length, Option, Some, None, nat_le}
+use Rattle.std.specs.Prelude.{slice_index, if◌then◌else◌, is_some, cond, take, drop, codes}
 use Rattle.std.specs.Char.{is_ascii_digit}
 use Rattle.std.specs.List.{list_all}
 use Rattle.std.specs.Option.{option_and_then}
@@ -43,7 +44,8 @@ id_after word line = option_and_then id_text (strip word line)
 
 -- one decimal digit or more, of which the first of several is no zero
 abbrev pub is_number : List ℕ → Bool
-is_number text = not (length text == 0) && list_all is_ascii_digit text && (not (slice_index text 0 == 48) || length text == 1)
+is_number text = not (length text == 0) && list_all is_ascii_digit text
+    && (not (slice_index text 0 == 48) || length text == 1)
 
 -- the number that a text writes, up to 1,000,000
 unfoldable pub number_text : List ℕ → Option ℕ
@@ -75,7 +77,8 @@ both_parts (Some signer) (Some signature) = Some (record { signer = signer; sign
 
 -- a key's id, a space, a signature
 abbrev pub signed_text : List ℕ → Option SignatureLine
-signed_text text = both_parts (id_text (take 64 text)) (option_and_then signature_text (strip (codes " ") (drop 64 text)))
+signed_text text = both_parts (id_text (take 64 text))
+    (option_and_then signature_text (strip (codes " ") (drop 64 text)))
 
 -- the signer and the signature after `lmssig `
 abbrev pub signature_after : List ℕ → Option SignatureLine

@@ -1,5 +1,6 @@
 -- The reading of an entry's body: the table over its lines, from the first to the first that is not as wanted.
-use Rattle.std.specs.Prelude.{◌≡◌, ℕ, ◌+◌, ◌==◌, ◌&&◌, ◌++◌, Bool, true, false, List, [], ◌∷◌, length, Option, Some, None, Result, Ok, Err}
+use Rattle.std.specs.Prelude.{◌≡◌, ℕ, ◌+◌, ◌==◌, ◌&&◌, ◌++◌, Bool, true, false, List, [], ◌∷◌, length, Option, Some}
+use Rattle.std.specs.Prelude.{None, Result, Ok, Err}
 use Rattle.git_object.specs.Ids.{zeros}
 use Rattle.git_object.specs.Objects.{object_id}
 use Rattle.git_object.specs.declared.kinds.Kind.TheVariants.{Commit}
@@ -12,7 +13,8 @@ use Rattle.rsl_chain.specs.declared.entry_faults.EntryFault.{EntryFault}
 use Rattle.rsl_chain.specs.declared.entry_faults.EntryFault.TheVariants.{BadEntry, Memory}
 use Rattle.rsl_chain.specs.declared.parts.Parts.{Parts}
 use Rattle.rsl_chain.specs.declared.places.Part.{Part}
-use Rattle.rsl_chain.specs.declared.places.Part.TheVariants.{Nothing, Parent, Signature, Name, Target, Id, Skip, Number, Piece}
+use Rattle.rsl_chain.specs.declared.places.Part.TheVariants.{Nothing, Parent, Signature, Name, Target, Id, Skip, Number}
+use Rattle.rsl_chain.specs.declared.places.Part.TheVariants.{Piece}
 use Rattle.rsl_chain.specs.declared.places.Place.{Place}
 use Rattle.rsl_chain.specs.declared.places.Step.{Step}
 
@@ -20,7 +22,16 @@ use Rattle.rsl_chain.specs.declared.places.Step.{Step}
 
 -- before the first line
 abbrev pub no_parts : Parts
-no_parts = record { signer = None; signature = []; name = None; target = zeros; ids = []; skip = false; message = []; signed = [] }
+no_parts = record {
+  signer = None;
+  signature = [];
+  name = None;
+  target = zeros;
+  ids = [];
+  skip = false;
+  message = [];
+  signed = [];
+}
 
 -- what is signed, with one more line: each line but that of the signature
 abbrev pub with_line : Part → List ℕ → List ℕ → List ℕ
@@ -67,7 +78,8 @@ goes_on (Some s) n more = more s
 -- from a place and the number of its line, over the lines that end and the bytes behind them
 abbrev pub judge : List ℕ → List (List ℕ) → Place → Parts → ℕ → Reading
 judge tail [] p parts n = at_end (may_end p.want && length tail == 0) p parts n
-judge tail (line ∷ more) p parts n = goes_on (step p line) n (λ s. judge tail more s.place (put s.part line parts) (n + 1))
+judge tail (line ∷ more) p parts n =
+    goes_on (step p line) n (λ s. judge tail more s.place (put s.part line parts) (n + 1))
 
 -- the whole body, or the number of the first line that is not as wanted
 abbrev pub reading : List ℕ → Reading

@@ -6,7 +6,8 @@ ghost use Rattle.git_object.specs.Objects.{pair_id};
 ghost use Rattle.git_object.specs.Repository.{Repository};
 ghost use Rattle.keeper_api.specs.Undisturbed.{Undisturbed};
 ghost use Rattle.rsl_chain.specs.Chain.{IsBreak, IsHead, IsLog};
-ghost use Rattle.rsl_chain.specs.Logs.{IsBrokenAs, IsBrokenFrom, IsLogOf, IsNamed, IsNoEntryAs, IsUnbroken, entry_at, entry_of_pair, head_from, head_of, head_of_pair, heads_of, log_failed};
+ghost use Rattle.rsl_chain.specs.Logs.{IsBrokenAs, IsBrokenFrom, IsLogOf, IsNamed, IsNoEntryAs, IsUnbroken, entry_at};
+ghost use Rattle.rsl_chain.specs.Logs.{entry_of_pair, head_from, head_of, head_of_pair, heads_of, log_failed};
 ghost use Rattle.rsl_chain.specs.Reading.{IsBadAs, reading};
 
 use crate::Entry;
@@ -101,8 +102,10 @@ pub fn read_entry<R: Keeper>(
     keeper: &mut R,
     id: &ObjectId,
 ) -> Result<Entry, LogFault>
-    ensures entry { IfOk result (λ entry. (r : Repository) → R.content keeper.new ≡ Some r → entry_at r id.now ≡ Some entry) }
-    ensures broken { IfErr result (λ fault. (r : Repository) → R.content keeper.new ≡ Some r → IsNoEntryAs r id.now fault) }
+    ensures entry { IfOk result (λ entry. (r : Repository) → R.content keeper.new ≡ Some r
+        → entry_at r id.now ≡ Some entry) }
+    ensures broken { IfErr result (λ fault. (r : Repository) → R.content keeper.new ≡ Some r
+        → IsNoEntryAs r id.now fault) }
     ensures named { IfErr result (IsNamed id.now) }
     ensures own { IfOk result (λ entry. entry.id ≡ id.now) }
     ensures same { Undisturbed R.Keeper keeper.old keeper.new }
@@ -129,9 +132,11 @@ fn is_wanted(wanted: Option<u64>, number: u64) -> bool
 
 // The ids of the entries back from the tip, newest first.
 fn walk_back<R: Keeper>(alloc: Global, keeper: &mut R, tip: &ObjectId) -> Result<Ids, LogFault>
-    ensures log { IfOk result (λ ids. (r : Repository) → R.content keeper.new ≡ Some r → IsLog (heads_of r) (Some tip.now) (reverse ids)) }
+    ensures log { IfOk result (λ ids. (r : Repository) → R.content keeper.new ≡ Some r
+        → IsLog (heads_of r) (Some tip.now) (reverse ids)) }
     ensures few { IfOk result (λ ids. length ids ≤ 1000000) }
-    ensures broken { IfErr result (λ fault. (r : Repository) → R.content keeper.new ≡ Some r → IsBrokenFrom r tip.now fault) }
+    ensures broken { IfErr result (λ fault. (r : Repository) → R.content keeper.new ≡ Some r
+        → IsBrokenFrom r tip.now fault) }
     ensures same { Undisturbed R.Keeper keeper.old keeper.new }
     ensures cause { HasCause log_failed (R.faults keeper.old) (R.faults keeper.new) result }
     ensures reads { IfOk result (λ ids. R.reads keeper.new ≤ R.reads keeper.old + length ids) }

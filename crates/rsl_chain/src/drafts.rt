@@ -82,7 +82,8 @@ fn append_reference(
     target: &ObjectId,
     number: u64,
 ) -> Result<(), Memory>
-    ensures added { OnOk result (text.new ≡ text.old ++ Drafts.joined (Drafts.reference_lines name.now target.now number)) }
+    ensures added { OnOk result (text.new ≡ text.old ++ Drafts.joined
+        (Drafts.reference_lines name.now target.now number)) }
     ensures valid { OnOk result (IsRefName name.now × IsId target.now) }
 {
     append_line(text, b"RSL Reference Entry", b"")?;
@@ -153,7 +154,8 @@ fn append_annotation(
     message: &[u8],
     number: u64,
 ) -> Result<(), Memory>
-    ensures added { OnOk result (text.new ≡ text.old ++ Drafts.joined (Drafts.annotation_lines ids.now skip message.now number)) }
+    ensures added { OnOk result (text.new ≡ text.old ++ Drafts.joined
+        (Drafts.annotation_lines ids.now skip message.now number)) }
     ensures valid { OnOk result (AllByRecursion IsId ids.now × IsBytes message.now) }
 {
     append_line(text, b"RSL Annotation Entry", b"")?;
@@ -209,7 +211,8 @@ fn append_signature(
     key: &KeyId,
     signature: &[u8],
 ) -> Result<(), Memory>
-    ensures added { OnOk result (text.new ≡ text.old ++ Drafts.ended (Drafts.signature_line (record { signer = key.now; signature = signature.now }))) }
+    ensures added { OnOk result (text.new ≡ text.old
+        ++ Drafts.ended (Drafts.signature_line (record { signer = key.now; signature = signature.now }))) }
     ensures valid { IsId key.now × IsBytes signature.now }
 {
     let _ = key.as_bytes();
@@ -223,7 +226,8 @@ fn append_signature(
 
 // Adds the lines in front of the first empty one, and gives the rest.
 fn append_front<'a>(text: &mut Octets, unsigned: &'a [u8]) -> Result<&'a [u8], Memory>
-    ensures { IfOk result (λ rest. (line : List ℕ) → text.old ++ Drafts.with_line_in line unsigned.now ≡ text.new ++ (Drafts.ended line ++ rest.now)) }
+    ensures { IfOk result (λ rest. (line : List ℕ) → text.old ++ Drafts.with_line_in line unsigned.now ≡ text.new
+        ++ (Drafts.ended line ++ rest.now)) }
 {
     let mut rest = unsigned;
     'lines: while let Some((line, more)) = split_line(rest) {
@@ -244,8 +248,10 @@ pub fn join_signature(
     key: &KeyId,
     signature: &[u8],
 ) -> Result<Octets, Memory>
-    ensures text { IfOk result (λ text. text ≡ Drafts.signed_text_of unsigned.now (record { signer = key.now; signature = signature.now })) }
-    ensures reads_back { IfOk result (Drafts.IsReadWith unsigned.now (record { signer = key.now; signature = signature.now })) }
+    ensures text { IfOk result (λ text. text ≡ Drafts.signed_text_of unsigned.now
+        (record { signer = key.now; signature = signature.now })) }
+    ensures reads_back { IfOk result
+        (Drafts.IsReadWith unsigned.now (record { signer = key.now; signature = signature.now })) }
 {
     let mut text = Octets::new(alloc);
     let rest = append_front(&mut text, unsigned)?;

@@ -1,11 +1,6 @@
 //! The log as one chain, its entries, and the bodies that these are read from.
 //!
-//! This crate stands on `octets`, `text_reader`, `git_object`, `keeper_api` and the library `base64`. A crate above may rely on
-//! `read_body` taking exactly the bodies that the table of an entry's lines takes and naming the first line that is not as
-//! wanted in any other, on `read_entry` being that of the commit at an id, and on `Log::load` giving the one list of ids that
-//! is a repository's log, or the one commit at which it breaks. `Entry` is what judging takes, and what can be said of it
-//! without reading: which reference it records, and which entries an annotation skips. The definitions are in `specs/`, and
-//! `laws` says what holds of them.
+//! What it promises, and where to begin: `README.md` in this crate's folder.
 
 #![tactic(auto)]
 

@@ -110,7 +110,7 @@ twice_decided files name = elim (is_within 2 (times name (rule_names files))) [
   ]
 ]
 
-first_twice : (files : List RuleFile) → (found : Option (List ℕ)) × IsFirstName (IsTwice files) found
+pub first_twice : (files : List RuleFile) → (found : Option (List ℕ)) × IsFirstName (IsTwice files) found
 first_twice files =
     first_name (IsTwice files) (twice_decided files) (rule_names files ++ file_names files)
     (λ name h. elim h [
@@ -148,7 +148,7 @@ module _ (files : List RuleFile) (marks : List Bool) where
     | inr none ↦ inr (λ off. none off.at off.early (off.is, off.unmarked))
   ]
 
-  first_off : AreDistinct files → AreMarked files marks → (found : Option (List ℕ)) × IsFirstName (IsCutOff files) found
+  pub first_off : AreDistinct files → AreMarked files marks → (found : Option (List ℕ)) × IsFirstName (IsCutOff files) found
   first_off distinct are =
       first_name (IsCutOff files)
       (λ name. elim (off_decided name) [

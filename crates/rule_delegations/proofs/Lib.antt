@@ -15,3 +15,4 @@ mod Faults
 pub mod Lawful
 mod Closing
 pub mod Faulty
+pub mod Faultless

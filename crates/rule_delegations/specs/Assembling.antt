@@ -1,5 +1,6 @@
 -- What keeps rule files from being the rules of a policy, in the order in which it is tried.
-use Rattle.std.specs.Prelude.{◌≡◌, ◌⊎◌, ◌<◌, ◌≤◌, ℕ, List, Option, Some, None, length, map, count_by, sum_by, if◌then◌else◌, nat_lt}
+use Rattle.std.specs.Prelude.{◌≡◌, ◌⊎◌, ◌<◌, ◌≤◌, ℕ, List, Option, Some, None, length, map, count_by, sum_by}
+use Rattle.std.specs.Prelude.{if◌then◌else◌, nat_lt}
 use Rattle.std.specs.List.{flat_map}
 use Rattle.std.specs.Str.{bytes_eq}
 use Rattle.std.specs.declared.cmp.Ordering.TheVariants.{Less}
@@ -8,9 +9,10 @@ use Rattle.rule_files.specs.declared.rules.Rule.{Rule}
 use Rattle.rule_files.specs.declared.rules.RuleFile.{RuleFile}
 use Rattle.rule_delegations.specs.declared.places.RuleRef.{RuleRef}
 use Rattle.rule_delegations.specs.declared.assembling.AssembleFault.{AssembleFault}
-use Rattle.rule_delegations.specs.declared.assembling.AssembleFault.TheVariants.{DuplicateName, Unreachable, TooDeep, TooMany, Memory}
+use Rattle.rule_delegations.specs.declared.assembling.AssembleFault.TheVariants.{DuplicateName, Unreachable, TooDeep}
+use Rattle.rule_delegations.specs.declared.assembling.AssembleFault.TheVariants.{TooMany, Memory}
 use Rattle.rule_delegations.specs.Chains.{Before, IsChain, IsNamed, last_rule}
-use Rattle.rule_delegations.specs.Forests.{IsPolicy}
+use Rattle.rule_delegations.specs.Forests.{AreShallow, IsPolicy}
 
 -- the names of all rules, and of all files
 abbrev pub rule_names : List RuleFile → List (List ℕ)
@@ -83,7 +85,8 @@ abbrev pub HasFault : List RuleFile → AssembleFault → Type 0
 HasFault files (DuplicateName name) = IsLeast (IsTwice files) name
 HasFault files (Unreachable name) = NoName (IsTwice files) × IsLeast (IsCutOff files) name
 HasFault files (TooDeep name) = NoName (IsTwice files) × NoName (IsCutOff files) × IsFirstDeep files name
-HasFault files (TooMany count) = NoName (IsTwice files) × NoName (IsCutOff files) × NoName (IsFirstDeep files) × (excess files ≡ Some count)
+HasFault files (TooMany count) = NoName (IsTwice files) × NoName (IsCutOff files) × NoName (IsFirstDeep files)
+    × (excess files ≡ Some count)
 HasFault files Memory = ⊥
 
 -- the fault that files have, or that they have none and are those of a policy
@@ -99,3 +102,17 @@ OneFault = (files : List RuleFile) (a b : AssembleFault) → HasFault files a �
 abbrev pub IsFirstName : (List ℕ → Type 0) → Option (List ℕ) → Type 0
 IsFirstName P None = NoName P
 IsFirstName P (Some name) = IsLeast P name
+
+-- nothing keeps files from being the rules of a policy: no two rules and no two files have one name, each file below
+-- the top
+-- is named after a rule on a chain, no chain is longer than eight, and there are at most 1,024 rules and as many listed
+-- keys
+pub record IsFaultless (files : List RuleFile) : Type 0 where
+  pub once : NoName (IsTwice files)
+  pub hung : NoName (IsCutOff files)
+  pub shallow : AreShallow files
+  pub few_rules : count_of_rules files ≤ 1024
+  pub few_keys : count_of_keys files ≤ 1024
+
+abbrev pub HasNoFault : List RuleFile → Type 0
+HasNoFault files = (fault : AssembleFault) → HasFault files fault → ⊥

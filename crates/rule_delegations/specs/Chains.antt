@@ -24,7 +24,8 @@ pub record IsRule (files : List RuleFile) (file : ℕ) (place : RuleRef) : Type 
 abbrev pub Leads : List RuleFile → ℕ → List RuleRef → Type 0
 Leads files file [] = ⊥
 Leads files file (p ∷ []) = IsRule files file p
-Leads files file (p ∷ q ∷ ps) = (first : IsRule files file p) × IsNamed files q.file first.rule.name × Leads files q.file (q ∷ ps)
+Leads files file (p ∷ q ∷ ps) = (first : IsRule files file p) × IsNamed files q.file first.rule.name
+    × Leads files q.file (q ∷ ps)
 
 -- a chain begins in the top file
 abbrev pub IsChain : List RuleFile → List RuleRef → Type 0

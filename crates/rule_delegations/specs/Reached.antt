@@ -38,7 +38,8 @@ pub record Terminates (files : List RuleFile) (chain : List RuleRef) : Type 0 wh
   pub is : last_rule files chain ≡ Some rule
   pub terminating : rule.terminating ≡ true
 
--- every rule on the chain matches, and no earlier chain that is no prefix of it ended the search: one whose rules all match,
+-- every rule on the chain matches, and no earlier chain that is no prefix of it ended the search: one whose rules all
+-- match,
 -- the last of which is terminating
 pub record Reached (files : List RuleFile) (name : Name) (chain : List RuleRef) : Type 0 where
   pub is_chain : IsChain files chain
@@ -83,7 +84,8 @@ pub record IsMet (files : List RuleFile) (name : Name) (signers : List (List ℕ
 
 -- no chain is reached, or some reached chain's last rule is met
 abbrev pub Meets : List RuleFile → Name → List (List ℕ) → Type 0
-Meets files name signers = ((chain : List RuleRef) → Reached files name chain → ⊥) ⊎ ((chain : List RuleRef) × IsMet files name signers chain)
+Meets files name signers = ((chain : List RuleRef) → Reached files name chain → ⊥)
+    ⊎ ((chain : List RuleRef) × IsMet files name signers chain)
 
 -- the key is one of some person's
 abbrev pub is_listed : List Person → List ℕ → Bool
@@ -98,7 +100,8 @@ pub record IsListed (files : List RuleFile) (name : Name) (key : List ℕ) (chai
 
 -- no chain is reached, or some reached chain's last rule has a person with the key
 abbrev pub MayAct : List RuleFile → Name → List ℕ → Type 0
-MayAct files name key = ((chain : List RuleRef) → Reached files name chain → ⊥) ⊎ ((chain : List RuleRef) × IsListed files name key chain)
+MayAct files name key = ((chain : List RuleRef) → Reached files name chain → ⊥)
+    ⊎ ((chain : List RuleRef) × IsListed files name key chain)
 
 -- of the first reached chain's last rule: its place, how many of its persons have a key in the set, and its threshold
 pub record IsShortBy (files : List RuleFile) (name : Name) (signers : List (List ℕ)) (short : Short) : Type 0 where

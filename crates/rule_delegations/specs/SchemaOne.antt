@@ -29,14 +29,16 @@ pub record IsOfSchemaOne (file : RuleFile) : Type 0 where
   pub lists : AllByRecursion ListsIds file.rules
 
 -- a reached chain's last rule has at least its threshold of listed key ids in the set
-pub record IsMetByIds (files : List RuleFile) (name : Name) (signers : List (List ℕ)) (chain : List RuleRef) : Type 0 where
-  pub reached : Reached files name chain
-  pub rule : Rule
-  pub is : last_rule files chain ≡ Some rule
-  pub enough : rule.threshold ≤ count_by (has_key (λ id. id) signers) (listed_ids rule)
+pub record IsMetByIds (files : List RuleFile) (name : Name) (signers : List (List ℕ)) (chain : List RuleRef) : Type 0
+  where
+    pub reached : Reached files name chain
+    pub rule : Rule
+    pub is : last_rule files chain ≡ Some rule
+    pub enough : rule.threshold ≤ count_by (has_key (λ id. id) signers) (listed_ids rule)
 
 -- among files of schema 1 keys are counted, as if there were no persons
 abbrev pub SchemaOneSame : Type 0
 SchemaOneSame = (files : List RuleFile) (name : Name) (signers : List (List ℕ)) → AllByRecursion IsOfSchemaOne files
     → Meets files name signers
-    ↔ (((chain : List RuleRef) → Reached files name chain → ⊥) ⊎ ((chain : List RuleRef) × IsMetByIds files name signers chain))
+    ↔ (((chain : List RuleRef) → Reached files name chain → ⊥)
+    ⊎ ((chain : List RuleRef) × IsMetByIds files name signers chain))

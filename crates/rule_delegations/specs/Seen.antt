@@ -12,4 +12,5 @@ pub record IsSeen (before : List ℕ → Bool) (seen : Seen) (names : List (List
 
 -- these names were noted
 abbrev pub Notes : Seen → Seen → List (List ℕ) → Type 0
-Notes old new names = (before : List ℕ → Bool) (had : List (List ℕ)) → IsSeen before old had → IsSeen before new (had ++ names)
+Notes old new names = (before : List ℕ → Bool) (had : List (List ℕ)) → IsSeen before old had
+    → IsSeen before new (had ++ names)

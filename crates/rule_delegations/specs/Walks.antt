@@ -1,5 +1,6 @@
 -- The search as a walk: the chains that it finds, and whether a terminating rule ended it.
-use Rattle.std.specs.Prelude.{◌≡◌, ℕ, ◌+◌, ◌||◌, ◌++◌, Bool, false, List, [], ◌∷◌, Option, Some, None, map, if◌then◌else◌}
+use Rattle.std.specs.Prelude.{◌≡◌, ℕ, ◌+◌, ◌||◌, ◌++◌, Bool, false, List, [], ◌∷◌, Option, Some, None, map}
+use Rattle.std.specs.Prelude.{if◌then◌else◌}
 use Prim.Native.Nat as Nat
 use Rattle.std.specs.Prelude.{nat_le}
 use Rattle.std.specs.List.{list_any}
@@ -46,18 +47,21 @@ below_link into None = nothing
 below_link into (Some file) = into file
 
 abbrev pub one_rule : (ℕ → Found) → (List ℕ → Option ℕ) → Name → RuleRef → Rule → Found
-one_rule into link name place rule = (if rule_matches name rule then at_rule place rule.terminating (below_link into (link rule.name)) else nothing)
+one_rule into link name place rule =
+    (if rule_matches name rule then at_rule place rule.terminating (below_link into (link rule.name)) else nothing)
 
 -- the rules of a file from this one on
 abbrev pub walk_rules : (ℕ → Found) → (List ℕ → Option ℕ) → Name → ℕ → ℕ → List Rule → Found
 walk_rules into link name file at [] = nothing
 walk_rules into link name file at (rule ∷ rules) =
-    then_found (one_rule into link name (record { file = file; rule = at }) rule) (walk_rules into link name file (at + 1) rules)
+    then_found (one_rule into link name (record { file = file; rule = at }) rule)
+    (walk_rules into link name file (at + 1) rules)
 
 -- the rules of a file, and so many levels of files below it
 unfoldable pub walk : List RuleFile → Name → ℕ → ℕ → Found
 walk files name Nat.zero file = nothing
-walk files name (Nat.suc left) file = walk_rules (walk files name left) (place_named files) name file 0 (rules_of files file)
+walk files name (Nat.suc left) file = walk_rules (walk files name left) (place_named files) name file 0
+    (rules_of files file)
 
 -- what is found at a rule, and through so many levels of files below it
 abbrev pub found_at : List RuleFile → Name → ℕ → RuleRef → Rule → Found
@@ -70,7 +74,8 @@ pub record Adds (old new : List RuleRef) (stopped : Bool) (found : Found) : Type
 
 -- what is still to be added makes it whole
 abbrev pub GoesOn : List RuleRef → Found → List RuleRef → Found → Type 0
-GoesOn old whole now rest = (end : List RuleRef) (stopped : Bool) → Adds now end stopped rest → Adds old end stopped whole
+GoesOn old whole now rest = (end : List RuleRef) (stopped : Bool) → Adds now end stopped rest
+    → Adds old end stopped whole
 
 -- a rule has enough persons among the signers
 abbrev pub is_enough : List (List ℕ) → Rule → Bool
@@ -82,7 +87,8 @@ passes_at files test place = option_map_or test (rule_at files place) false
 
 -- what a search tells: whether some rule that it found passes the test, and else whether it ended
 abbrev pub told : List RuleFile → (Rule → Bool) → Found → Told
-told files test found = (if list_any (passes_at files test) found.places then Met else (if found.stopped then Stopped else Passed))
+told files test found = (if list_any (passes_at files test) found.places then Met else
+    (if found.stopped then Stopped else Passed))
 
 -- what is asked of a rule, as a test of it
 abbrev pub test_of : Asked → Rule → Bool

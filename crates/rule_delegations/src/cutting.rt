@@ -22,7 +22,8 @@ fn is_marked(marks: &[bool], at: usize) -> bool
 
 // Adds a name, unless it is that of a marked file.
 fn add_unmarked(names: &mut BTreeSet<Octets>, name: &Octets, marked: bool) -> Result<(), Memory>
-    ensures { OnOk result ((q : List ℕ) → contains by_bytes names.new q ≡ (contains by_bytes names.old q || (not marked && bytes_eq q name.now))) }
+    ensures { OnOk result ((q : List ℕ)
+        → contains by_bytes names.new q ≡ (contains by_bytes names.old q || (not marked && bytes_eq q name.now))) }
 {
     if marked {
         return Ok(());

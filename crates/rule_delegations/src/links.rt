@@ -26,7 +26,8 @@ fn places_of(alloc: Global, files: &[RuleFile]) -> Result<BTreeMap<Octets, u32>,
 
 // Keeps a place under a name that has none.
 fn add_place(places: &mut BTreeMap<Octets, u32>, name: &Octets, at: u32) -> Result<(), Memory>
-    ensures { OnOk result ((q : List ℕ) → tree.get by_bytes places.new q ≡ or_place (tree.get by_bytes places.old q) (bytes_eq q name.now) at) }
+    ensures { OnOk result ((q : List ℕ) → tree.get by_bytes places.new q ≡ or_place (tree.get by_bytes places.old q)
+        (bytes_eq q name.now) at) }
 {
     if places.get(name).is_some() {
         return Ok(());

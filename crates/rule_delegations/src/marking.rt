@@ -12,7 +12,8 @@ use std::alloc::Global;
 // Marks a file and keeps it at the end of the order, unless it is marked already.
 fn mark(marks: &mut Vec<bool>, order: &mut Vec<u32>, file: u32) -> Result<(), Memory>
     requires { file < length marks.old.items }
-    ensures grows { OnOk result (Grows (λ other. other ≡ file) marks.old.items order.old.items marks.new.items order.new.items) }
+    ensures grows { OnOk result (Grows (λ other. other ≡ file) marks.old.items order.old.items marks.new.items
+        order.new.items) }
     ensures marked { OnOk result (IsMarked marks.new.items file) }
 {
     if marks[file as usize] {
@@ -31,7 +32,8 @@ fn mark_below(
     order: &mut Vec<u32>,
 ) -> Result<(), Memory>
     requires { length marks.old.items ≡ length forest.now }
-    ensures grows { OnOk result (Grows (λ file. link_at forest.now place ≡ Some file) marks.old.items order.old.items marks.new.items order.new.items) }
+    ensures grows { OnOk result (Grows (λ file. link_at forest.now place ≡ Some file) marks.old.items order.old.items
+        marks.new.items order.new.items) }
     ensures marked { OnOk result ((file : ℕ) → link_at forest.now place ≡ Some file → IsMarked marks.new.items file) }
 {
     match forest.below(place) {
@@ -48,7 +50,8 @@ fn mark_all_below(
     order: &mut Vec<u32>,
 ) -> Result<(), Memory>
     requires { length marks.old.items ≡ length forest.now }
-    ensures grows { OnOk result (Grows (λ other. (at : ℕ) × (link_at forest.now (record { file = file; rule = at }) ≡ Some other))
+    ensures grows { OnOk result (Grows
+        (λ other. (at : ℕ) × (link_at forest.now (record { file = file; rule = at }) ≡ Some other))
         marks.old.items order.old.items marks.new.items order.new.items) }
     ensures marked { OnOk result ((at other : ℕ)
         → link_at forest.now (record { file = file; rule = at }) ≡ Some other → IsMarked marks.new.items other) }

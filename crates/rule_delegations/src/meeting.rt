@@ -110,7 +110,8 @@ pub(crate) fn tell_file(
     text: &[u8],
     asked: &Asked<'_>,
 ) -> Told
-    ensures { result ≡ told forest.now (test_of asked.now) (walk forest.now (record { space = space; text = text.now }) left file) }
+    ensures { result ≡ told forest.now (test_of asked.now)
+        (walk forest.now (record { space = space; text = text.now }) left file) }
 {
     if left == 0 {
         return Told::Passed;

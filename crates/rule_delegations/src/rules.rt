@@ -75,7 +75,8 @@ impl Rules {
     /// The places of the last rules of the chains that a name reaches, in pre-order. It takes no memory for a rule that does
     /// not match.
     pub fn search(&self, alloc: Global, space: Space, text: &[u8]) -> Result<Vec<RuleRef>, Memory>
-        ensures reached { IfOk result (λ places. AreReached self.now (record { space = space; text = text.now }) places.items) }
+        ensures reached { IfOk result (λ places. AreReached self.now (record { space = space; text = text.now })
+            places.items) }
         ensures places { IfOk result (λ places. All (λ place. IsSome (rule_at self.now place)) places.items) }
         ensures free { IsFirstReached self.now (record { space = space; text = text.now }) None → IsOk result }
     {

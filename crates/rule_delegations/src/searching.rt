@@ -54,8 +54,10 @@ pub(crate) fn search_file(
     text: &[u8],
     found: &mut Vec<RuleRef>,
 ) -> Result<bool, Memory>
-    ensures added { IfOk result (λ stopped. Adds found.old.items found.new.items stopped (walk forest.now (record { space = space; text = text.now }) left file)) }
-    ensures free { All (λ rule. rule_matches (record { space = space; text = text.now }) rule ≡ false) (rules_of forest.now file) → IsOk result }
+    ensures added { IfOk result (λ stopped. Adds found.old.items found.new.items stopped
+        (walk forest.now (record { space = space; text = text.now }) left file)) }
+    ensures free { All (λ rule. rule_matches (record { space = space; text = text.now }) rule ≡ false)
+        (rules_of forest.now file) → IsOk result }
 {
     if left == 0 {
         return Ok(false);

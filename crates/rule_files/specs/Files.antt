@@ -1,5 +1,6 @@
 -- Rule files as they are read.
-use Rattle.std.specs.Prelude.{ℕ, ◌+◌, ◌==◌, ◌&&◌, Bool, List, [], ◌∷◌, Option, Some, None, Result, Ok, Err, codes, is_ok, length, map, nat_le, not, slice_index}
+use Rattle.std.specs.Prelude.{ℕ, ◌+◌, ◌==◌, ◌&&◌, Bool, List, [], ◌∷◌, Option, Some, None, Result, Ok, Err, codes}
+use Rattle.std.specs.Prelude.{is_ok, length, map, nat_le, not, slice_index}
 use Rattle.std.specs.List.{filter_map, find, position}
 use Rattle.std.specs.Option.{option_map}
 use Rattle.std.specs.Result.{result_ok}
@@ -8,12 +9,15 @@ use Rattle.serde_json.specs.Data.{Data}
 use Rattle.json_fields.specs.Json.{json_of}
 use Rattle.ref_patterns.specs.Patterns as patterns
 use Rattle.ref_patterns.specs.declared.pattern.Pattern.{Pattern}
-use Rattle.root_metadata.specs.Judged.{at_place, first_wrong, has_bad_threshold, has_own_id, is_bad_person, is_key, is_name, or_next, shares_key, too_many}
+use Rattle.root_metadata.specs.Judged.{at_place, first_wrong, has_bad_threshold, has_own_id, is_bad_person, is_key}
+use Rattle.root_metadata.specs.Judged.{is_name, or_next, shares_key, too_many}
 use Rattle.root_metadata.specs.Made.{key_made, own_persons, persons_made}
 use Rattle.root_metadata.specs.declared.raw.Roster.{Roster}
 use Rattle.rule_files.specs.Shapes.{file_of}
 use Rattle.rule_files.specs.declared.faults.RuleFault.{RuleFault}
-use Rattle.rule_files.specs.declared.faults.RuleFault.TheVariants.{NotJson, MissingField, BadCount, BadKey, KeyIdDiffers, BadThreshold, BadPattern, BadName, BadPerson, SharedKey}
+use Rattle.rule_files.specs.declared.faults.RuleFault.TheVariants.{NotJson, MissingField, BadCount, BadKey}
+use Rattle.rule_files.specs.declared.faults.RuleFault.TheVariants.{KeyIdDiffers, BadThreshold, BadPattern, BadName}
+use Rattle.rule_files.specs.declared.faults.RuleFault.TheVariants.{BadPerson, SharedKey}
 use Rattle.rule_files.specs.declared.raw.RawRule.{RawRule}
 use Rattle.rule_files.specs.declared.raw.RawRuleFile.{RawRuleFile}
 use Rattle.rule_files.specs.declared.rules.Rule.{Rule}
@@ -29,7 +33,8 @@ patterns_count rules = option_map (λ rule. length rule.paths) (find (λ rule. n
 
 -- a name that a rule may have: as a person's, with no `.` in front, and neither `root` nor `targets`
 abbrev pub is_rule_name : List ℕ → Bool
-is_rule_name text = is_name text && not (slice_index text 0 == 46) && not (bytes_eq text (codes "root")) && not (bytes_eq text (codes "targets"))
+is_rule_name text = is_name text && not (slice_index text 0 == 46) && not (bytes_eq text (codes "root"))
+    && not (bytes_eq text (codes "targets"))
 
 abbrev pub is_pattern : List ℕ → Bool
 is_pattern text = is_ok (patterns.reading text)
@@ -37,14 +42,18 @@ is_pattern text = is_ok (patterns.reading text)
 -- the first pattern that is none, from the rule at this place on
 abbrev pub pattern_fault_from : ℕ → List RawRule → Option RuleFault
 pattern_fault_from at [] = None
-pattern_fault_from at (rule ∷ rules) = or_next (at_place (BadPattern at) (position (λ text. not (is_pattern text)) rule.paths)) (pattern_fault_from (at + 1) rules)
+pattern_fault_from at (rule ∷ rules) =
+    or_next (at_place (BadPattern at) (position (λ text. not (is_pattern text)) rule.paths))
+    (pattern_fault_from (at + 1) rules)
 
 -- what may be wrong, number by number
 
 abbrev pub count_fault : RawRuleFile → Option RuleFault
 count_fault file =
-    or_next (at_place BadCount (too_many (length file.roster.keys))) (or_next (at_place BadCount (too_many (length file.rules)))
-    (or_next (at_place BadCount (patterns_count file.rules)) (at_place BadCount (too_many (length file.roster.persons)))))
+    or_next (at_place BadCount (too_many (length file.roster.keys)))
+    (or_next (at_place BadCount (too_many (length file.rules)))
+    (or_next (at_place BadCount (patterns_count file.rules))
+    (at_place BadCount (too_many (length file.roster.persons)))))
 
 abbrev pub key_fault : RawRuleFile → Option RuleFault
 key_fault file = at_place BadKey (position (λ key. not (is_key key)) file.roster.keys)
@@ -69,10 +78,12 @@ shared_fault file = at_place SharedKey (first_wrong shares_key [] file.roster.pe
 
 -- the first that is wrong among keys and thresholds, and among the rest
 abbrev pub early_fault : RawRuleFile → Option RuleFault
-early_fault file = or_next (count_fault file) (or_next (key_fault file) (or_next (id_fault file) (threshold_fault file)))
+early_fault file = or_next (count_fault file)
+    (or_next (key_fault file) (or_next (id_fault file) (threshold_fault file)))
 
 abbrev pub late_fault : RawRuleFile → Option RuleFault
-late_fault file = or_next (pattern_fault file) (or_next (name_fault file) (or_next (person_fault file) (shared_fault file)))
+late_fault file = or_next (pattern_fault file)
+    (or_next (name_fault file) (or_next (person_fault file) (shared_fault file)))
 
 abbrev pub fault_of : RawRuleFile → Option RuleFault
 fault_of file = or_next (early_fault file) (late_fault file)

@@ -11,11 +11,15 @@ use Rattle.rule_files.specs.declared.raw.RawRuleFile.{RawRuleFile}
 -- a rule of a file of this schema
 abbrev pub rule_of : ℕ → Data → Option RawRule
 rule_of schema d =
-    option_and_then (λ name. option_and_then (λ terminating. option_and_then (λ paths. option_map (λ role. record { name = name; paths = paths; terminating = terminating; role = role })
-    (role_of schema d)) (each_at as_str (codes "paths") d)) (bool_at (codes "terminating") d)) (text_at (codes "name") d)
+    option_and_then (λ name. option_and_then
+    (λ terminating. option_and_then
+    (λ paths. option_map (λ role. record { name = name; paths = paths; terminating = terminating; role = role })
+    (role_of schema d)) (each_at as_str (codes "paths") d)) (bool_at (codes "terminating") d))
+    (text_at (codes "name") d)
 
 -- a rule file
 abbrev pub file_of : Data → Option RawRuleFile
 file_of d =
-    option_and_then (λ roster. option_and_then (λ name. option_map (λ rules. record { name = name; roster = roster; rules = rules })
+    option_and_then (λ roster. option_and_then
+    (λ name. option_map (λ rules. record { name = name; roster = roster; rules = rules })
     (each_at (rule_of roster.schema) (codes "rules") d)) (text_at (codes "name") d)) (roster_of (codes "rules") d)

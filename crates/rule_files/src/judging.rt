@@ -5,7 +5,10 @@ ghost use Rattle.std.specs.List.{find, position};
 ghost use Rattle.std.specs.Option.{option_copied};
 ghost use Rattle.root_metadata.specs.Judged.{has_bad_threshold, or_next, too_many};
 ghost use Rattle.root_metadata.specs.Lookups.{IsIndex};
-ghost use Rattle.rule_files.specs.Files.{count_fault, early_fault, fault_of, has_few_patterns, id_fault, is_pattern, is_rule_name, key_fault, late_fault, name_fault, pattern_fault, pattern_fault_from, patterns_count, person_fault, shared_fault, threshold_fault};
+ghost use Rattle.rule_files.specs.Files.{count_fault, early_fault, fault_of, has_few_patterns, id_fault, is_pattern};
+ghost use Rattle.rule_files.specs.Files.{is_rule_name, key_fault, late_fault, name_fault, pattern_fault};
+ghost use Rattle.rule_files.specs.Files.{pattern_fault_from, patterns_count, person_fault, shared_fault};
+ghost use Rattle.rule_files.specs.Files.{threshold_fault};
 
 use crate::RuleFault;
 use crate::raw::{RawRule, RawRuleFile};

@@ -1,8 +1,6 @@
 //! Rule files of a policy: who may sign for which references and files.
 //!
-//! A rule speaks of the names that one of its patterns matches, and names the persons who may sign for them and how many must;
-//! a file may be named after it, whose rules go on from there. This crate stands on `root_metadata` and `ref_patterns`. A
-//! crate above may rely on a rule and a file being seen as records of what they hold.
+//! What it promises, and where to begin: `README.md` in this crate's folder.
 
 #![tactic(auto)]
 

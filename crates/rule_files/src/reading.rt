@@ -3,7 +3,8 @@
 ghost use Rattle.std.specs.Prelude.{◌≡◌, ◌⊎◌, ◌++◌, [], IfOk, IfErr, OnOk, Ok, Err, map};
 ghost use Rattle.std.specs.List.{cons_option};
 ghost use Rattle.serde_json.specs.View.{view};
-ghost use Rattle.rule_files.specs.Files.{file_made, from_json, from_shape, pattern_made, patterns_made, reading, rule_made};
+ghost use Rattle.rule_files.specs.Files.{file_made, from_json, from_shape, pattern_made, patterns_made, reading};
+ghost use Rattle.rule_files.specs.Files.{rule_made};
 ghost use Rattle.rule_files.specs.Shapes.{file_of};
 ghost use Rattle.rule_files.specs.declared.faults.RuleFault.TheVariants as fault;
 

@@ -50,7 +50,8 @@ fn each_rule(alloc: Global, schema: u32, values: &[Value]) -> Result<Items<RawRu
 // The rules of a file.
 fn rules_in(alloc: Global, schema: u32, value: &Value) -> Result<Items<RawRule>, ShapeFault>
     ensures ok { IfOk result (λ rules. each_at (rule_of schema) (codes "rules") (view value.now) ≡ Some rules) }
-    ensures missing { IsErrOf result ShapeFault.Missing → each_at (rule_of schema) (codes "rules") (view value.now) ≡ None }
+    ensures missing { IsErrOf result ShapeFault.Missing → each_at (rule_of schema) (codes "rules") (view value.now)
+        ≡ None }
 {
     match list_in(value, "rules") {
         Some(values) => each_rule(alloc, schema, values),

@@ -72,7 +72,8 @@ fn pick_row(numbers: u32x8, ends: u32x8, xs: [u32x8; 8], ys: [u32x8; 8]) -> [u32
 
 #[inline(always)]
 fn advanced(numbers: u32x8, ends: u32x8) -> u32x8
-    ensures { AreSteps (slice_index numbers) numbers → AreSteps (slice_index ends) ends → AreAdvanced numbers ends result }
+    ensures { AreSteps (slice_index numbers) numbers → AreSteps (slice_index ends) ends
+        → AreAdvanced numbers ends result }
 {
     pick(numbers, ends, numbers + u32x8::splat(1), numbers)
 }

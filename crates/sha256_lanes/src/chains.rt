@@ -77,7 +77,8 @@ pub(crate) fn stepped(
     state: [u32x8; 8],
     room: &mut [u32x8; 64],
 ) -> [u32x8; 8]
-    ensures { (heads : ℕ → List ℕ) (number : ℕ → ℕ) → HasHeads heads words.now → AreSteps number steps → IsMiddle words.now middle.now
+    ensures { (heads : ℕ → List ℕ) (number : ℕ → ℕ) → HasHeads heads words.now → AreSteps number steps
+        → IsMiddle words.now middle.now
         → AreLong 8 state → AreLanes 8 result (λ i.
         compress initial_hash_256 (padded_message (message (heads i) (number i) (digest_bytes (lane state i) 8)))) }
 {

@@ -1,6 +1,7 @@
 //! The blocks of eight steps at once, and the words that bytes spell.
 
-ghost use Rattle.std.specs.Prelude.{◌≡◌, ℕ, ◌+◌, ◌*◌, ◌/◌, ◌%◌, ◌^◌, ◌<◌, ◌≤◌, List, [], ◌∷◌, ◌++◌, length, take, drop, slice_index, slice_index_or};
+ghost use Rattle.std.specs.Prelude.{◌≡◌, ℕ, ◌+◌, ◌*◌, ◌/◌, ◌%◌, ◌^◌, ◌<◌, ◌≤◌, List, [], ◌∷◌, ◌++◌, length, take, drop};
+ghost use Rattle.std.specs.Prelude.{slice_index, slice_index_or};
 ghost use Rattle.std.specs.Int.{w32, to_be_bytes};
 ghost use Rattle.sha2.specs.Sha256.{digest_bytes, padded_message, word_at};
 ghost use Rattle.sha256_lanes.specs.Lanes.{AreLong, IsLanes, lane};
@@ -102,7 +103,8 @@ fn step_word(ends: u32x8, steps: u32x8, first: u32x8) -> u32x8
 // The blocks of the steps of these numbers, from the heads' words and the words of the values before them.
 #[inline(always)]
 pub(crate) fn block_words(words: &[u32x8; 6], steps: u32x8, state: &[u32x8; 8]) -> [u32x8; 16]
-    ensures { (heads : ℕ → List ℕ) (number : ℕ → ℕ) → HasHeads heads words.now → AreSteps number steps → AreLong 8 state.now
+    ensures { (heads : ℕ → List ℕ) (number : ℕ → ℕ) → HasHeads heads words.now → AreSteps number steps
+        → AreLong 8 state.now
         → HasWords 16 (λ i. padded_message (message (heads i) (number i) (digest_bytes (lane state.now i) 8))) result }
 {
     [

@@ -1,5 +1,6 @@
 -- The rules of the small judge. An entry's signature is taken as good for the key that it names.
-use Rattle.std.specs.Prelude.{ℕ, Bool, true, false, List, [], ◌∷◌, take, Option, Some, None, Result, Ok, Err, if◌then◌else◌}
+use Rattle.std.specs.Prelude.{ℕ, Bool, true, false, List, [], ◌∷◌, take, Option, Some, None, Result, Ok, Err}
+use Rattle.std.specs.Prelude.{if◌then◌else◌}
 use Rattle.std.specs.Str.{bytes_eq}
 use Rattle.rsl_chain.specs.Entries.{target_of}
 use Rattle.rsl_chain.specs.declared.entries.Entry.{Entry}

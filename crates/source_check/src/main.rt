@@ -1,9 +1,6 @@
 //! Says for the launcher `gittuf`, which asks it at each start, whether a file of a list changed since a time.
 //!
-//! The words are a folder, a list and a stamp. The list is a file with one path a line, from that folder, and the stamp
-//! one whose text was last changed at the time that counts. Status 0 says that no listed file had its last change of
-//! any kind later than that, and status 1 that one had, or that something cannot be looked at, is no file, or is not
-//! listed at all. Status 2 refuses other words.
+//! What it promises, and where to begin: `README.md` in this crate's folder.
 #![tactic(auto)]
 
 ghost use Rattle.std.specs.Prelude.{◌≡◌, ◌<ℤ◌, ◌⊎◌, ◌↔◌, IsTrue};

@@ -1,8 +1,7 @@
 //! Rows of keys: what keys of one and of more levels sign, as other implementations and the standard have it, a key
-//! below that changes, and two signers over one file. It holds tests alone.
+//! below that changes, and two signers over one file.
 //!
-//! This crate stands on `octets`, `edge_io`, `lmots`, `lms_keys`, `hss_keys`, `leaf_journal` and `sha2`, and nothing
-//! stands on it.
+//! What it promises, and where to begin: `README.md` in this crate's folder.
 
 #![tactic(auto)]
 

@@ -1,5 +1,7 @@
-//! Rows of what is read and kept: numbers and lines of texts, the system's own streams, files, random bytes and clock, which
-//! no contract knows, Git's objects, and keepers in memory and over real files. It holds tests alone.
+//! Rows of what is read and kept: numbers and lines of texts, the system's own streams, files, random bytes and clock,
+//! which no contract knows, Git's objects, and keepers in memory and over real files.
+//!
+//! What it promises, and where to begin: `README.md` in this crate's folder.
 
 #![tactic(auto)]
 
@@ -9,6 +11,8 @@ mod clock_rows;
 mod disk_rows;
 #[cfg(test)]
 mod folder_rows;
+#[cfg(test)]
+mod folder_scenes;
 #[cfg(test)]
 mod keeper_rows;
 #[cfg(test)]

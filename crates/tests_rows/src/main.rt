@@ -1,10 +1,6 @@
 //! Runs commands over objects in memory, row by row, and prints a line for each run.
 //!
-//! Standard input is the rows that `tools/make-rows` writes: bytes that nothing of this workspace made, which calls of
-//! the objects fail, and the words of the commands to run over them. `stdout` beside it has the lines that must come:
-//! they were typed by hand from what the formats say, and of logs that were drawn they were worked out from the rules,
-//! the slow way. A line is the row's name, the status, and what the command printed and what it said of a refusal; or
-//! the name, and what the key file holds or a call below the commands answers.
+//! What it promises, and where to begin: `README.md` in this crate's folder.
 #![tactic(auto)]
 
 mod conditions;

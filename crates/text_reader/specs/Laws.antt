@@ -8,7 +8,8 @@ OneSpelling = (a b : List ℕ) → IsNumber a → IsNumber b → number_of a ≡
 
 -- one more digit, from `0` to `9`, adds its own value to ten times the number before it
 abbrev pub PlaceValue : Type 0
-PlaceValue = (front : List ℕ) (digit : ℕ) → 48 ≤ digit → digit ≤ 57 → number_of (front ++ digit ∷ []) ≡ 10 * number_of front + (digit - 48)
+PlaceValue = (front : List ℕ) (digit : ℕ) → 48 ≤ digit → digit ≤ 57 → number_of (front ++ digit ∷ [])
+    ≡ 10 * number_of front + (digit - 48)
 
 -- each number has a text
 abbrev pub SomeSpelling : Type 0

@@ -1,8 +1,6 @@
 //! The leaves of parsing: each takes something off the front of a text and says exactly what.
 //!
-//! This crate stands on the libraries `hex` and `itoa`. Each leaf has a clause for what it found and a
-//! clause that nothing of the kind stands there, so that a reader above is a row of leaves. The lemmas of
-//! `proofs/Unique.antt` say that what is taken off a text is the only thing that could be.
+//! What it promises, and where to begin: `README.md` in this crate's folder.
 
 #![tactic(auto)]
 

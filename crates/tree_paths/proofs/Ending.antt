@@ -20,8 +20,8 @@ use Rattle.tree_paths.specs.Walks.{Step, judge, no_counts, steps}
 use Rattle.tree_paths.specs.declared.counts.Counts.{Counts}
 use Rattle.tree_paths.specs.declared.counts.Walked.{Walked}
 use Rattle.tree_paths.specs.declared.counts.Walked.TheVariants as walked
-use Rattle.tree_paths.specs.declared.pairs.PairCounts.{PairCounts}
-use Rattle.tree_paths.specs.declared.pairs.Paired.TheVariants as paired
+use Rattle.tree_paths.specs.declared.paired_counts.PairCounts.{PairCounts}
+use Rattle.tree_paths.specs.declared.paired_counts.Paired.TheVariants as paired
 use Rattle.tree_paths.specs.declared.states.Comparison.{Comparison}
 use Rattle.tree_paths.specs.declared.states.Comparison.TheVariants as comparison
 use Rattle.tree_paths.proofs.Differing.{Rising, merge_cost, merge_differs, merge_rises}

@@ -18,7 +18,7 @@ use Rattle.git_object.proofs.TagLemmas as tags
 use Rattle.git_object.proofs.TreeLemmas as trees
 use Rattle.tree_paths.specs.Readings.{AreReadings, IsCommitOf, IsHeadAt, IsTagOf, IsTreeAt, Readings}
 use Rattle.tree_paths.specs.Repositories.{commit_read, head_in, head_of_kind, readings_of, tag_read, tree_in, tree_of_kind, tree_read}
-use Rattle.tree_paths.specs.declared.heads.Head.TheVariants.{Other}
+use Rattle.tree_paths.specs.declared.heads.TargetHead.TheVariants.{Other}
 use Rattle.tree_paths.proofs.ObjectsRead.{same_pair}
 
 module _ (r : Repository) (id : List ℕ) where

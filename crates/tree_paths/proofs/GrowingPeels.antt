@@ -10,8 +10,8 @@ use Rattle.tree_paths.specs.Walks.{judge, no_counts, steps}
 use Rattle.tree_paths.specs.declared.counts.Counts.{Counts}
 use Rattle.tree_paths.specs.declared.counts.Walked.{Walked}
 use Rattle.tree_paths.specs.declared.counts.Walked.TheVariants as walked
-use Rattle.tree_paths.specs.declared.heads.Head.{Head}
-use Rattle.tree_paths.specs.declared.heads.Head.TheVariants.{Next, Other, Root}
+use Rattle.tree_paths.specs.declared.heads.TargetHead.{TargetHead}
+use Rattle.tree_paths.specs.declared.heads.TargetHead.TheVariants.{Next, Other, Root}
 use Rattle.tree_paths.specs.declared.heads.Peeled.{Peeled}
 use Rattle.tree_paths.specs.declared.heads.Peeled.TheVariants.{At, Bad, Nothing}
 use Rattle.tree_paths.specs.Growing.{MoreHeads, MoreReadings}
@@ -33,7 +33,7 @@ module _ (few more : Heads) (grown : MoreHeads few more) where
     by_test true object names e = all object names e
     by_test false object names e = not_bad id p (Bad id ≡ p) e good
 
-    by_head : (h : Head) → few id ≡ h → peel_step next id wanted h ≡ p → peel_step after id wanted (more id) ≡ p
+    by_head : (h : TargetHead) → few id ≡ h → peel_step next id wanted h ≡ p → peel_step after id wanted (more id) ≡ p
     by_head Other is e = not_bad id p (peel_step after id wanted (more id) ≡ p) e good
     by_head (Root tree) is e = ap (peel_step after id wanted) (grown.roots id tree is) ∙ e
     by_head (Next object names) is e = ap (peel_step after id wanted) (grown.nexts id object names is) ∙ by_test (may_be_tag wanted) object names e

@@ -7,8 +7,8 @@ use Rattle.git_object.specs.declared.trees.TreeEntry.{TreeEntry}
 use Rattle.tree_paths.specs.Known.{AreKnownIn}
 use Rattle.tree_paths.specs.Readings.{AreReadings, Readings}
 use Rattle.tree_paths.specs.Repositories.{head_in, readings_of, tree_in}
-use Rattle.tree_paths.specs.declared.heads.Head.{Head}
-use Rattle.tree_paths.specs.declared.heads.Head.TheVariants.{Next, Other, Root}
+use Rattle.tree_paths.specs.declared.heads.TargetHead.{TargetHead}
+use Rattle.tree_paths.specs.declared.heads.TargetHead.TheVariants.{Next, Other, Root}
 use Rattle.tree_paths.specs.declared.known_trees.KnownTrees.{KnownTrees}
 use Rattle.tree_paths.proofs.Existence.{are_readings, one_reading}
 use Rattle.keeper_api.specs.Growing.{Keeps, Larger}

@@ -1,4 +1,5 @@
 pub mod ObjectsRead
+pub mod Blobs
 pub mod Judging
 pub mod Merging
 pub mod Pieces
@@ -18,3 +19,6 @@ pub mod Rows
 pub mod GrowingWalks
 pub mod GrowingPeels
 pub mod GrowingReadings
+pub mod BadHeads
+pub mod BadSteps
+pub mod Breaking

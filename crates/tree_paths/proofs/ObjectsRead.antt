@@ -18,8 +18,8 @@ use Rattle.git_object.proofs.TagLemmas as tags
 use Rattle.git_object.proofs.TreeLemmas as trees
 use Rattle.tree_paths.specs.Readings.{IsCommitOf, IsHeadAt, IsOther, IsTagOf, IsTreeAt, Readings, Told}
 use Rattle.tree_paths.specs.Walks.{listed}
-use Rattle.tree_paths.specs.declared.heads.Head.{Head}
-use Rattle.tree_paths.specs.declared.heads.Head.TheVariants.{Next, Other, Root}
+use Rattle.tree_paths.specs.declared.heads.TargetHead.{TargetHead}
+use Rattle.tree_paths.specs.declared.heads.TargetHead.TheVariants.{Next, Other, Root}
 
 -- what is read now of what is held was read of it before
 pub kept_told : {before after : Option Repository} (readings : Readings) → Stays before after → Told after readings → Told before readings
@@ -71,28 +71,28 @@ module _ (r : Repository) (id : List ℕ) where
       tags.apart at.tag pair.body place (subst (λ (p : Pair). IsTagText at.tag p.body) (sym (same_pair r id pair at.pair has at.kept)) at.text) bad
 
   -- where neither a commit nor a tag is there, nothing else is read
-  no_head : (head : Head) → IsOther r id → IsHeadAt r id head → Other ≡ head
+  no_head : (head : TargetHead) → IsOther r id → IsHeadAt r id head → Other ≡ head
   no_head Other other at = refl
   no_head (Root tree) other at = absurd (other.no_commit tree at)
   no_head (Next object names) other at = absurd (other.no_tag object names at)
 
-  pub head_missing : (head : Head) → ((pair : Pair) → HasObject r id pair → ⊥) → IsHeadAt r id head → Other ≡ head
+  pub head_missing : (head : TargetHead) → ((pair : Pair) → HasObject r id pair → ⊥) → IsHeadAt r id head → Other ≡ head
   head_missing head none at =
       no_head head (record { no_commit = λ tree is. none is.pair is.kept; no_tag = λ object names is. none is.pair is.kept }) at
 
-  pub head_other : (pair : Pair) (head : Head) → HasObject r id pair → (pair.kind ≡ kind.Commit → ⊥) → (pair.kind ≡ kind.Tag → ⊥) → IsHeadAt r id head → Other ≡ head
+  pub head_other : (pair : Pair) (head : TargetHead) → HasObject r id pair → (pair.kind ≡ kind.Commit → ⊥) → (pair.kind ≡ kind.Tag → ⊥) → IsHeadAt r id head → Other ≡ head
   head_other pair head has a b at =
       no_head head (record { no_commit = no_commit_other pair has a; no_tag = no_tag_other pair has b }) at
 
-  pub commit_bad : (pair : Pair) (place : ℕ) (head : Head) → HasObject r id pair → pair.kind ≡ kind.Commit → IsCommitFault pair.body place → IsHeadAt r id head → Other ≡ head
+  pub commit_bad : (pair : Pair) (place : ℕ) (head : TargetHead) → HasObject r id pair → pair.kind ≡ kind.Commit → IsCommitFault pair.body place → IsHeadAt r id head → Other ≡ head
   commit_bad pair place head has is bad at =
       no_head head (record { no_commit = no_commit_bad pair place has bad; no_tag = no_tag_other pair has (λ e. let f = sym is ∙ e in cc) }) at
 
-  pub tag_bad : (pair : Pair) (place : ℕ) (head : Head) → HasObject r id pair → pair.kind ≡ kind.Tag → IsTagFault pair.body place → IsHeadAt r id head → Other ≡ head
+  pub tag_bad : (pair : Pair) (place : ℕ) (head : TargetHead) → HasObject r id pair → pair.kind ≡ kind.Tag → IsTagFault pair.body place → IsHeadAt r id head → Other ≡ head
   tag_bad pair place head has is bad at =
       no_head head (record { no_commit = no_commit_other pair has (λ e. let f = sym is ∙ e in cc); no_tag = no_tag_bad pair place has bad }) at
 
-  pub commit_there : (pair : Pair) (commit : Commit) (head : Head) → HasObject r id pair → pair.kind ≡ kind.Commit → IsCommitText commit pair.body → IsHeadAt r id head → Root commit.tree ≡ head
+  pub commit_there : (pair : Pair) (commit : Commit) (head : TargetHead) → HasObject r id pair → pair.kind ≡ kind.Commit → IsCommitText commit pair.body → IsHeadAt r id head → Root commit.tree ≡ head
   commit_there pair commit Other has is text at =
       absurd (at.no_commit commit.tree (record { pair = pair; kept = has; kind_is = is; commit = commit; text = text; tree_is = refl }))
   commit_there pair commit (Root tree) has is text at =
@@ -102,7 +102,7 @@ module _ (r : Repository) (id : List ℕ) where
   commit_there pair commit (Next object names) has is text at =
       let e : kind.Commit ≡ kind.Tag = sym is ∙ ap (λ (p : Pair). p.kind) (same_pair r id pair at.pair has at.kept) ∙ at.kind_is in cc
 
-  pub tag_there : (pair : Pair) (tag : Tag) (head : Head) → HasObject r id pair → pair.kind ≡ kind.Tag → IsTagText tag pair.body → IsHeadAt r id head → Next tag.object tag.kind ≡ head
+  pub tag_there : (pair : Pair) (tag : Tag) (head : TargetHead) → HasObject r id pair → pair.kind ≡ kind.Tag → IsTagText tag pair.body → IsHeadAt r id head → Next tag.object tag.kind ≡ head
   tag_there pair tag Other has is text at =
       absurd (at.no_tag tag.object tag.kind (record { pair = pair; kept = has; kind_is = is; tag = tag; text = text; object_is = refl; names_is = refl }))
   tag_there pair tag (Root tree) has is text at =

@@ -3,22 +3,22 @@ use Rattle.std.proofs.Common.{◌≡◌, ℕ, zero, suc, ◌-◌, Bool, true, fa
 use Rattle.git_object.specs.declared.kinds.Kind.{Kind}
 use Rattle.tree_paths.specs.Readings.{Heads}
 use Rattle.tree_paths.specs.States.{may_be_commit, may_be_tag, peel_step, peeled}
-use Rattle.tree_paths.specs.declared.heads.Head.{Head}
-use Rattle.tree_paths.specs.declared.heads.Head.TheVariants.{Next, Other, Root}
+use Rattle.tree_paths.specs.declared.heads.TargetHead.{TargetHead}
+use Rattle.tree_paths.specs.declared.heads.TargetHead.TheVariants.{Next, Other, Root}
 use Rattle.tree_paths.specs.declared.heads.Peeled.{Peeled}
 use Rattle.tree_paths.specs.declared.heads.Peeled.TheVariants.{At, Bad}
 
-abbrev next_of : Heads → ℕ → List ℕ → List ℕ → Kind → Peeled
+abbrev pub next_of : Heads → ℕ → List ℕ → List ℕ → Kind → Peeled
 next_of heads zero id object names = Bad id
 next_of heads (suc n) id object names = peeled heads n (Some names) object
 
-peeled_at : (heads : Heads) (n : ℕ) (wanted : Option Kind) (id : List ℕ) → peeled heads n wanted id ≡ peel_step (next_of heads n id) id wanted (heads id)
+pub peeled_at : (heads : Heads) (n : ℕ) (wanted : Option Kind) (id : List ℕ) → peeled heads n wanted id ≡ peel_step (next_of heads n id) id wanted (heads id)
 unfolding peeled
 peeled_at heads zero wanted id = refl
 peeled_at heads (suc n) wanted id = refl
 
 module _ (heads : Heads) (n : ℕ) (wanted : Option Kind) (id : List ℕ) where
-  at : (head : Head) → head ≡ heads id → peel_step (next_of heads n id) id wanted head ≡ peeled heads n wanted id
+  at : (head : TargetHead) → head ≡ heads id → peel_step (next_of heads n id) id wanted head ≡ peeled heads n wanted id
   at head is = ap (peel_step (next_of heads n id) id wanted) is ∙ sym (peeled_at heads n wanted id)
 
   pub peel_other : Other ≡ heads id → Bad id ≡ peeled heads n wanted id

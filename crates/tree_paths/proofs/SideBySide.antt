@@ -7,9 +7,9 @@ use Rattle.tree_paths.specs.Listings.{leaves}
 use Rattle.tree_paths.specs.Pairings.{Goes, IfBoth}
 use Rattle.tree_paths.specs.declared.counts.Walked.{Walked}
 use Rattle.tree_paths.specs.declared.counts.Walked.TheVariants.{Broken, Counted}
-use Rattle.tree_paths.specs.declared.pairs.PairCounts.{PairCounts}
-use Rattle.tree_paths.specs.declared.pairs.Paired.{Paired}
-use Rattle.tree_paths.specs.declared.pairs.Paired.TheVariants.{FromBroken, ToBroken, BothCounted}
+use Rattle.tree_paths.specs.declared.paired_counts.PairCounts.{PairCounts}
+use Rattle.tree_paths.specs.declared.paired_counts.Paired.{Paired}
+use Rattle.tree_paths.specs.declared.paired_counts.Paired.TheVariants.{FromBroken, ToBroken, BothCounted}
 use Rattle.tree_paths.proofs.Judging.{judge_append, judge_open, piece_of}
 
 pub both_is : (P : PairCounts → Type 0) (w : Paired) (c : PairCounts) → IfBoth w P → w ≡ BothCounted c → P c

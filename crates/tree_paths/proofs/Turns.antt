@@ -15,8 +15,8 @@ use Rattle.tree_paths.specs.Places.{AreAfter, AreAtOne, AreDone, IsNext, Kept, O
 use Rattle.tree_paths.specs.declared.counts.Counts.{Counts}
 use Rattle.tree_paths.specs.declared.counts.Walked.{Walked}
 use Rattle.tree_paths.specs.declared.counts.Walked.TheVariants.{Broken, Counted}
-use Rattle.tree_paths.specs.declared.pairs.PairCounts.{PairCounts}
-use Rattle.tree_paths.specs.declared.pairs.Paired.TheVariants.{BothCounted}
+use Rattle.tree_paths.specs.declared.paired_counts.PairCounts.{PairCounts}
+use Rattle.tree_paths.specs.declared.paired_counts.Paired.TheVariants.{BothCounted}
 use Rattle.tree_paths.proofs.Judging.{leaf_cut, piece_of}
 use Rattle.tree_paths.proofs.Merging.{Ahead, changes_append, cost_append, merge_pieces, merge_place}
 use Rattle.tree_paths.proofs.Order.{GoesUnder, before_rest, formed_tail, piece_ahead, same_kind}

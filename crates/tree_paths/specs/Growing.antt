@@ -3,7 +3,7 @@ use Rattle.std.specs.Prelude.{◌≡◌, ℕ, List}
 use Rattle.git_object.specs.declared.kinds.Kind.{Kind}
 use Rattle.keeper_api.specs.Growing.{Keeps}
 use Rattle.tree_paths.specs.Readings.{Heads, Readings, Trees}
-use Rattle.tree_paths.specs.declared.heads.Head.TheVariants.{Next, Root}
+use Rattle.tree_paths.specs.declared.heads.TargetHead.TheVariants.{Next, Root}
 
 -- each tree that is read in the first is read in the second, with the same entries
 abbrev pub MoreTrees : Trees → Trees → Type 0

@@ -23,8 +23,10 @@ pub record Names (entries : List TreeEntry) (name : List ℕ) (e : TreeEntry) (d
 -- from this tree, directories of all names but the last lead to an entry of the last name, of this mode and id
 abbrev pub Leads : Trees → List (List ℕ) → List ℕ → Mode → List ℕ → Type 0
 Leads trees [] tree mode id = ⊥
-Leads trees (name ∷ []) tree mode id = (e : TreeEntry) × Names (listed (trees tree)) name e false × (e.mode ≡ mode) × (e.id ≡ id)
-Leads trees (name ∷ next ∷ names) tree mode id = (e : TreeEntry) × Names (listed (trees tree)) name e true × Leads trees (next ∷ names) e.id mode id
+Leads trees (name ∷ []) tree mode id = (e : TreeEntry) × Names (listed (trees tree)) name e false × (e.mode ≡ mode)
+    × (e.id ≡ id)
+Leads trees (name ∷ next ∷ names) tree mode id = (e : TreeEntry) × Names (listed (trees tree)) name e true
+    × Leads trees (next ∷ names) e.id mode id
 
 -- names joined by slashes
 abbrev pub join : List (List ℕ) → List ℕ
@@ -35,5 +37,7 @@ join (name ∷ next ∷ names) = name ++ 47 ∷ join (next ∷ names)
 -- where the walk of a root counts, its map has at a path exactly the value to which trees lead by the path's names
 abbrev pub IsMapOfTrees : Trees → List ℕ → Type 0
 IsMapOfTrees trees root =
-    (c : Counts) (path : List ℕ) (mode : Mode) (id : List ℕ) → judge trees (steps trees 32 [] root) no_counts ≡ Counted c
-    → (get (path_map (steps trees 32 [] root)) path ≡ Some (mode, id)) ↔ ((names : List (List ℕ)) × (path ≡ join names) × Leads trees names root mode id)
+    (c : Counts) (path : List ℕ) (mode : Mode) (id : List ℕ) → judge trees (steps trees 32 [] root) no_counts
+    ≡ Counted c
+    → (get (path_map (steps trees 32 [] root)) path ≡ Some (mode, id)) ↔ ((names : List (List ℕ)) × (path ≡ join names)
+    × Leads trees names root mode id)

@@ -19,8 +19,12 @@ pub mod Leading
 -- what stands at a path of a tree, and the readings of a repository
 pub mod Lookups
 pub mod Repositories
+-- the bytes of a blob
+pub mod Blobs
 -- What steps add to counts, and what is known of trees.
 pub mod Adding
 pub mod Known
 -- What is read in larger repositories.
 pub mod Growing
+-- Where a target is broken, read aloud.
+pub mod Broken

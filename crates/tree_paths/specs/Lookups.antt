@@ -27,4 +27,5 @@ from_dir next value = (if is_dir value.0 then next value.1 else None)
 abbrev pub entry_at : Trees → List (List ℕ) → List ℕ → Option PathValue
 entry_at trees [] tree = None
 entry_at trees (name ∷ []) tree = value_named trees tree name
-entry_at trees (name ∷ next ∷ names) tree = option_and_then (from_dir (entry_at trees (next ∷ names))) (value_named trees tree name)
+entry_at trees (name ∷ next ∷ names) tree = option_and_then (from_dir (entry_at trees (next ∷ names)))
+    (value_named trees tree name)

@@ -1,5 +1,6 @@
 -- Two walks side by side: their steps paired place by place.
-use Rattle.std.specs.Prelude.{◌≡◌, ◌≤◌, ◌+◌, ◌==◌, ◌&&◌, ◌++◌, ◌∷◌, [], ℕ, Bool, true, false, cond, List, Option, Some, None}
+use Rattle.std.specs.Prelude.{◌≡◌, ◌≤◌, ◌+◌, ◌==◌, ◌&&◌, ◌++◌, ◌∷◌, [], ℕ, Bool, true, false, cond, List, Option, Some}
+use Rattle.std.specs.Prelude.{None}
 use Rattle.std.specs.Str.{bytes_eq}
 use Rattle.std.specs.declared.cmp.Ordering.{Ordering}
 use Rattle.std.specs.declared.cmp.Ordering.TheVariants.{Less, Equal, Greater}
@@ -11,9 +12,9 @@ use Rattle.tree_paths.specs.Walks.{IsFew, Leaf, Step, Visit, judge}
 use Rattle.tree_paths.specs.States.{PathValue}
 use Rattle.tree_paths.specs.declared.counts.Walked.{Walked}
 use Rattle.tree_paths.specs.declared.counts.Walked.TheVariants.{Broken, Counted}
-use Rattle.tree_paths.specs.declared.pairs.PairCounts.{PairCounts}
-use Rattle.tree_paths.specs.declared.pairs.Paired.{Paired}
-use Rattle.tree_paths.specs.declared.pairs.Paired.TheVariants as paired
+use Rattle.tree_paths.specs.declared.paired_counts.PairCounts.{PairCounts}
+use Rattle.tree_paths.specs.declared.paired_counts.Paired.{Paired}
+use Rattle.tree_paths.specs.declared.paired_counts.Paired.TheVariants as paired
 
 -- where a step stands
 abbrev pub place : Step → List ℕ
@@ -108,7 +109,8 @@ cost (p ∷ ps) = price p + cost ps
 abbrev pub IsPaired : Trees → List Step → List Step → PairCounts → Paired → Type 0
 IsPaired trees xs ys start (paired.FromBroken id) = judge trees xs start.from ≡ Broken id
 IsPaired trees xs ys start (paired.ToBroken id) = judge trees ys start.to ≡ Broken id
-IsPaired trees xs ys start (paired.BothCounted c) = (judge trees xs start.from ≡ Counted c.from) × (judge trees ys start.to ≡ Counted c.to)
+IsPaired trees xs ys start (paired.BothCounted c) = (judge trees xs start.from ≡ Counted c.from)
+    × (judge trees ys start.to ≡ Counted c.to)
 
 abbrev pub IfBoth : Paired → (PairCounts → Type 0) → Type 0
 IfBoth (paired.FromBroken id) P = Unit {0}
@@ -132,6 +134,7 @@ pub record AreFew (left : ℕ) (c : PairCounts) : Type 0 where
   pub to : IsFew left c.to
 
 -- two walks that began with these counts are judged as what is left of them is from here
-pub record Goes (trees : Trees) (all_from all_to : List Step) (start : PairCounts) (xs ys : List Step) (c : PairCounts) : Type 0 where
+pub record Goes (trees : Trees) (all_from all_to : List Step) (start : PairCounts) (xs ys : List Step)
+    (c : PairCounts) : Type 0 where
   pub first : judge trees all_from start.from ≡ judge trees xs c.from
   pub second : judge trees all_to start.to ≡ judge trees ys c.to

@@ -74,6 +74,7 @@ pub record Kept (left : ℕ) (rest : List TreeEntry) (c : Counts) : Type 0 where
   pub full : length rest ≡ 0 → left < 32 → c.dirs ≤ 32 * c.paths
 
 -- what is still to be added by what is left of two walks
-pub record Rest (all_from all_to : List Step) (paths_start : List (List ℕ)) (reads_start : ℕ) (xs ys : List Step) (paths : List (List ℕ)) (reads : ℕ) : Type 0 where
+pub record Rest (all_from all_to : List Step) (paths_start : List (List ℕ)) (reads_start : ℕ) (xs ys : List Step)
+    (paths : List (List ℕ)) (reads : ℕ) : Type 0 where
   pub changed : paths_start ++ changes (merge all_from all_to) ≡ paths ++ changes (merge xs ys)
   pub spent : reads + cost (merge xs ys) ≤ reads_start + cost (merge all_from all_to)

@@ -10,8 +10,8 @@ use Rattle.git_object.specs.declared.kinds.Kind.TheVariants as kind
 use Rattle.git_object.specs.declared.trees.TreeEntry.{TreeEntry}
 use Rattle.git_object.specs.declared.commits.Commit.{Commit}
 use Rattle.git_object.specs.declared.tags.Tag.{Tag}
-use Rattle.tree_paths.specs.declared.heads.Head.{Head}
-use Rattle.tree_paths.specs.declared.heads.Head.TheVariants.{Next, Other, Root}
+use Rattle.tree_paths.specs.declared.heads.TargetHead.{TargetHead}
+use Rattle.tree_paths.specs.declared.heads.TargetHead.TheVariants.{Next, Other, Root}
 
 -- the entries of the tree at an id, where there is a tree
 abbrev pub Trees : Type 0
@@ -19,7 +19,7 @@ Trees = List ℕ → Option (List TreeEntry)
 
 -- the commit or the tag at an id, where there is one
 abbrev pub Heads : Type 0
-Heads = List ℕ → Head
+Heads = List ℕ → TargetHead
 
 -- the object of this id is a tree with these entries
 pub record IsTreeOf (r : Repository) (id : List ℕ) (entries : List TreeEntry) : Type 0 where
@@ -56,7 +56,7 @@ pub record IsOther (r : Repository) (id : List ℕ) : Type 0 where
   pub no_commit : (tree : List ℕ) → IsCommitOf r id tree → ⊥
   pub no_tag : (object : List ℕ) (names : Kind) → IsTagOf r id object names → ⊥
 
-abbrev pub IsHeadAt : Repository → List ℕ → Head → Type 0
+abbrev pub IsHeadAt : Repository → List ℕ → TargetHead → Type 0
 IsHeadAt r id (Root tree) = IsCommitOf r id tree
 IsHeadAt r id (Next object names) = IsTagOf r id object names
 IsHeadAt r id Other = IsOther r id

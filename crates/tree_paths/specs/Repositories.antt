@@ -14,19 +14,21 @@ use Rattle.git_object.specs.declared.trees.Tree.{Tree}
 use Rattle.git_object.specs.declared.trees.TreeEntry.{TreeEntry}
 use Rattle.git_object.proofs.Totality.{commit_decided, tag_decided, tree_decided}
 use Rattle.tree_paths.specs.Readings.{Readings}
-use Rattle.tree_paths.specs.declared.heads.Head.{Head}
-use Rattle.tree_paths.specs.declared.heads.Head.TheVariants.{Next, Other, Root}
+use Rattle.tree_paths.specs.declared.heads.TargetHead.{TargetHead}
+use Rattle.tree_paths.specs.declared.heads.TargetHead.TheVariants.{Next, Other, Root}
 
 -- each body is a tree's, a commit's, a tag's, or is refused
-abbrev pub tree_read : (body : List ℕ) → ((v : Tree) × IsTreeText v body) ⊎ ((at : ℕ) × IsTreeFault body at) → Option (List TreeEntry)
+abbrev pub tree_read : (body : List ℕ) → ((v : Tree) × IsTreeText v body) ⊎ ((at : ℕ) × IsTreeFault body at)
+    → Option (List TreeEntry)
 tree_read body (inl found) = Some found.0.entries
 tree_read body (inr bad) = None
 
-abbrev pub commit_read : (body : List ℕ) → ((v : Commit) × IsCommitText v body) ⊎ ((at : ℕ) × IsCommitFault body at) → Head
+abbrev pub commit_read : (body : List ℕ) → ((v : Commit) × IsCommitText v body) ⊎ ((at : ℕ) × IsCommitFault body at)
+    → TargetHead
 commit_read body (inl found) = Root found.0.tree
 commit_read body (inr bad) = Other
 
-abbrev pub tag_read : (body : List ℕ) → ((v : Tag) × IsTagText v body) ⊎ ((at : ℕ) × IsTagFault body at) → Head
+abbrev pub tag_read : (body : List ℕ) → ((v : Tag) × IsTagText v body) ⊎ ((at : ℕ) × IsTagFault body at) → TargetHead
 tag_read body (inl found) = Next found.0.object found.0.kind
 tag_read body (inr bad) = Other
 
@@ -36,7 +38,7 @@ tree_of_kind kind.Blob body = None
 tree_of_kind kind.Commit body = None
 tree_of_kind kind.Tag body = None
 
-abbrev pub head_of_kind : Kind → List ℕ → Head
+abbrev pub head_of_kind : Kind → List ℕ → TargetHead
 head_of_kind kind.Commit body = commit_read body (commit_decided body)
 head_of_kind kind.Tag body = tag_read body (tag_decided body)
 head_of_kind kind.Blob body = Other
@@ -46,7 +48,7 @@ abbrev pub tree_in : Option Pair → Option (List TreeEntry)
 tree_in None = None
 tree_in (Some pair) = tree_of_kind pair.kind pair.body
 
-abbrev pub head_in : Option Pair → Head
+abbrev pub head_in : Option Pair → TargetHead
 head_in None = Other
 head_in (Some pair) = head_of_kind pair.kind pair.body
 

@@ -4,7 +4,7 @@ use Rattle.git_object.specs.Ids.{zeros}
 use Rattle.tree_paths.specs.Readings.{Trees}
 use Rattle.tree_paths.specs.States.{Ended, Gone, ended_by}
 use Rattle.tree_paths.specs.Walks.{Step, judge, no_counts, steps}
-use Rattle.tree_paths.specs.declared.pairs.PairCounts.{PairCounts}
+use Rattle.tree_paths.specs.declared.paired_counts.PairCounts.{PairCounts}
 
 abbrev pub no_pair_counts : PairCounts
 no_pair_counts = record { from = no_counts; to = no_counts }

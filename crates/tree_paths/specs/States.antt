@@ -12,8 +12,8 @@ use Rattle.tree_paths.specs.Walks.{Leaf, Step, Visit, judge, no_counts, steps}
 use Rattle.tree_paths.specs.declared.counts.Counts.{Counts}
 use Rattle.tree_paths.specs.declared.counts.Walked.{Walked}
 use Rattle.tree_paths.specs.declared.counts.Walked.TheVariants as walked
-use Rattle.tree_paths.specs.declared.heads.Head.{Head}
-use Rattle.tree_paths.specs.declared.heads.Head.TheVariants.{Next, Other, Root}
+use Rattle.tree_paths.specs.declared.heads.TargetHead.{TargetHead}
+use Rattle.tree_paths.specs.declared.heads.TargetHead.TheVariants.{Next, Other, Root}
 use Rattle.tree_paths.specs.declared.heads.Peeled.{Peeled}
 use Rattle.tree_paths.specs.declared.heads.Peeled.TheVariants.{At, Bad, Nothing}
 use Rattle.tree_paths.specs.declared.states.State.{State}
@@ -37,7 +37,7 @@ may_be_tag (Some kind.Blob) = false
 may_be_tag (Some kind.Tree) = false
 may_be_tag (Some kind.Commit) = false
 
-abbrev pub peel_step : (List ℕ → Kind → Peeled) → List ℕ → Option Kind → Head → Peeled
+abbrev pub peel_step : (List ℕ → Kind → Peeled) → List ℕ → Option Kind → TargetHead → Peeled
 peel_step next id wanted Other = Bad id
 peel_step next id wanted (Root tree) = cond (may_be_commit wanted) (At id tree) (Bad id)
 peel_step next id wanted (Next object names) = cond (may_be_tag wanted) (next object names) (Bad id)

@@ -4,7 +4,7 @@ use git_object::{Kind, ObjectId};
 
 /// A commit with its tree, a tag with the object and the kind that it names, or anything else.
 #[derive(Clone, Copy, Debug, PartialEq, Eq)]
-pub enum Head {
+pub enum TargetHead {
     Other,
     Root(ObjectId),
     Next(ObjectId, Kind),

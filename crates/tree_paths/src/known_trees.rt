@@ -1,6 +1,7 @@
 //! What is known of the trees of a repository.
 
-ghost use Rattle.std.specs.Prelude.{◌≡◌, ◌≤◌, ◌+◌, ◌*◌, ℕ, List, None, Some, if◌then◌else◌, length, min, IfSome, OnErr, OnOk};
+ghost use Rattle.std.specs.Prelude.{◌≡◌, ◌≤◌, ◌+◌, ◌*◌, ℕ, List, None, Some, if◌then◌else◌, length, min, IfSome, OnErr};
+ghost use Rattle.std.specs.Prelude.{OnOk};
 ghost use Rattle.std.specs.BTreeMap as tree;
 ghost use Rattle.std.specs.BTreeMap.{btree_map_len};
 ghost use Rattle.std.specs.Ordering.{is_eq};
@@ -11,10 +12,10 @@ ghost use Rattle.tree_paths.specs.Known.{AreFewKnown, AreKnown, AreKnownIn, HasR
 ghost use Rattle.tree_paths.specs.Pairings.{AreFew, IsPaired};
 ghost use Rattle.tree_paths.specs.Readings.{Trees};
 ghost use Rattle.tree_paths.specs.Walks.{steps};
-ghost use Rattle.tree_paths.specs.declared.pairs.Paired.TheVariants as paired;
+ghost use Rattle.tree_paths.specs.declared.paired_counts.Paired.TheVariants as paired;
 
 use crate::counts::{Counts, add_counts};
-use crate::pairs::PairCounts;
+use crate::paired_counts::PairCounts;
 use git_object::{Memory, ObjectId};
 use std::alloc::Global;
 use std::collections::BTreeMap;
@@ -59,7 +60,8 @@ fn add_row(
     id: &ObjectId,
     row: KnownTree,
 ) -> Result<(), Memory>
-    ensures put { OnOk result ((q : List ℕ) → tree.get by_bytes rows.new q ≡ (if is_eq (by_bytes id.now q) then Some row else tree.get by_bytes rows.old q)) }
+    ensures put { OnOk result ((q : List ℕ)
+        → tree.get by_bytes rows.new q ≡ (if is_eq (by_bytes id.now q) then Some row else tree.get by_bytes rows.old q)) }
     ensures one { OnOk result (btree_map_len rows.new ≤ btree_map_len rows.old + 1) }
     ensures same { OnErr result (rows.new.entries ≡ rows.old.entries) }
 {
@@ -82,7 +84,8 @@ impl KnownTrees {
 
     /// What is known of a tree with so many levels left at a place of so many bytes.
     pub(crate) fn adds_at(&self, id: &ObjectId, left: u32, len: usize) -> Option<Counts>
-        ensures adds { IfSome result (λ adds. (trees : Trees) (front : List ℕ) → AreKnown trees self.now → len ≡ min (length front) 8192 → Adds trees (steps trees left front id.now) adds) }
+        ensures adds { IfSome result (λ adds. (trees : Trees) (front : List ℕ) → AreKnown trees self.now
+            → len ≡ min (length front) 8192 → Adds trees (steps trees left front id.now) adds) }
         ensures none { result ≡ None → IsAt self.now id.now left len → ⊥ }
     {
         let row = self.rows.get(id)?;
@@ -101,8 +104,10 @@ impl KnownTrees {
         len: usize,
         start: PairCounts,
     ) -> Option<PairCounts>
-        ensures counted { IfSome result (λ c. (trees : Trees) (front : List ℕ) → AreKnown trees self.now → len ≡ min (length front) 8192
-            → IsPaired trees (steps trees left front id.now) (steps trees left front id.now) start (paired.BothCounted c)) }
+        ensures counted { IfSome result (λ c. (trees : Trees) (front : List ℕ) → AreKnown trees self.now
+            → len ≡ min (length front) 8192
+            → IsPaired trees (steps trees left front id.now) (steps trees left front id.now) start
+            (paired.BothCounted c)) }
         ensures few { IfSome result (λ c. AreFew left c) }
         ensures more { IfSome result (λ c. start.from.dirs ≤ c.from.dirs) }
     {
@@ -114,7 +119,9 @@ impl KnownTrees {
 
     /// Keeps what a tree adds, unless too many are kept already or there is no memory for it.
     pub(crate) fn keep(&mut self, id: &ObjectId, left: u32, len: usize, adds: Counts)
-        ensures known { (trees : Trees) → AreKnown trees self.old → ((front : List ℕ) → len ≡ min (length front) 8192 → Adds trees (steps trees left front id.now) adds) → AreKnown trees self.new }
+        ensures known { (trees : Trees) → AreKnown trees self.old
+            → ((front : List ℕ) → len ≡ min (length front) 8192 → Adds trees (steps trees left front id.now) adds)
+            → AreKnown trees self.new }
         ensures few { AreFewKnown self.old → AreFewKnown self.new }
         ensures room { HasRoom self.old → HasRoom self.new }
         ensures stay { StayKnown self.old self.new }

@@ -11,7 +11,7 @@ ghost use Rattle.tree_paths.specs.Lookups.{entry_at, entry_named, value_named};
 ghost use Rattle.tree_paths.specs.Readings.{Readings, Told};
 
 use crate::counts::is_dir;
-use crate::loading::load_tree;
+use crate::object_reads::load_tree;
 use git_object::{Mode, ObjectId, TreeEntry};
 use keeper_api::{Keeper, KeeperFault};
 use std::alloc::Global;
@@ -46,7 +46,8 @@ pub fn load_entry<R: Keeper>(
     tree: &ObjectId,
     name: &[u8],
 ) -> Result<Option<(Mode, ObjectId)>, KeeperFault>
-    ensures found { IfOk result (λ found. (readings : Readings) → Told (R.content keeper.new) readings → found ≡ value_named readings.trees tree.now name.now) }
+    ensures found { IfOk result (λ found. (readings : Readings) → Told (R.content keeper.new) readings
+        → found ≡ value_named readings.trees tree.now name.now) }
     ensures same { Undisturbed R.Keeper keeper.old keeper.new }
     ensures cause { HasCause keeper_failed (R.faults keeper.old) (R.faults keeper.new) result }
     ensures reads { R.reads keeper.new ≤ R.reads keeper.old + 1 }
@@ -69,7 +70,8 @@ pub fn load_at<R: Keeper>(
     tree: &ObjectId,
     path: &[u8],
 ) -> Result<Option<(Mode, ObjectId)>, KeeperFault>
-    ensures found { IfOk result (λ found. (readings : Readings) → Told (R.content keeper.new) readings → found ≡ entry_at readings.trees (components path.now) tree.now) }
+    ensures found { IfOk result (λ found. (readings : Readings) → Told (R.content keeper.new) readings
+        → found ≡ entry_at readings.trees (components path.now) tree.now) }
     ensures same { Undisturbed R.Keeper keeper.old keeper.new }
     ensures cause { HasCause keeper_failed (R.faults keeper.old) (R.faults keeper.new) result }
     ensures reads { R.reads keeper.new ≤ R.reads keeper.old + length (components path.now) }

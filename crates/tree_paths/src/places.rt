@@ -44,7 +44,8 @@ pub fn compare_entries(left: &TreeEntry, right: &TreeEntry) -> Ordering
 pub fn next_place<'a>(from: &'a [TreeEntry], to: &'a [TreeEntry]) -> Option<NextPlace<'a>>
     requires formed_from { AreWellFormed from.now }
     requires formed_to { AreWellFormed to.now }
-    ensures found { IfSome result (λ next. IsNext from.now to.now (option_copied next.from) (option_copied next.to) next.rest_from.now next.rest_to.now) }
+    ensures found { IfSome result (λ next. IsNext from.now to.now (option_copied next.from) (option_copied next.to)
+        next.rest_from.now next.rest_to.now) }
     ensures none { IfNone result (AreDone from.now to.now) }
 {
     let Some((first, more_from)) = from.split_first() else {

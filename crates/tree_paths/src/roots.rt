@@ -13,10 +13,10 @@ ghost use Rattle.tree_paths.specs.Roots.{no_pair_counts, root_steps};
 
 use crate::counts::{MOST_LEVELS, Walked, no_counts};
 use crate::known_trees::KnownTrees;
-use crate::listing::list_tree;
-use crate::pairing::pair_trees;
-use crate::pairs::{PairCounts, Paired};
-use crate::passing::pass_tree;
+use crate::paired_counts::{PairCounts, Paired};
+use crate::paired_walk::pair_trees;
+use crate::path_walk::list_tree;
+use crate::shared_tree::pass_tree;
 use crate::sides::same_id;
 use crate::states::Paths;
 use git_object::ObjectId;
@@ -40,7 +40,8 @@ fn list_from<R: Keeper>(
     tree: &ObjectId,
     paths: &mut Paths,
 ) -> Result<Paired, KeeperFault>
-    ensures steps { IfOk result (λ w. (readings : Readings) → Told (R.content keeper.new) readings → IsPaired readings.trees (steps readings.trees 32 [] tree.now) [] no_pair_counts w) }
+    ensures steps { IfOk result (λ w. (readings : Readings) → Told (R.content keeper.new) readings
+        → IsPaired readings.trees (steps readings.trees 32 [] tree.now) [] no_pair_counts w) }
     ensures sides { IfOk result (λ w. IfBoth w (λ c. (readings : Readings) → Told (R.content keeper.new) readings
         → Sides (steps readings.trees 32 [] tree.now) [] paths.old paths.new (R.reads keeper.old) (R.reads keeper.new))) }
     ensures same { Undisturbed R.Keeper keeper.old keeper.new }
@@ -62,7 +63,8 @@ fn list_to<R: Keeper>(
     tree: &ObjectId,
     paths: &mut Paths,
 ) -> Result<Paired, KeeperFault>
-    ensures steps { IfOk result (λ w. (readings : Readings) → Told (R.content keeper.new) readings → IsPaired readings.trees [] (steps readings.trees 32 [] tree.now) no_pair_counts w) }
+    ensures steps { IfOk result (λ w. (readings : Readings) → Told (R.content keeper.new) readings
+        → IsPaired readings.trees [] (steps readings.trees 32 [] tree.now) no_pair_counts w) }
     ensures sides { IfOk result (λ w. IfBoth w (λ c. (readings : Readings) → Told (R.content keeper.new) readings
         → Sides [] (steps readings.trees 32 [] tree.now) paths.old paths.new (R.reads keeper.old) (R.reads keeper.new))) }
     ensures same { Undisturbed R.Keeper keeper.old keeper.new }
@@ -88,9 +90,11 @@ fn pair_both<R: Keeper>(
 ) -> Result<Paired, KeeperFault>
     requires known { (r : Repository) → R.content keeper.old ≡ Some r → AreKnownIn r known.now }
     ensures steps { IfOk result (λ w. (readings : Readings) → Told (R.content keeper.new) readings
-        → IsPaired readings.trees (steps readings.trees 32 [] from.now) (steps readings.trees 32 [] to.now) no_pair_counts w) }
+        → IsPaired readings.trees (steps readings.trees 32 [] from.now) (steps readings.trees 32 [] to.now)
+        no_pair_counts w) }
     ensures sides { IfOk result (λ w. IfBoth w (λ c. (readings : Readings) → Told (R.content keeper.new) readings
-        → Sides (steps readings.trees 32 [] from.now) (steps readings.trees 32 [] to.now) paths.old paths.new (R.reads keeper.old) (R.reads keeper.new))) }
+        → Sides (steps readings.trees 32 [] from.now) (steps readings.trees 32 [] to.now) paths.old paths.new
+        (R.reads keeper.old) (R.reads keeper.new))) }
     ensures same { Undisturbed R.Keeper keeper.old keeper.new }
     ensures cause { HasCause keeper_failed (R.faults keeper.old) (R.faults keeper.new) result }
 {
@@ -124,9 +128,11 @@ pub fn pair_roots<R: Keeper>(
 ) -> Result<Paired, KeeperFault>
     requires known { (r : Repository) → R.content keeper.old ≡ Some r → AreKnownIn r known.now }
     ensures steps { IfOk result (λ w. (readings : Readings) → Told (R.content keeper.new) readings
-        → IsPaired readings.trees (root_steps readings.trees from.now) (root_steps readings.trees to.now) no_pair_counts w) }
+        → IsPaired readings.trees (root_steps readings.trees from.now) (root_steps readings.trees to.now) no_pair_counts
+        w) }
     ensures sides { IfOk result (λ w. IfBoth w (λ c. (readings : Readings) → Told (R.content keeper.new) readings
-        → Sides (root_steps readings.trees from.now) (root_steps readings.trees to.now) paths.old paths.new (R.reads keeper.old) (R.reads keeper.new))) }
+        → Sides (root_steps readings.trees from.now) (root_steps readings.trees to.now) paths.old paths.new
+        (R.reads keeper.old) (R.reads keeper.new))) }
     ensures same { Undisturbed R.Keeper keeper.old keeper.new }
     ensures cause { HasCause keeper_failed (R.faults keeper.old) (R.faults keeper.new) result }
 {

@@ -11,10 +11,10 @@ ghost use Rattle.tree_paths.specs.Pairings.{IfBoth, IsPaired, Sides, changes, me
 ghost use Rattle.tree_paths.specs.Places.{AreAtOne, OnePath};
 
 use crate::counts::{Walked, cut, longer};
-use crate::listing::{list_entry, place_at};
-use crate::pairs::{PairCounts, Paired};
+use crate::double_walk::count_both;
+use crate::paired_counts::{PairCounts, Paired};
+use crate::path_walk::{list_entry, place_at};
 use crate::states::Paths;
-use crate::twice::count_both;
 use git_object::{Memory, Mode, ObjectId, TreeEntry};
 use keeper_api::{Keeper, KeeperFault};
 use std::alloc::Global;
@@ -62,9 +62,11 @@ pub fn take_from<R: Keeper>(
     requires few { counts.from.paths ≤ 262144 }
     requires room { counts.from.dirs + left ≤ 32 * counts.from.paths + 33 }
     ensures steps { IfOk result (λ w. (readings : Readings) → Told (R.content keeper.new) readings
-        → IsPaired readings.trees (entry_steps (steps readings.trees (left - 1)) holder.now front.now entry.now (is_dir entry.now.mode)) [] counts w) }
+        → IsPaired readings.trees (entry_steps (steps readings.trees (left - 1)) holder.now front.now entry.now
+        (is_dir entry.now.mode)) [] counts w) }
     ensures sides { IfOk result (λ w. IfBoth w (λ c. (readings : Readings) → Told (R.content keeper.new) readings
-        → Sides (entry_steps (steps readings.trees (left - 1)) holder.now front.now entry.now (is_dir entry.now.mode)) [] paths.old paths.new (R.reads keeper.old) (R.reads keeper.new))) }
+        → Sides (entry_steps (steps readings.trees (left - 1)) holder.now front.now entry.now (is_dir entry.now.mode))
+        [] paths.old paths.new (R.reads keeper.old) (R.reads keeper.new))) }
     ensures few { IfOk result (λ w. IfBoth w (λ c. IsFew 0 c.from)) }
     ensures other { IfOk result (λ w. IfBoth w (λ c. c.to ≡ counts.to)) }
     ensures same { Undisturbed R.Keeper keeper.old keeper.new }
@@ -104,9 +106,11 @@ pub fn take_to<R: Keeper>(
     requires few { counts.to.paths ≤ 262144 }
     requires room { counts.to.dirs + left ≤ 32 * counts.to.paths + 33 }
     ensures steps { IfOk result (λ w. (readings : Readings) → Told (R.content keeper.new) readings
-        → IsPaired readings.trees [] (entry_steps (steps readings.trees (left - 1)) holder.now front.now entry.now (is_dir entry.now.mode)) counts w) }
+        → IsPaired readings.trees [] (entry_steps (steps readings.trees (left - 1)) holder.now front.now entry.now
+        (is_dir entry.now.mode)) counts w) }
     ensures sides { IfOk result (λ w. IfBoth w (λ c. (readings : Readings) → Told (R.content keeper.new) readings
-        → Sides [] (entry_steps (steps readings.trees (left - 1)) holder.now front.now entry.now (is_dir entry.now.mode)) paths.old paths.new (R.reads keeper.old) (R.reads keeper.new))) }
+        → Sides [] (entry_steps (steps readings.trees (left - 1)) holder.now front.now entry.now
+        (is_dir entry.now.mode)) paths.old paths.new (R.reads keeper.old) (R.reads keeper.new))) }
     ensures few { IfOk result (λ w. IfBoth w (λ c. IsFew 0 c.to)) }
     ensures other { IfOk result (λ w. IfBoth w (λ c. c.from ≡ counts.from)) }
     ensures same { Undisturbed R.Keeper keeper.old keeper.new }
@@ -137,9 +141,12 @@ pub fn pair_leaves(
     requires few_from { counts.from.paths ≤ 262144 }
     requires few_to { counts.to.paths ≤ 262144 }
     ensures steps { IfOk result (λ w. (trees : Trees) (into : List ℕ → List ℕ → List Step)
-        → IsPaired trees (entry_steps into from.now front.now first.now (is_dir first.now.mode)) (entry_steps into to.now front.now second.now (is_dir second.now.mode)) counts w) }
+        → IsPaired trees (entry_steps into from.now front.now first.now (is_dir first.now.mode))
+        (entry_steps into to.now front.now second.now (is_dir second.now.mode)) counts w) }
     ensures changed { IfOk result (λ w. IfBoth w (λ c. (into : List ℕ → List ℕ → List Step)
-        → paths.new ≡ paths.old ++ changes (merge (entry_steps into from.now front.now first.now (is_dir first.now.mode)) (entry_steps into to.now front.now second.now (is_dir second.now.mode))))) }
+        → paths.new ≡ paths.old ++ changes
+        (merge (entry_steps into from.now front.now first.now (is_dir first.now.mode))
+        (entry_steps into to.now front.now second.now (is_dir second.now.mode))))) }
     ensures counted { IfOk result (λ w. IfBoth w (λ c. OnePath counts.from c.from × OnePath counts.to c.to)) }
 {
     match count_both(from, to, counts, longer(cut(front.len()), first)) {

@@ -10,8 +10,8 @@ ghost use Rattle.tree_paths.specs.Listings.{walk_visits};
 
 use crate::counts::{MOST_LEVELS, Walked, no_counts};
 use crate::heads::Peeled;
-use crate::peeling::root_of;
-use crate::walking::walk_tree;
+use crate::peeled_targets::root_of;
+use crate::tree_walk::walk_tree;
 use git_object::ObjectId;
 use keeper_api::{Keeper, KeeperFault};
 use octets::{Items, Octets};
@@ -62,11 +62,14 @@ pub fn state_of<R: Keeper>(
     keeper: &mut R,
     target: &ObjectId,
 ) -> Result<State, KeeperFault>
-    ensures state { IfOk result (λ state. (readings : Readings) → Told (R.content keeper.new) readings → state ≡ state_at (walk_of readings target.now)) }
+    ensures state { IfOk result (λ state. (readings : Readings) → Told (R.content keeper.new) readings
+        → state ≡ state_at (walk_of readings target.now)) }
     ensures same { Undisturbed R.Keeper keeper.old keeper.new }
     ensures cause { HasCause keeper_failed (R.faults keeper.old) (R.faults keeper.new) result }
-    ensures reads { IfOk result (λ state. IfWhole state (λ paths dirs. R.reads keeper.new ≤ R.reads keeper.old + 9 + dirs)) }
-    ensures visited { (readings : Readings) → Told (R.content keeper.new) readings → R.reads keeper.new ≤ R.reads keeper.old + 9 + walk_visits readings target.now }
+    ensures reads { IfOk result (λ state. IfWhole state (λ paths dirs. R.reads keeper.new ≤ R.reads keeper.old + 9
+        + dirs)) }
+    ensures visited { (readings : Readings) → Told (R.content keeper.new) readings
+        → R.reads keeper.new ≤ R.reads keeper.old + 9 + walk_visits readings target.now }
 {
     match root_of(alloc, keeper, target)? {
         Peeled::Nothing => Ok(State::Absent),

@@ -32,7 +32,7 @@ module _ (anchor : Option (List (List ℕ))) (r : Repository) where
   abbrev taken : Entry → Taken
   taken entry = record { entry = entry; repository = r }
 
-  one_more : (current : Option Policy) (entry : Entry) → judged.next_policy (real_rules anchor) current (taken entry) ≡ next_in anchor r current entry
+  pub one_more : (current : Option Policy) (entry : Entry) → judged.next_policy (real_rules anchor) current (taken entry) ≡ next_in anchor r current entry
   one_more current entry = by_kind (is_of entry.body policy_name) current (policy_of r (target_of entry.body))
 
   in_both : (current : Option Policy) (entries : List Entry) → fold (judged.next_policy (real_rules anchor)) current (map taken entries) ≡ fold (next_in anchor r) current entries

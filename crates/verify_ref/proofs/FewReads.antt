@@ -24,7 +24,7 @@ use Rattle.tree_paths.specs.declared.states.State.TheVariants as state
 use Rattle.tree_paths.proofs.Pieces.{counted_dirs}
 use Rattle.judging.specs.Decisions.{decision_reads}
 use Rattle.judging.specs.Logs.{attested_after, from, policy_after}
-use Rattle.judging.specs.Reading.{body_bounded, body_reads, is_bounded, may_rescue}
+use Rattle.judging.specs.Reads.{body_bounded, body_reads, is_bounded, may_rescue}
 use Rattle.judging.specs.Rules.{Rules}
 use Rattle.policy_epochs.specs.declared.policies.Policy.{Policy}
 use Rattle.policy_reading.specs.Policies.{file_reads, policy_reads}

@@ -5,7 +5,7 @@ use Rattle.git_object.specs.Repository.{Repository}
 use Rattle.rsl_chain.specs.Entries.{Taken}
 use Rattle.rsl_chain.specs.declared.entries.Entry.{Entry}
 use Rattle.rsl_chain.specs.Logs.{entry_at}
-use Rattle.judging.specs.Reading.{is_bounded}
+use Rattle.judging.specs.Reads.{is_bounded}
 use Rattle.judging.specs.Rules.{Rules}
 use Rattle.policy_epochs.specs.declared.policies.Policy.{Policy}
 use Rattle.entry_rules.specs.declared.faults.Fault.{Fault}

@@ -3,3 +3,4 @@ pub mod OneVerdict
 pub mod Growing
 pub mod FewReads
 mod Agreeing
+mod InEach

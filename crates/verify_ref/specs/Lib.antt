@@ -8,3 +8,5 @@ pub mod Verdicts
 pub mod Lines
 -- what an engine followed that takes entries as they come
 pub mod Following
+-- the one list of the epochs of a log
+pub mod OneList

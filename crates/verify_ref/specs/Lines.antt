@@ -22,5 +22,7 @@ fault_words (NotEpoch why) = codes "not-epoch " ++ fault_text why
 
 unfoldable pub line : List ℕ → Verdict Fault → List ℕ
 line name (Accepted count) = codes "accepted " ++ name ++ codes " " ++ decimal count ++ codes " entries\n"
-line name (TipDiffers kept recorded) = codes "tip-differs " ++ name ++ codes " kept " ++ encode_lower kept ++ codes " recorded " ++ encode_lower recorded ++ codes "\n"
-line name (Violation number fault) = codes "violation " ++ name ++ codes " " ++ decimal number ++ codes " " ++ fault_words fault ++ codes "\n"
+line name (TipDiffers kept recorded) = codes "tip-differs " ++ name ++ codes " kept " ++ encode_lower kept
+    ++ codes " recorded " ++ encode_lower recorded ++ codes "\n"
+line name (Violation number fault) = codes "violation " ++ name ++ codes " " ++ decimal number ++ codes " "
+    ++ fault_words fault ++ codes "\n"

@@ -1,5 +1,6 @@
 -- The entries of a repository's log, each to be judged in that repository.
-use Rattle.std.specs.Prelude.{◌≡◌, ◌≢◌, ◌+◌, ◌++◌, ◌∷◌, ◌==◌, ◌&&◌, [], ℕ, Bool, false, not, List, length, Option, Some, map}
+use Rattle.std.specs.Prelude.{◌≡◌, ◌≢◌, ◌+◌, ◌++◌, ◌∷◌, ◌==◌, ◌&&◌, [], ℕ, Bool, false, not, List, length, Option, Some}
+use Rattle.std.specs.Prelude.{map}
 use Rattle.std.specs.List.{AllByRecursion}
 use Rattle.std.specs.Option.{option_map}
 use Rattle.git_object.specs.Repository.{Repository}
@@ -29,10 +30,12 @@ abbrev pub comes_next : Engine Policy Fault → Entry → Bool
 comes_next engine entry = (entry.number == taken engine + 1) && not (has_taken engine entry.id)
 
 -- the entry at the id is taken
-pub record TakesNext (rules : Rules Policy Fault) (r : Repository) (id : List ℕ) (was now : Engine Policy Fault) : Type 0 where
+pub record TakesNext (rules : Rules Policy Fault) (r : Repository) (id : List ℕ) (was now : Engine Policy Fault) : Type
+    0 where
   pub entry : Entry
   pub there : entry_at r id ≡ Some entry
-  pub stands : (log : List Taken) → Stands rules log was → Stands rules (log ++ record { entry = entry; repository = r } ∷ []) now
+  pub stands : (log : List Taken) → Stands rules log was
+      → Stands rules (log ++ record { entry = entry; repository = r } ∷ []) now
 
 -- where a break is answered, what stands at the id is not the next entry
 abbrev pub IsAstray : Repository → Engine Policy Fault → List ℕ → LogFault → Type 0

@@ -11,9 +11,11 @@ use Rattle.entry_rules.specs.declared.faults.Fault.{Fault}
 use Rattle.entry_rules.specs.RealRules.{real_rules}
 use Rattle.verify_ref.specs.Logs.{AreEntries}
 
--- the repository has a log, and by its entries, each judged in the repository, this is the verdict on the reference at the
+-- the repository has a log, and by its entries, each judged in the repository, this is the verdict on the reference at
+-- the
 -- value that it has
-pub record IsVerdict (r : Repository) (name : List ℕ) (anchor : Option (List (List ℕ))) (verdict : Verdict Fault) : Type 0 where
+pub record IsVerdict (r : Repository) (name : List ℕ) (anchor : Option (List (List ℕ))) (verdict : Verdict Fault) : Type
+    0 where
   pub ids : List (List ℕ)
   pub is_log : IsLogOf r ids
   pub log : List Taken

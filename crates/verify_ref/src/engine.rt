@@ -10,7 +10,7 @@ ghost use Rattle.rsl_chain.specs.Entries.{Taken};
 ghost use Rattle.tree_paths.specs.Known.{AreKnownIn};
 ghost use Rattle.judging.specs.Engines.{has_taken, taken};
 ghost use Rattle.judging.specs.Logs.{entry_at, is_entry_of, last_signers, policy_after, prior_target, skipped};
-ghost use Rattle.judging.specs.Reading.{decision_reads_of, is_bounded};
+ghost use Rattle.judging.specs.Reads.{decision_reads_of, is_bounded};
 ghost use Rattle.judging.specs.Verdicts.{IsJudged, verdict_of};
 ghost use Rattle.entry_rules.specs.RealRules.{real_rules};
 ghost use Rattle.verify_ref.specs.Following.{Follows, TakesOne};
@@ -71,7 +71,8 @@ impl Engine {
 
     /// The target of a reference's last entry that is not skipped, by the entries taken.
     pub fn prior_target(&self, name: &RefName) -> Option<ObjectId>
-        ensures { (log : List Taken) → Follows log self.now → result ≡ prior_target (real_rules self.now.rules.anchor) log name.now }
+        ensures { (log : List Taken) → Follows log self.now
+            → result ≡ prior_target (real_rules self.now.rules.anchor) log name.now }
     {
         self.entries.prior_target(name)
     }
@@ -88,7 +89,8 @@ impl Engine {
         requires next { entry.now.number ≡ taken self.old.entries + 1 }
         requires fresh { has_taken self.old.entries entry.now.id ≡ false }
         requires known { (r : Repository) → R.content keeper.old ≡ Some r → AreKnownIn r self.old.known }
-        ensures taken { IfOk result (λ verdict. (r : Repository) (log : List Taken) → R.content keeper.new ≡ Some r → Follows log self.old
+        ensures taken { IfOk result (λ verdict. (r : Repository) (log : List Taken) → R.content keeper.new ≡ Some r
+            → Follows log self.old
             → TakesOne log (record { entry = entry.now; repository = r }) self.new verdict) }
         ensures count { OnOk result (taken self.new.entries ≡ entry.now.number) }
         ensures refused { OnErr result ((log : List Taken) → Follows log self.old → Follows log self.new) }
@@ -96,9 +98,11 @@ impl Engine {
         ensures known { (r : Repository) → R.content keeper.new ≡ Some r → AreKnownIn r self.new.known }
         ensures same { Undisturbed R.Keeper keeper.old keeper.new }
         ensures cause { HasCause keeper_failed (R.faults keeper.old) (R.faults keeper.new) result }
-        ensures reads { OnOk result ((r : Repository) (log : List Taken) → R.content keeper.new ≡ Some r → Follows log self.old
+        ensures reads { OnOk result ((r : Repository) (log : List Taken) → R.content keeper.new ≡ Some r
+            → Follows log self.old
             → is_bounded (real_rules self.old.rules.anchor) log (record { entry = entry.now; repository = r }) ≡ true
-            → R.reads keeper.new ≤ R.reads keeper.old + extending_reads (real_rules self.old.rules.anchor) log (record { entry = entry.now; repository = r })) }
+            → R.reads keeper.new ≤ R.reads keeper.old + extending_reads (real_rules self.old.rules.anchor) log
+            (record { entry = entry.now; repository = r })) }
     {
         extend_by(
             alloc,
@@ -113,14 +117,16 @@ impl Engine {
     /// Whether the entry of a number is a reference's and is skipped, by the entries taken. It takes no memory.
     pub fn skipped(&self, number: u64) -> bool
         ensures { (log : List Taken) → Follows log self.now
-            → IsTrue result ↔ ((0 < number) × (name : List ℕ) × (is_entry_of (entry_at log number) name ≡ true) × (skipped (real_rules self.now.rules.anchor) log number ≡ true)) }
+            → IsTrue result ↔ ((0 < number) × (name : List ℕ) × (is_entry_of (entry_at log number) name ≡ true)
+            × (skipped (real_rules self.now.rules.anchor) log number ≡ true)) }
     {
         self.entries.skipped(number)
     }
 
     /// The policy in force after the entries taken. It takes no memory.
     pub fn policy(&self) -> Option<&Policy>
-        ensures { (log : List Taken) → Follows log self.now → option_copied result ≡ policy_after (real_rules self.now.rules.anchor) log }
+        ensures { (log : List Taken) → Follows log self.now
+            → option_copied result ≡ policy_after (real_rules self.now.rules.anchor) log }
     {
         self.entries.policy()
     }
@@ -128,7 +134,8 @@ impl Engine {
     /// The keys that signed for the last entry taken. There are none for an annotation, for an entry of the policy's
     /// reference, and where no policy was in force. It takes no memory.
     pub fn signers(&self) -> &KeyIdList
-        ensures { (log : List Taken) → Follows log self.now → result.now ≡ last_signers (real_rules self.now.rules.anchor) log }
+        ensures { (log : List Taken) → Follows log self.now
+            → result.now ≡ last_signers (real_rules self.now.rules.anchor) log }
     {
         self.entries.signers()
     }
@@ -153,13 +160,17 @@ impl Engine {
         requires next { entry.now.number ≡ taken self.now.entries + 1 }
         requires fresh { has_taken self.now.entries entry.now.id ≡ false }
         requires known { (r : Repository) → R.content keeper.old ≡ Some r → AreKnownIn r self.now.known }
-        ensures answer { IfOk result (λ verdict. (r : Repository) (log : List Taken) → R.content keeper.new ≡ Some r → Follows log self.now
-            → verdict ≡ verdict_of (real_rules self.now.rules.anchor) log (record { entry = entry.now; repository = r })) }
+        ensures answer { IfOk result (λ verdict. (r : Repository) (log : List Taken) → R.content keeper.new ≡ Some r
+            → Follows log self.now
+            → verdict ≡ verdict_of (real_rules self.now.rules.anchor) log
+            (record { entry = entry.now; repository = r })) }
         ensures same { Undisturbed R.Keeper keeper.old keeper.new }
         ensures cause { HasCause keeper_failed (R.faults keeper.old) (R.faults keeper.new) result }
-        ensures reads { OnOk result ((r : Repository) (log : List Taken) → R.content keeper.new ≡ Some r → Follows log self.now
+        ensures reads { OnOk result ((r : Repository) (log : List Taken) → R.content keeper.new ≡ Some r
+            → Follows log self.now
             → is_bounded (real_rules self.now.rules.anchor) log (record { entry = entry.now; repository = r }) ≡ true
-            → R.reads keeper.new ≤ R.reads keeper.old + decision_reads_of (real_rules self.now.rules.anchor) log (record { entry = entry.now; repository = r })) }
+            → R.reads keeper.new ≤ R.reads keeper.old + decision_reads_of (real_rules self.now.rules.anchor) log
+            (record { entry = entry.now; repository = r })) }
     {
         look_by(
             alloc,
@@ -178,7 +189,8 @@ impl Engine {
         keeper: &mut R,
         name: &RefName,
     ) -> Result<RefVerdict, KeeperFault>
-        ensures judged { IfOk result (λ verdict. (r : Repository) (log : List Taken) → R.content keeper.new ≡ Some r → Follows log self.now
+        ensures judged { IfOk result (λ verdict. (r : Repository) (log : List Taken) → R.content keeper.new ≡ Some r
+            → Follows log self.now
             → IsJudged (real_rules self.now.rules.anchor) log name.now (value_of r name.now) verdict) }
         ensures same { Undisturbed R.Keeper keeper.old keeper.new }
         ensures cause { HasCause keeper_failed (R.faults keeper.old) (R.faults keeper.new) result }

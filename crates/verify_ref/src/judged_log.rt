@@ -1,6 +1,7 @@
 //! The engine over the entries of a log in a store.
 
-ghost use Rattle.std.specs.Prelude.{◌≡◌, ◌≤◌, ◌+◌, ◌++◌, ◌∷◌, ◌==◌, ◌&&◌, [], List, Some, true, false, not, IfErr, IfOk, OnErr, OnOk};
+ghost use Rattle.std.specs.Prelude.{◌≡◌, ◌≤◌, ◌+◌, ◌++◌, ◌∷◌, ◌==◌, ◌&&◌, [], List, Some, true, false, not, IfErr};
+ghost use Rattle.std.specs.Prelude.{IfOk, OnErr, OnOk};
 ghost use Rattle.octets.specs.Causes.{HasCause};
 ghost use Rattle.git_object.specs.Repository.{Repository};
 ghost use Rattle.keeper_api.specs.Faults.{keeper_failed};
@@ -10,7 +11,7 @@ ghost use Rattle.rsl_chain.specs.declared.entries.Entry.{Entry};
 ghost use Rattle.tree_paths.specs.Known.{AreKnownIn};
 ghost use Rattle.rsl_chain.specs.Logs.{IsLogOf, IsNamed, IsUnbroken, entry_at, log_failed};
 ghost use Rattle.judging.specs.Engines.{IsTaken, Stands, has_taken, taken};
-ghost use Rattle.judging.specs.Reading.{decision_reads_of, is_bounded};
+ghost use Rattle.judging.specs.Reads.{decision_reads_of, is_bounded};
 ghost use Rattle.judging.specs.Verdicts.{verdict_of};
 ghost use Rattle.judging.specs.Rules.{Rules};
 ghost use Rattle.policy_epochs.specs.declared.policies.Policy.{Policy};
@@ -52,7 +53,9 @@ fn learn_before<R: Keeper>(
     ensures known { (r : Repository) → R.content keeper.new ≡ Some r → AreKnownIn r known.new }
     ensures same { Undisturbed R.Keeper keeper.old keeper.new }
     ensures cause { HasCause keeper_failed (R.faults keeper.old) (R.faults keeper.new) result }
-    ensures reads { (r : Repository) (rules : Rules Policy Fault) (log : List Taken) → R.content keeper.new ≡ Some r → Stands rules log engine.now → R.reads keeper.new ≤ R.reads keeper.old + learning_reads rules r log entry.now.body }
+    ensures reads { (r : Repository) (rules : Rules Policy Fault) (log : List Taken) → R.content keeper.new ≡ Some r
+        → Stands rules log engine.now → R.reads keeper.new ≤ R.reads keeper.old
+        + learning_reads rules r log entry.now.body }
 {
     match &entry.body {
         EntryBody::Reference { name, target: _ } => {
@@ -85,16 +88,20 @@ pub(crate) fn extend_by<R: Keeper>(
     requires next { entry.now.number ≡ taken engine.old + 1 }
     requires fresh { has_taken engine.old entry.now.id ≡ false }
     requires known { (r : Repository) → R.content keeper.old ≡ Some r → AreKnownIn r known.old }
-    ensures taken { IfOk result (λ verdict. (r : Repository) (log : List Taken) → R.content keeper.new ≡ Some r → Stands (real_rules rules.now.anchor) log engine.old
+    ensures taken { IfOk result (λ verdict. (r : Repository) (log : List Taken) → R.content keeper.new ≡ Some r
+        → Stands (real_rules rules.now.anchor) log engine.old
         → IsTaken (real_rules rules.now.anchor) log (record { entry = entry.now; repository = r }) engine.new verdict) }
     ensures count { OnOk result (taken engine.new ≡ entry.now.number) }
-    ensures refused { OnErr result ((rules : Rules Policy Fault) (log : List Taken) → Stands rules log engine.old → Stands rules log engine.new) }
+    ensures refused { OnErr result ((rules : Rules Policy Fault) (log : List Taken) → Stands rules log engine.old
+        → Stands rules log engine.new) }
     ensures known { (r : Repository) → R.content keeper.new ≡ Some r → AreKnownIn r known.new }
     ensures same { Undisturbed R.Keeper keeper.old keeper.new }
     ensures cause { HasCause keeper_failed (R.faults keeper.old) (R.faults keeper.new) result }
-    ensures reads { OnOk result ((r : Repository) (log : List Taken) → R.content keeper.new ≡ Some r → Stands (real_rules rules.now.anchor) log engine.old
+    ensures reads { OnOk result ((r : Repository) (log : List Taken) → R.content keeper.new ≡ Some r
+        → Stands (real_rules rules.now.anchor) log engine.old
         → is_bounded (real_rules rules.now.anchor) log (record { entry = entry.now; repository = r }) ≡ true
-        → R.reads keeper.new ≤ R.reads keeper.old + extending_reads (real_rules rules.now.anchor) log (record { entry = entry.now; repository = r })) }
+        → R.reads keeper.new ≤ R.reads keeper.old + extending_reads (real_rules rules.now.anchor) log
+        (record { entry = entry.now; repository = r })) }
 {
     match learn_before(alloc, keeper, known, engine, entry) {
         Ok(()) => {}
@@ -120,13 +127,16 @@ pub(crate) fn look_by<R: Keeper>(
     requires next { entry.now.number ≡ taken engine.now + 1 }
     requires fresh { has_taken engine.now entry.now.id ≡ false }
     requires known { (r : Repository) → R.content keeper.old ≡ Some r → AreKnownIn r known.now }
-    ensures answer { IfOk result (λ verdict. (r : Repository) (log : List Taken) → R.content keeper.new ≡ Some r → Stands (real_rules rules.now.anchor) log engine.now
+    ensures answer { IfOk result (λ verdict. (r : Repository) (log : List Taken) → R.content keeper.new ≡ Some r
+        → Stands (real_rules rules.now.anchor) log engine.now
         → verdict ≡ verdict_of (real_rules rules.now.anchor) log (record { entry = entry.now; repository = r })) }
     ensures same { Undisturbed R.Keeper keeper.old keeper.new }
     ensures cause { HasCause keeper_failed (R.faults keeper.old) (R.faults keeper.new) result }
-    ensures reads { OnOk result ((r : Repository) (log : List Taken) → R.content keeper.new ≡ Some r → Stands (real_rules rules.now.anchor) log engine.now
+    ensures reads { OnOk result ((r : Repository) (log : List Taken) → R.content keeper.new ≡ Some r
+        → Stands (real_rules rules.now.anchor) log engine.now
         → is_bounded (real_rules rules.now.anchor) log (record { entry = entry.now; repository = r }) ≡ true
-        → R.reads keeper.new ≤ R.reads keeper.old + decision_reads_of (real_rules rules.now.anchor) log (record { entry = entry.now; repository = r })) }
+        → R.reads keeper.new ≤ R.reads keeper.old + decision_reads_of (real_rules rules.now.anchor) log
+        (record { entry = entry.now; repository = r })) }
 {
     let judge = KnowingRules { rules, known };
     match engine.look(alloc, &judge, keeper, entry) {
@@ -146,15 +156,19 @@ fn take<R: Keeper>(
     id: &ObjectId,
 ) -> Result<(), LogFault>
     requires known { (r : Repository) → R.content keeper.old ≡ Some r → AreKnownIn r known.old }
-    ensures taken { OnOk result ((r : Repository) → R.content keeper.new ≡ Some r → TakesNext (real_rules rules.now.anchor) r id.now engine.old engine.new) }
-    ensures broken { IfErr result (λ fault. (r : Repository) → R.content keeper.new ≡ Some r → IsAstray r engine.old id.now fault) }
+    ensures taken { OnOk result ((r : Repository) → R.content keeper.new ≡ Some r
+        → TakesNext (real_rules rules.now.anchor) r id.now engine.old engine.new) }
+    ensures broken { IfErr result (λ fault. (r : Repository) → R.content keeper.new ≡ Some r
+        → IsAstray r engine.old id.now fault) }
     ensures named { IfErr result (IsNamed id.now) }
     ensures known { (r : Repository) → R.content keeper.new ≡ Some r → AreKnownIn r known.new }
     ensures same { Undisturbed R.Keeper keeper.old keeper.new }
     ensures cause { HasCause log_failed (R.faults keeper.old) (R.faults keeper.new) result }
-    ensures reads { OnOk result ((r : Repository) (log : List Taken) (entry : Entry) → R.content keeper.new ≡ Some r → Stands (real_rules rules.now.anchor) log engine.old → entry_at r id.now ≡ Some entry
+    ensures reads { OnOk result ((r : Repository) (log : List Taken) (entry : Entry) → R.content keeper.new ≡ Some r
+        → Stands (real_rules rules.now.anchor) log engine.old → entry_at r id.now ≡ Some entry
         → is_bounded (real_rules rules.now.anchor) log (record { entry = entry; repository = r }) ≡ true
-        → R.reads keeper.new ≤ R.reads keeper.old + (1 + extending_reads (real_rules rules.now.anchor) log (record { entry = entry; repository = r }))) }
+        → R.reads keeper.new ≤ R.reads keeper.old
+        + (1 + extending_reads (real_rules rules.now.anchor) log (record { entry = entry; repository = r }))) }
 {
     let entry = read_entry(alloc, keeper, id)?;
     if !comes_next(engine, &entry) {
@@ -176,12 +190,15 @@ fn take_all<R: Keeper>(
     ids: &[ObjectId],
 ) -> Result<(), LogFault>
     requires { Stands (real_rules rules.now.anchor) [] engine.old }
-    ensures stands { OnOk result ((r : Repository) → R.content keeper.new ≡ Some r → (log : List Taken) × AreEntries r ids.now log × Stands (real_rules rules.now.anchor) log engine.new) }
-    ensures unbroken { IfErr result (λ fault. (r : Repository) → R.content keeper.new ≡ Some r → IsLogOf r ids.now → IsUnbroken fault) }
+    ensures stands { OnOk result ((r : Repository) → R.content keeper.new ≡ Some r → (log : List Taken)
+        × AreEntries r ids.now log × Stands (real_rules rules.now.anchor) log engine.new) }
+    ensures unbroken { IfErr result (λ fault. (r : Repository) → R.content keeper.new ≡ Some r → IsLogOf r ids.now
+        → IsUnbroken fault) }
     ensures broken { IfErr result (λ fault. (r : Repository) → R.content keeper.new ≡ Some r → BreaksAt r ids.now fault) }
     ensures same { Undisturbed R.Keeper keeper.old keeper.new }
     ensures cause { HasCause log_failed (R.faults keeper.old) (R.faults keeper.new) result }
-    ensures reads { OnOk result ((r : Repository) (log : List Taken) → R.content keeper.new ≡ Some r → AreEntries r ids.now log → AreBounded (real_rules rules.now.anchor) log
+    ensures reads { OnOk result ((r : Repository) (log : List Taken) → R.content keeper.new ≡ Some r
+        → AreEntries r ids.now log → AreBounded (real_rules rules.now.anchor) log
         → R.reads keeper.new ≤ R.reads keeper.old + judging_reads (real_rules rules.now.anchor) log) }
 {
     let mut known = KnownTrees::new(alloc);
@@ -203,12 +220,15 @@ pub fn judge_entries<R: Keeper>(
     rules: &EntryRules,
     ids: &[ObjectId],
 ) -> Result<LogEngine, LogFault>
-    ensures stands { IfOk result (λ engine. (r : Repository) → R.content keeper.new ≡ Some r → (log : List Taken) × AreEntries r ids.now log × Stands (real_rules rules.now.anchor) log engine) }
-    ensures unbroken { IfErr result (λ fault. (r : Repository) → R.content keeper.new ≡ Some r → IsLogOf r ids.now → IsUnbroken fault) }
+    ensures stands { IfOk result (λ engine. (r : Repository) → R.content keeper.new ≡ Some r → (log : List Taken)
+        × AreEntries r ids.now log × Stands (real_rules rules.now.anchor) log engine) }
+    ensures unbroken { IfErr result (λ fault. (r : Repository) → R.content keeper.new ≡ Some r → IsLogOf r ids.now
+        → IsUnbroken fault) }
     ensures broken { IfErr result (λ fault. (r : Repository) → R.content keeper.new ≡ Some r → BreaksAt r ids.now fault) }
     ensures same { Undisturbed R.Keeper keeper.old keeper.new }
     ensures cause { HasCause log_failed (R.faults keeper.old) (R.faults keeper.new) result }
-    ensures reads { OnOk result ((r : Repository) (log : List Taken) → R.content keeper.new ≡ Some r → AreEntries r ids.now log → AreBounded (real_rules rules.now.anchor) log
+    ensures reads { OnOk result ((r : Repository) (log : List Taken) → R.content keeper.new ≡ Some r
+        → AreEntries r ids.now log → AreBounded (real_rules rules.now.anchor) log
         → R.reads keeper.new ≤ R.reads keeper.old + judging_reads (real_rules rules.now.anchor) log) }
 {
     let mut engine = LogEngine::new(alloc);

@@ -1,10 +1,6 @@
 //! The verdict on a reference of a repository, by its log, and the line that tells it.
 //!
-//! This crate stands on `rsl_chain` for the log, on `judging` for the engine that takes it entry by entry, and on
-//! `entry_rules` for the rules. A crate above may rely on `verify` answering exactly the verdict that `specs/Verdicts.antt`
-//! defines for a repository, a reference and the ids of an anchor, of which `laws` says that there is one at most, and on
-//! `text` being the verdict's line. `policy_laws` says that the policy under which an entry is judged and the one that the
-//! epochs of `policy_reading` give are one.
+//! What it promises, and where to begin: `README.md` in this crate's folder.
 
 #![tactic(auto)]
 

@@ -49,7 +49,9 @@ pub(crate) fn conclude<R: Keeper>(
     engine: &LogEngine,
     name: &RefName,
 ) -> Result<RefVerdict, KeeperFault>
-    ensures judged { IfOk result (λ verdict. (r : Repository) → R.content keeper.new ≡ Some r → (rules : Rules Policy Fault) (log : List Taken) → Stands rules log engine.now → IsJudged rules log name.now (value_of r name.now) verdict) }
+    ensures judged { IfOk result (λ verdict. (r : Repository) → R.content keeper.new ≡ Some r
+        → (rules : Rules Policy Fault) (log : List Taken) → Stands rules log engine.now
+        → IsJudged rules log name.now (value_of r name.now) verdict) }
     ensures same { Undisturbed R.Keeper keeper.old keeper.new }
     ensures cause { HasCause keeper_failed (R.faults keeper.old) (R.faults keeper.new) result }
     ensures reads { R.reads keeper.new ≡ R.reads keeper.old }
@@ -67,10 +69,12 @@ fn judge_ids<R: Keeper>(
     ids: &[ObjectId],
     name: &RefName,
 ) -> Result<RefVerdict, LogFault>
-    ensures answers { (r : Repository) → R.content keeper.new ≡ Some r → IsLogOf r ids.now → Answers r name.now rules.now.anchor result }
+    ensures answers { (r : Repository) → R.content keeper.new ≡ Some r → IsLogOf r ids.now
+        → Answers r name.now rules.now.anchor result }
     ensures same { Undisturbed R.Keeper keeper.old keeper.new }
     ensures cause { HasCause log_failed (R.faults keeper.old) (R.faults keeper.new) result }
-    ensures reads { OnOk result ((r : Repository) (log : List Taken) → R.content keeper.new ≡ Some r → AreEntries r ids.now log → AreBounded (real_rules rules.now.anchor) log
+    ensures reads { OnOk result ((r : Repository) (log : List Taken) → R.content keeper.new ≡ Some r
+        → AreEntries r ids.now log → AreBounded (real_rules rules.now.anchor) log
         → R.reads keeper.new ≤ R.reads keeper.old + judging_reads (real_rules rules.now.anchor) log) }
 {
     let engine = match judge_entries(alloc, keeper, rules, ids) {
@@ -98,7 +102,8 @@ pub fn verify<R: Keeper>(
     ensures answers { (r : Repository) → R.content keeper.new ≡ Some r → Answers r name.now anchor result }
     ensures same { Undisturbed R.Keeper keeper.old keeper.new }
     ensures cause { HasCause log_failed (R.faults keeper.old) (R.faults keeper.new) result }
-    ensures reads { OnOk result ((r : Repository) → R.content keeper.new ≡ Some r → ReadsVerdict anchor r (R.reads keeper.old) (R.reads keeper.new)) }
+    ensures reads { OnOk result ((r : Repository) → R.content keeper.new ≡ Some r
+        → ReadsVerdict anchor r (R.reads keeper.old) (R.reads keeper.new)) }
 {
     let rules = EntryRules::new(anchor);
     match Log::load(alloc, keeper) {

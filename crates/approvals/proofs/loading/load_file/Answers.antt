@@ -14,4 +14,4 @@ returns-then-not-is_file-clause-found g c = λ r told.
 pub returns-clause-found : goal.returns-clause-found
 returns-clause-found g c = λ r told.
     file_entry r c.args.target.now c.args.path.now c.in-Some.entry _ (sym c.in-Some.is ∙ c.in_ok-entry.ensures.found (readings_of r) (told_by r (c.load_blob.ensures.same.content r told)))
-    (sym c.if-not-is_file.ensures) (c.in_ok-found.ensures.found r told)
+    (sym c.if-not-is_file.ensures) (c.in_ok-found.ensures.read r told)

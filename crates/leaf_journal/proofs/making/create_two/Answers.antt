@@ -2,6 +2,7 @@ use Rattle.std.proofs.Common.{◌≡◌, ◌∙◌, ℕ, ap, inr, length, subst,
 use Rattle.leaf_journal.specs.declared.faults.CreateFault.TheVariants as fault
 use Rattle.leaf_journal.specs.Making.{IsCutShort}
 use Rattle.leaf_journal.proofs.Cutting.{cut_after}
+use Rattle.leaf_journal.proofs.NewMoments.{made}
 use Rattle.leaf_journal.proofs.making.create_two.Goals as goal
 
 pub returns-in-Err-clause-not_empty : goal.returns-in-Err-clause-not_empty
@@ -16,3 +17,11 @@ pub returns-in_err-write_whole-clause-spared : goal.returns-in_err-write_whole-c
 returns-in_err-write_whole-clause-spared g c = λ failed.
     inr (subst (λ (n : ℕ). IsCutShort g.D.Disk c.args.disk.now c.write_whole.new.disk n) (ap length c.as_slice.ensures.value ∙ c.in_ok-file.ensures.is.size)
     (cut_after g.D.Disk _ c.args.disk.now c.expect_empty.new.disk c.write_whole.new.disk c.expect_empty.ensures.kept c.in_err-write_whole.ensures.cut))
+
+pub returns-in_err-write_whole-clause-any_moment : goal.returns-in_err-write_whole-clause-any_moment
+returns-in_err-write_whole-clause-any_moment g c = made g.D.Disk c.args.disk.now c.expect_empty.new.disk c.write_whole.new.disk (g.met.D.Disk.seen_may_stay c.args.disk.now)
+    c.expect_empty.ensures.any_moment c.expect_empty.ensures.kept c.write_whole.ensures.any_moment
+
+pub returns-clause-any_moment : goal.returns-clause-any_moment
+returns-clause-any_moment g c = made g.D.Disk c.args.disk.now c.expect_empty.new.disk c.write_whole.new.disk (g.met.D.Disk.seen_may_stay c.args.disk.now)
+    c.expect_empty.ensures.any_moment c.expect_empty.ensures.kept c.write_whole.ensures.any_moment

@@ -5,7 +5,7 @@ use Rattle.tree_paths.specs.Listings.{walk_visits}
 use Rattle.tree_paths.specs.Repositories.{readings_of}
 use Rattle.tree_paths.proofs.Existence.{are_readings}
 use Rattle.judging.specs.Logs.{from, prior_target}
-use Rattle.judging.specs.Reading.{may_rescue}
+use Rattle.judging.specs.Reads.{may_rescue}
 use Rattle.verify_ref.specs.Reading.{learning_reads}
 use Rattle.verify_ref.proofs.judged_log.learn_before.Goals as goal
 
