@@ -1,11 +1,10 @@
 //! Does a piece of work a number of times, for the tools `tools/bench-*` to time.
 //!
-//! The first word names the work, and the words behind it are its own: `judging`, `lms`, `policy`, `states` or `streams`.
-//! With the one word `each` it does a little of each, so that one run tries them all; `states` then reads the stream on
-//! standard input.
+//! What it promises, and where to begin: `README.md` in this crate's folder.
 #![tactic(auto)]
 
 mod judging_work;
+mod lms_words;
 mod lms_work;
 mod one_by_one;
 mod policy_work;

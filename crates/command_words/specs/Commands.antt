@@ -34,7 +34,8 @@ pub record AsksReference (command name : List ℕ) (words : List (List ℕ)) : T
 -- ---- verify-ref <ref> [--root <keyid,..>] [--stdin]
 
 abbrev pub verify_ref_app : App
-verify_ref_app = with_rule (with_rule (with_rule (bare_app (codes "verify-ref")) (positional_rule (codes "ref"))) (option_rule (codes "root"))) (flag_rule (codes "stdin"))
+verify_ref_app = with_rule (with_rule (with_rule (bare_app (codes "verify-ref")) (positional_rule (codes "ref")))
+    (option_rule (codes "root"))) (flag_rule (codes "stdin"))
 
 -- from 1 to 64 ids of keys, or no such option
 abbrev pub IsRoot : Option (List ℕ) → Option (List (List ℕ)) → Type 0
@@ -44,16 +45,18 @@ IsRoot (Some text) None = ⊥
 IsRoot (Some text) (Some ids) = AreIds 64 text ids
 
 -- a reference other than the log's own, the keys of the root, and whether the flag is given
-pub record AsksVerdict (name : List ℕ) (root : Option (List (List ℕ))) (stdin : Bool) (words : List (List ℕ)) : Type 0 where
-  pub takes : Takes verify_ref_app words
-  pub named : IsAsked (value_of verify_ref_app (codes "ref") words) name
-  pub anchor : IsRoot (value_of verify_ref_app (codes "root") words) root
-  pub flag : is_given verify_ref_app (codes "stdin") words ≡ stdin
+pub record AsksVerdict (name : List ℕ) (root : Option (List (List ℕ))) (stdin : Bool) (words : List (List ℕ)) : Type 0
+  where
+    pub takes : Takes verify_ref_app words
+    pub named : IsAsked (value_of verify_ref_app (codes "ref") words) name
+    pub anchor : IsRoot (value_of verify_ref_app (codes "root") words) root
+    pub flag : is_given verify_ref_app (codes "stdin") words ≡ stdin
 
 -- ---- annotate <skip or note> <id,..> [--message <text>]
 
 abbrev pub annotate_app : App
-annotate_app = with_rule (with_rule (with_rule (bare_app (codes "annotate")) (positional_rule (codes "kind"))) (positional_rule (codes "ids"))) (option_rule (codes "message"))
+annotate_app = with_rule (with_rule (with_rule (bare_app (codes "annotate")) (positional_rule (codes "kind")))
+    (positional_rule (codes "ids"))) (option_rule (codes "message"))
 
 -- the word that says whether the entries are skipped
 abbrev pub kind_text : Bool → List ℕ
@@ -121,7 +124,8 @@ pub record AsksSeal (add : Bool) (words : List (List ℕ)) : Type 0 where
 -- ---- key-gen <height> <width> [--bottom <height>]
 
 abbrev pub key_gen_app : App
-key_gen_app = with_rule (with_rule (with_rule (bare_app (codes "key-gen")) (positional_rule (codes "height"))) (positional_rule (codes "width"))) (option_rule (codes "bottom"))
+key_gen_app = with_rule (with_rule (with_rule (bare_app (codes "key-gen")) (positional_rule (codes "height")))
+    (positional_rule (codes "width"))) (option_rule (codes "bottom"))
 
 abbrev pub height_text : Height → List ℕ
 height_text H5 = codes "5"
@@ -151,7 +155,8 @@ IsBottom None height (Some bottom) = ⊥
 IsBottom (Some text) height None = ⊥
 IsBottom (Some text) height (Some bottom) = (text ≡ height_text bottom) × AreTwo height bottom
 
--- the number of levels of the tree, and of bits of a digit, and the number of levels of the trees below, if there are any
+-- the number of levels of the tree, and of bits of a digit, and the number of levels of the trees below, if there are
+-- any
 pub record AsksKey (height : Height) (width : Width) (bottom : Option Height) (words : List (List ℕ)) : Type 0 where
   pub takes : Takes key_gen_app words
   pub is_height : value_of key_gen_app (codes "height") words ≡ Some (height_text height)

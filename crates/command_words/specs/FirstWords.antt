@@ -2,10 +2,13 @@
 use Rattle.std.specs.Prelude.{◌≡◌, ◌≢◌, ◌<◌, ◌≤◌, ◌∷◌, ℕ, Bool, List, Option, None, Some, codes, length}
 use Rattle.git_object.specs.Names.{log_name}
 use Rattle.ref_patterns.specs.declared.space.Space.{Space}
-use Rattle.command_words.specs.Commands.{AreTwo, AsksApproval, AsksDemo, AsksKey, AsksNote, AsksReasons, AsksReference, AsksSeal, AsksVerdict}
+use Rattle.command_words.specs.Commands.{AreTwo, AsksApproval, AsksDemo, AsksKey, AsksNote, AsksReasons, AsksReference}
+use Rattle.command_words.specs.Commands.{AsksSeal, AsksVerdict}
 use Rattle.command_words.specs.Grammars.{Takes, bare_app}
 use Rattle.command_words.specs.declared.commands.Command.{Command}
-use Rattle.command_words.specs.declared.commands.Command.TheVariants.{VerifyRef, Export, Import, KeyGen, Log, Record, Seal, Snapshot, PolicyApply, Explain, Annotate, Approve, Demo}
+use Rattle.command_words.specs.declared.commands.Command.TheVariants.{VerifyRef, Export, Import, KeyGen, Log, Record}
+use Rattle.command_words.specs.declared.commands.Command.TheVariants.{Seal, Snapshot, PolicyApply, Explain, Annotate}
+use Rattle.command_words.specs.declared.commands.Command.TheVariants.{Approve, Demo}
 use Rattle.command_words.specs.declared.commands.CommandName.{CommandName}
 use Rattle.command_words.specs.declared.commands.CommandName.TheVariants as name
 use Rattle.command_words.specs.declared.commands.Height.{Height}
@@ -28,18 +31,25 @@ name_text name.Demo = codes "demo"
 
 -- the words behind this first one ask for the command
 abbrev pub AsksFor : CommandName → List (List ℕ) → Command → Type 0
-AsksFor name.VerifyRef rest command = (reference : List ℕ) × (root : Option (List (List ℕ))) × (stdin : Bool) × (command ≡ VerifyRef reference root stdin) × AsksVerdict reference root stdin rest
+AsksFor name.VerifyRef rest command = (reference : List ℕ) × (root : Option (List (List ℕ))) × (stdin : Bool)
+    × (command ≡ VerifyRef reference root stdin) × AsksVerdict reference root stdin rest
 AsksFor name.Export rest command = (command ≡ Export) × Takes (bare_app (codes "export")) rest
 AsksFor name.Import rest command = (command ≡ Import) × Takes (bare_app (codes "import")) rest
-AsksFor name.KeyGen rest command = (height : Height) × (width : Width) × (bottom : Option Height) × (command ≡ KeyGen height width bottom) × AsksKey height width bottom rest
+AsksFor name.KeyGen rest command = (height : Height) × (width : Width) × (bottom : Option Height)
+    × (command ≡ KeyGen height width bottom) × AsksKey height width bottom rest
 AsksFor name.Log rest command = (command ≡ Log) × Takes (bare_app (codes "log")) rest
-AsksFor name.Record rest command = (reference : List ℕ) × (command ≡ Record reference) × AsksReference (codes "record") reference rest
+AsksFor name.Record rest command = (reference : List ℕ) × (command ≡ Record reference)
+    × AsksReference (codes "record") reference rest
 AsksFor name.Seal rest command = (add : Bool) × (command ≡ Seal add) × AsksSeal add rest
-AsksFor name.Snapshot rest command = (reference : List ℕ) × (command ≡ Snapshot reference) × AsksReference (codes "snapshot") reference rest
+AsksFor name.Snapshot rest command = (reference : List ℕ) × (command ≡ Snapshot reference)
+    × AsksReference (codes "snapshot") reference rest
 AsksFor name.PolicyApply rest command = (command ≡ PolicyApply) × Takes (bare_app (codes "policy-apply")) rest
-AsksFor name.Explain rest command = (space : Space) × (text : List ℕ) × (command ≡ Explain space text) × AsksReasons space text rest
-AsksFor name.Annotate rest command = (skip : Bool) × (ids : List (List ℕ)) × (message : List ℕ) × (command ≡ Annotate skip ids message) × AsksNote skip ids message rest
-AsksFor name.Approve rest command = (reference : List ℕ) × (target : List ℕ) × (command ≡ Approve reference target) × AsksApproval reference target rest
+AsksFor name.Explain rest command = (space : Space) × (text : List ℕ) × (command ≡ Explain space text)
+    × AsksReasons space text rest
+AsksFor name.Annotate rest command = (skip : Bool) × (ids : List (List ℕ)) × (message : List ℕ)
+    × (command ≡ Annotate skip ids message) × AsksNote skip ids message rest
+AsksFor name.Approve rest command = (reference : List ℕ) × (target : List ℕ) × (command ≡ Approve reference target)
+    × AsksApproval reference target rest
 AsksFor name.Demo rest command = (count : ℕ) × (command ≡ Demo count) × AsksDemo count rest
 
 abbrev pub AsksForNone : CommandName → List (List ℕ) → Type 0

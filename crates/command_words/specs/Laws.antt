@@ -9,7 +9,9 @@ use Rattle.command_words.specs.Ids.{AreIds}
 use Rattle.command_words.specs.Commands.{AreTwo, height_text, kind_text, width_text}
 use Rattle.command_words.specs.FirstWords.{IsCommand}
 use Rattle.command_words.specs.declared.commands.Command.{Command}
-use Rattle.command_words.specs.declared.commands.Command.TheVariants.{VerifyRef, Export, Import, KeyGen, Log, Record, Seal, Snapshot, PolicyApply, Explain, Annotate, Approve, Demo}
+use Rattle.command_words.specs.declared.commands.Command.TheVariants.{VerifyRef, Export, Import, KeyGen, Log, Record}
+use Rattle.command_words.specs.declared.commands.Command.TheVariants.{Seal, Snapshot, PolicyApply, Explain, Annotate}
+use Rattle.command_words.specs.declared.commands.Command.TheVariants.{Approve, Demo}
 use Rattle.command_words.specs.declared.commands.Height.{Height}
 use Rattle.command_words.specs.declared.commands.Width.{Width}
 
@@ -30,15 +32,22 @@ pub record PlainWords : Type 0 where
       → IsCommand (codes "verify-ref" ∷ codes "--stdin" ∷ name ∷ []) (VerifyRef name None true)
   pub export : IsCommand (codes "export" ∷ []) Export
   pub import : IsCommand (codes "import" ∷ []) Import
-  pub key_gen : (height : Height) (width : Width) → IsCommand (codes "key-gen" ∷ height_text height ∷ width_text width ∷ []) (KeyGen height width None)
+  pub key_gen : (height : Height) (width : Width)
+      → IsCommand (codes "key-gen" ∷ height_text height ∷ width_text width ∷ []) (KeyGen height width None)
   pub key_gen_two : (height bottom : Height) (width : Width) → AreTwo height bottom
-      → IsCommand (codes "key-gen" ∷ height_text height ∷ width_text width ∷ codes "--bottom" ∷ height_text bottom ∷ []) (KeyGen height width (Some bottom))
+      → IsCommand (codes "key-gen" ∷ height_text height ∷ width_text width ∷ codes "--bottom" ∷ height_text bottom ∷ [])
+      (KeyGen height width (Some bottom))
   pub log : IsCommand (codes "log" ∷ []) Log
-  pub recorded : (name : List ℕ) → IsRefName name → name ≢ log_name → IsCommand (codes "record" ∷ name ∷ []) (Record name)
+  pub recorded : (name : List ℕ) → IsRefName name → name ≢ log_name
+      → IsCommand (codes "record" ∷ name ∷ []) (Record name)
   pub seal : (add : Bool) → IsCommand (codes "seal" ∷ flag_words (codes "--add") add) (Seal add)
-  pub snapshot : (name : List ℕ) → IsRefName name → name ≢ log_name → IsCommand (codes "snapshot" ∷ name ∷ []) (Snapshot name)
+  pub snapshot : (name : List ℕ) → IsRefName name → name ≢ log_name
+      → IsCommand (codes "snapshot" ∷ name ∷ []) (Snapshot name)
   pub policy_apply : IsCommand (codes "policy-apply" ∷ []) PolicyApply
-  pub explain : (space : Space) (text : List ℕ) → IsCommand (codes "explain" ∷ (prefix space ++ text) ∷ []) (Explain space text)
-  pub annotate : (skip : Bool) (text : List ℕ) (ids : List (List ℕ)) → AreIds 256 text ids → IsCommand (codes "annotate" ∷ kind_text skip ∷ text ∷ []) (Annotate skip ids [])
+  pub explain : (space : Space) (text : List ℕ) → IsCommand (codes "explain" ∷ (prefix space ++ text) ∷ [])
+      (Explain space text)
+  pub annotate : (skip : Bool) (text : List ℕ) (ids : List (List ℕ)) → AreIds 256 text ids
+      → IsCommand (codes "annotate" ∷ kind_text skip ∷ text ∷ []) (Annotate skip ids [])
   pub demo : (count : ℕ) → 1 ≤ count → count ≤ 500 → IsCommand (codes "demo" ∷ decimal count ∷ []) (Demo count)
-  pub approve : (name target : List ℕ) → IsRefName name → name ≢ log_name → IsId target → IsCommand (codes "approve" ∷ name ∷ encode_lower target ∷ []) (Approve name target)
+  pub approve : (name target : List ℕ) → IsRefName name → name ≢ log_name → IsId target
+      → IsCommand (codes "approve" ∷ name ∷ encode_lower target ∷ []) (Approve name target)

@@ -2,8 +2,8 @@
 use Rattle.std.specs.Prelude.{◌≡◌, ◌≢◌, ◌∷◌, ℕ, List, codes, IsTrue}
 use Rattle.std.specs.Bool.{nat_eq}
 use Rattle.std.specs.List.{ends_with}
-use Rattle.command_words.specs.declared.places.Key.{Key}
-use Rattle.command_words.specs.declared.places.Key.TheVariants as key
+use Rattle.command_words.specs.declared.places.KeyPlace.{KeyPlace}
+use Rattle.command_words.specs.declared.places.KeyPlace.TheVariants as key
 use Rattle.command_words.specs.declared.places.Store.{Store}
 use Rattle.command_words.specs.declared.places.Store.TheVariants as store
 
@@ -21,20 +21,20 @@ IsStore store.Memory = Unit {0}
 IsStore (store.Directory path) = IsFolder path.now
 
 -- the text that stands for a key file
-abbrev pub key_text : Key → List ℕ
+abbrev pub key_text : KeyPlace → List ℕ
 key_text key.Memory = codes "-"
 key_text (key.File path) = path.now
 
-abbrev pub IsKey : Key → Type 0
+abbrev pub IsKey : KeyPlace → Type 0
 IsKey key.Memory = Unit {0}
 IsKey (key.File path) = path.now ≢ codes "-"
 
 -- this store and this key file are named, and then these words follow
-pub record ArePlaces (words : List (List ℕ)) (store : Store) (key : Key) (rest : List (List ℕ)) : Type 0 where
+pub record ArePlaces (words : List (List ℕ)) (store : Store) (key : KeyPlace) (rest : List (List ℕ)) : Type 0 where
   pub are : words ≡ store_text store ∷ key_text key ∷ rest
   pub is_store : IsStore store
   pub is_key : IsKey key
 
 -- no store and key file are named
 abbrev pub AreNoPlaces : List (List ℕ) → Type 0
-AreNoPlaces words = (store : Store) (key : Key) (rest : List (List ℕ)) → ArePlaces words store key rest → ⊥
+AreNoPlaces words = (store : Store) (key : KeyPlace) (rest : List (List ℕ)) → ArePlaces words store key rest → ⊥

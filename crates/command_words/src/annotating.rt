@@ -1,6 +1,7 @@
 //! The words of `annotate`.
 
-ghost use Rattle.std.specs.Prelude.{◌≡◌, ◌≢◌, ℕ, Bool, List, Some, codes, map, string_bytes, IfOk, IfSome, IfNone, IsErrOf, OnOk};
+ghost use Rattle.std.specs.Prelude.{◌≡◌, ◌≢◌, ℕ, Bool, List, Some, codes, map, string_bytes, IfOk, IfSome, IfNone};
+ghost use Rattle.std.specs.Prelude.{IsErrOf, OnOk};
 ghost use Rattle.std.specs.Option.{IsSomeAnd};
 ghost use Rattle.clap.specs.Words.{app_of, first_of, found_of, matches_of, rows_of};
 ghost use Rattle.command_words.specs.Ids.{AreIds};
@@ -61,16 +62,20 @@ fn kind_at(text: &str) -> Option<bool>
 
 // Whether the entries are skipped; None where neither word is given.
 fn kind_in(matches: &ArgMatches) -> Option<bool>
-    ensures found { IfSome result (λ skip. first_of (codes "kind") (rows_of (found_of matches.now)) ≡ Some (kind_text skip)) }
-    ensures none { IfNone result ((skip : Bool) → first_of (codes "kind") (rows_of (found_of matches.now)) ≢ Some (kind_text skip)) }
+    ensures found { IfSome result (λ skip. first_of (codes "kind") (rows_of (found_of matches.now))
+        ≡ Some (kind_text skip)) }
+    ensures none { IfNone result ((skip : Bool) → first_of (codes "kind") (rows_of (found_of matches.now))
+        ≢ Some (kind_text skip)) }
 {
     kind_at(value_in(matches, "kind")?)
 }
 
 // The ids of the entries.
 fn ids_in(alloc: Global, matches: &ArgMatches) -> Result<Ids, WordsFault>
-    ensures found { IfOk result (λ ids. IsSomeAnd (first_of (codes "ids") (rows_of (found_of matches.now))) (λ text. AreIds 256 text ids)) }
-    ensures outside { IsErrOf result WordsFault.Outside → (ids : List (List ℕ)) → IsSomeAnd (first_of (codes "ids") (rows_of (found_of matches.now))) (λ text. AreIds 256 text ids) → ⊥ }
+    ensures found { IfOk result (λ ids. IsSomeAnd (first_of (codes "ids") (rows_of (found_of matches.now)))
+        (λ text. AreIds 256 text ids)) }
+    ensures outside { IsErrOf result WordsFault.Outside → (ids : List (List ℕ))
+        → IsSomeAnd (first_of (codes "ids") (rows_of (found_of matches.now))) (λ text. AreIds 256 text ids) → ⊥ }
 {
     let Some(text) = value_in(matches, "ids") else {
         return Err(WordsFault::Outside);
@@ -85,7 +90,8 @@ fn ids_in(alloc: Global, matches: &ArgMatches) -> Result<Ids, WordsFault>
 // The message, which is empty where none is given.
 fn message_in(alloc: Global, matches: &ArgMatches) -> Result<Octets, WordsFault>
     ensures found { IfOk result (IsMessage (first_of (codes "message") (rows_of (found_of matches.now)))) }
-    ensures outside { IsErrOf result WordsFault.Outside → (message : List ℕ) → IsMessage (first_of (codes "message") (rows_of (found_of matches.now))) message → ⊥ }
+    ensures outside { IsErrOf result WordsFault.Outside → (message : List ℕ)
+        → IsMessage (first_of (codes "message") (rows_of (found_of matches.now))) message → ⊥ }
 {
     let Some(text) = value_in(matches, "message") else {
         return Ok(Octets::new(alloc));

@@ -48,7 +48,8 @@ fn target_at(text: &str) -> Option<ObjectId>
 // The id that is given; None where none is.
 fn target_in(matches: &ArgMatches) -> Option<ObjectId>
     ensures found { IfSome result (λ id. IsTarget (first_of (codes "target") (rows_of (found_of matches.now))) id) }
-    ensures none { IfNone result ((id : List ℕ) → IsTarget (first_of (codes "target") (rows_of (found_of matches.now))) id → ⊥) }
+    ensures none { IfNone result ((id : List ℕ) → IsTarget (first_of (codes "target") (rows_of (found_of matches.now)))
+        id → ⊥) }
 {
     target_at(value_in(matches, "target")?)
 }

@@ -1,7 +1,8 @@
 //! What the commands share of `clap`: building a command, taking words, and the values of an argument.
 
 ghost use Rattle.std.specs.Prelude.{◌≡◌, true, false, map, option_map, string_bytes, IfOk, IsErrOf, OnOk};
-ghost use Rattle.clap.specs.Words.{app_of, first_of, found_of, is_simple_and_free, matches_of, rows_of, rule_of, with_rule};
+ghost use Rattle.clap.specs.Words.{app_of, first_of, found_of, is_simple_and_free, matches_of, rows_of, rule_of};
+ghost use Rattle.clap.specs.Words.{with_rule};
 ghost use Rattle.command_words.specs.Grammars.{Takes, bare_app, flag_rule, is_yes, option_rule, positional_rule};
 
 use crate::words_fault::WordsFault;
@@ -62,8 +63,10 @@ pub(crate) fn take_words<'a>(
 ) -> Result<ArgMatches<'a>, WordsFault>
     requires { is_simple_and_free (app_of command) ≡ true }
     ensures taken { OnOk result (Takes (app_of command.entry) (map string_bytes words.entry.now)) }
-    ensures rows { IfOk result (λ m. rows_of (found_of m) ≡ matches_of (app_of command.entry) (map string_bytes words.entry.now)) }
-    ensures outside { IsErrOf result WordsFault.Outside → Takes (app_of command.entry) (map string_bytes words.entry.now) → ⊥ }
+    ensures rows { IfOk result (λ m. rows_of (found_of m) ≡ matches_of (app_of command.entry)
+        (map string_bytes words.entry.now)) }
+    ensures outside { IsErrOf result WordsFault.Outside
+        → Takes (app_of command.entry) (map string_bytes words.entry.now) → ⊥ }
 {
     match command.try_get_matches_from(words) {
         Ok(matches) => Ok(matches),

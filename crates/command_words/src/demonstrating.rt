@@ -26,8 +26,10 @@ fn demo_command<'a>(alloc: Global) -> Result<clap::Command<'a>, AllocError>
 
 // The number of changes; None where none is given.
 fn count_in(matches: &ArgMatches) -> Option<u32>
-    ensures found { IfSome result (λ count. IsSomeAnd (first_of (codes "count") (rows_of (found_of matches.now))) (λ text. IsCount 500 text count)) }
-    ensures none { IfNone result ((count : ℕ) → IsSomeAnd (first_of (codes "count") (rows_of (found_of matches.now))) (λ text. IsCount 500 text count) → ⊥) }
+    ensures found { IfSome result (λ count. IsSomeAnd (first_of (codes "count") (rows_of (found_of matches.now)))
+        (λ text. IsCount 500 text count)) }
+    ensures none { IfNone result ((count : ℕ) → IsSomeAnd (first_of (codes "count") (rows_of (found_of matches.now)))
+        (λ text. IsCount 500 text count) → ⊥) }
 {
     read_count(value_in(matches, "count")?.as_bytes(), MOST_CHANGES)
 }

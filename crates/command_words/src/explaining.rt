@@ -26,8 +26,10 @@ fn explain_command<'a>(alloc: Global) -> Result<clap::Command<'a>, AllocError>
 
 // The space and the name; None where none is given.
 fn spaced_in<'a>(matches: &ArgMatches<'a>) -> Option<(Space, &'a [u8])>
-    ensures found { IfSome result (λ found. IsSomeAnd (first_of (codes "name") (rows_of (found_of matches.now))) (λ text. IsSpaced text found.0 found.1.now)) }
-    ensures none { IfNone result ((space : Space) (rest : List ℕ) → IsSomeAnd (first_of (codes "name") (rows_of (found_of matches.now))) (λ text. IsSpaced text space rest) → ⊥) }
+    ensures found { IfSome result (λ found. IsSomeAnd (first_of (codes "name") (rows_of (found_of matches.now)))
+        (λ text. IsSpaced text found.0 found.1.now)) }
+    ensures none { IfNone result ((space : Space) (rest : List ℕ)
+        → IsSomeAnd (first_of (codes "name") (rows_of (found_of matches.now))) (λ text. IsSpaced text space rest) → ⊥) }
 {
     split_space(value_in(matches, "name")?.as_bytes())
 }

@@ -46,9 +46,11 @@ fn parts_of(alloc: Global, text: &str) -> Result<Vec<&str>, AllocError>
 
 // The ids that these texts write; None where one of them writes none.
 fn ids_of<T: Written>(alloc: Global, parts: &[&str]) -> Result<Option<Items<T>>, Memory>
-    ensures found { IfOk result (λ found. IfSome found (λ ids. map encode_lower (map T.bytes ids) ≡ map (λ part. part.now) parts.now)) }
+    ensures found { IfOk result (λ found. IfSome found
+        (λ ids. map encode_lower (map T.bytes ids) ≡ map (λ part. part.now) parts.now)) }
     ensures valid { IfOk result (λ found. IfSome found (λ ids. All IsId (map T.bytes ids))) }
-    ensures none { IfOk result (λ found. IfNone found (All (IsLowerHexadecimal 32) (map (λ part. part.now) parts.now) → ⊥)) }
+    ensures none { IfOk result (λ found. IfNone found (All (IsLowerHexadecimal 32) (map (λ part. part.now) parts.now)
+        → ⊥)) }
 {
     let mut ids = Items::new(alloc);
     'parts: for part in parts {

@@ -1,6 +1,7 @@
 //! The words of `key-gen`.
 
-ghost use Rattle.std.specs.Prelude.{◌≡◌, ◌≢◌, ◌↔◌, IsTrue, Option, codes, map, option_map, string_bytes, IfOk, IfSome, IfNone, IsErrOf, Some};
+ghost use Rattle.std.specs.Prelude.{◌≡◌, ◌≢◌, ◌↔◌, IsTrue, Option, codes, map, option_map, string_bytes, IfOk, IfSome};
+ghost use Rattle.std.specs.Prelude.{IfNone, IsErrOf, Some};
 ghost use Rattle.clap.specs.Words.{app_of, first_of, found_of, rows_of};
 ghost use Rattle.command_words.specs.Commands.{AreTwo, IsBottom, height_text, key_gen_app, width_text};
 ghost use Rattle.command_words.specs.FirstWords.{AsksFor, AsksForNone};
@@ -62,16 +63,20 @@ fn width_at(text: &str) -> Option<Width>
 
 // The height that is asked for.
 fn height_in(matches: &ArgMatches) -> Option<Height>
-    ensures found { IfSome result (λ height. first_of (codes "height") (rows_of (found_of matches.now)) ≡ Some (height_text height)) }
-    ensures none { IfNone result ((height : Height) → first_of (codes "height") (rows_of (found_of matches.now)) ≢ Some (height_text height)) }
+    ensures found { IfSome result (λ height. first_of (codes "height") (rows_of (found_of matches.now))
+        ≡ Some (height_text height)) }
+    ensures none { IfNone result ((height : Height) → first_of (codes "height") (rows_of (found_of matches.now))
+        ≢ Some (height_text height)) }
 {
     height_at(value_in(matches, "height")?)
 }
 
 // The width that is asked for.
 fn width_in(matches: &ArgMatches) -> Option<Width>
-    ensures found { IfSome result (λ width. first_of (codes "width") (rows_of (found_of matches.now)) ≡ Some (width_text width)) }
-    ensures none { IfNone result ((width : Width) → first_of (codes "width") (rows_of (found_of matches.now)) ≢ Some (width_text width)) }
+    ensures found { IfSome result (λ width. first_of (codes "width") (rows_of (found_of matches.now))
+        ≡ Some (width_text width)) }
+    ensures none { IfNone result ((width : Width) → first_of (codes "width") (rows_of (found_of matches.now))
+        ≢ Some (width_text width)) }
 {
     width_at(value_in(matches, "width")?)
 }
@@ -103,7 +108,8 @@ fn bottom_at(text: &str, height: Height) -> Option<Height>
 // The height of the trees below, which is none where the option is not given.
 fn bottom_in(matches: &ArgMatches, height: Height) -> Result<Option<Height>, WordsFault>
     ensures found { IfOk result (IsBottom (first_of (codes "bottom") (rows_of (found_of matches.now))) height) }
-    ensures outside { IsErrOf result WordsFault.Outside → (bottom : Option Height) → IsBottom (first_of (codes "bottom") (rows_of (found_of matches.now))) height bottom → ⊥ }
+    ensures outside { IsErrOf result WordsFault.Outside → (bottom : Option Height)
+        → IsBottom (first_of (codes "bottom") (rows_of (found_of matches.now))) height bottom → ⊥ }
 {
     let Some(text) = value_in(matches, "bottom") else {
         return Ok(None);

@@ -16,7 +16,7 @@ pub enum Store<'a> {
 
 /// Where the key file is.
 #[derive(Clone, Copy, Debug, PartialEq, Eq, Drop)]
-pub enum Key<'a> {
+pub enum KeyPlace<'a> {
     /// In memory, named `-`.
     Memory,
     /// The file at this path.
@@ -25,9 +25,9 @@ pub enum Key<'a> {
 
 /// What stands in front of a command's words, and those words.
 #[derive(Clone, Copy, Debug, Drop)]
-pub struct Places<'a> {
+pub struct FrontWords<'a> {
     pub store: Store<'a>,
-    pub key: Key<'a>,
+    pub key: KeyPlace<'a>,
     pub command: &'a [String],
 }
 
@@ -52,26 +52,27 @@ fn store_at(text: &str) -> Option<Store>
 }
 
 // The key file that a text stands for.
-fn key_at(text: &str) -> Key
+fn key_at(text: &str) -> KeyPlace
     ensures text { key_text result ≡ text.now }
     ensures is_key { IsKey result }
 {
     if is_word(text, "-") {
-        return Key::Memory;
+        return KeyPlace::Memory;
     }
-    Key::File(text)
+    KeyPlace::File(text)
 }
 
 /// The store and the key file that the first two words name, and the words after them, which may be none. None
 /// exactly where there are no two words, or the first names no store.
-pub fn after_places(words: &[String]) -> Option<Places>
-    ensures found { IfSome result (λ found. ArePlaces (map string_bytes words.now) found.store found.key (map string_bytes found.command.now)) }
+pub fn after_places(words: &[String]) -> Option<FrontWords>
+    ensures found { IfSome result (λ found. ArePlaces (map string_bytes words.now) found.store found.key
+        (map string_bytes found.command.now)) }
     ensures none { IfNone result (AreNoPlaces (map string_bytes words.now)) }
 {
     let (first, after_store) = split_first(words)?;
     let (key, command) = split_first(after_store)?;
     let store = store_at(first)?;
-    Some(Places {
+    Some(FrontWords {
         store,
         key: key_at(key),
         command,

@@ -1,7 +1,8 @@
 //! Words into a command.
 
 ghost use Rattle.std.specs.Prelude.{map, string_bytes, IfOk, IsErrOf};
-ghost use Rattle.command_words.specs.FirstWords.{AreNamed, AsksFor, AsksForNone, IsCommand, IsNoCommand, IsWithinLimits};
+ghost use Rattle.command_words.specs.FirstWords.{AreNamed, AsksFor, AsksForNone, IsCommand, IsNoCommand};
+ghost use Rattle.command_words.specs.FirstWords.{IsWithinLimits};
 
 use crate::annotating::read_annotate;
 use crate::approving::read_approve;

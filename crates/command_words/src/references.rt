@@ -14,8 +14,10 @@ use std::alloc::{AllocError, Global};
 /// The reference that is asked for: any but the log's own. What is none is `Outside`, and takes no memory.
 pub(crate) fn reference_in(alloc: Global, matches: &ArgMatches) -> Result<RefName, WordsFault>
     ensures found { IfOk result (IsAsked (first_of (codes "ref") (rows_of (found_of matches.now)))) }
-    ensures outside { IsErrOf result WordsFault.Outside → (name : List ℕ) → IsAsked (first_of (codes "ref") (rows_of (found_of matches.now))) name → ⊥ }
-    ensures memory { IsErrOf result WordsFault.Memory → (name : List ℕ) × IsAsked (first_of (codes "ref") (rows_of (found_of matches.now))) name }
+    ensures outside { IsErrOf result WordsFault.Outside → (name : List ℕ)
+        → IsAsked (first_of (codes "ref") (rows_of (found_of matches.now))) name → ⊥ }
+    ensures memory { IsErrOf result WordsFault.Memory → (name : List ℕ)
+        × IsAsked (first_of (codes "ref") (rows_of (found_of matches.now))) name }
 {
     let Some(text) = value_in(matches, "ref") else {
         return Err(WordsFault::Outside);
@@ -44,8 +46,10 @@ fn take_reference<'a>(
     words: &'a [String],
 ) -> Result<ArgMatches<'a>, WordsFault>
     ensures taken { OnOk result (Takes (reference_app command.entry.now) (map string_bytes words.entry.now)) }
-    ensures rows { IfOk result (λ m. rows_of (found_of m) ≡ matches_of (reference_app command.entry.now) (map string_bytes words.entry.now)) }
-    ensures outside { IsErrOf result WordsFault.Outside → Takes (reference_app command.entry.now) (map string_bytes words.entry.now) → ⊥ }
+    ensures rows { IfOk result (λ m. rows_of (found_of m) ≡ matches_of (reference_app command.entry.now)
+        (map string_bytes words.entry.now)) }
+    ensures outside { IsErrOf result WordsFault.Outside
+        → Takes (reference_app command.entry.now) (map string_bytes words.entry.now) → ⊥ }
 {
     let Ok(command) = reference_command(alloc, command) else {
         return Err(WordsFault::Memory);
@@ -61,7 +65,8 @@ pub(crate) fn read_reference(
     words: &[String],
 ) -> Result<RefName, WordsFault>
     ensures found { IfOk result (λ name. AsksReference command.now name (map string_bytes words.now)) }
-    ensures outside { IsErrOf result WordsFault.Outside → (name : List ℕ) → AsksReference command.now name (map string_bytes words.now) → ⊥ }
+    ensures outside { IsErrOf result WordsFault.Outside → (name : List ℕ)
+        → AsksReference command.now name (map string_bytes words.now) → ⊥ }
 {
     let matches = take_reference(alloc, command, words)?;
     reference_in(alloc, &matches)

@@ -33,7 +33,8 @@ fn verify_ref_command<'a>(alloc: Global) -> Result<clap::Command<'a>, AllocError
 // What `verify-ref` finds in the words after it.
 fn take_verify_ref<'a>(alloc: Global, words: &'a [String]) -> Result<ArgMatches<'a>, WordsFault>
     ensures taken { OnOk result (Takes verify_ref_app (map string_bytes words.entry.now)) }
-    ensures rows { IfOk result (λ m. rows_of (found_of m) ≡ matches_of verify_ref_app (map string_bytes words.entry.now)) }
+    ensures rows { IfOk result (λ m. rows_of (found_of m) ≡ matches_of verify_ref_app
+        (map string_bytes words.entry.now)) }
     ensures outside { IsErrOf result WordsFault.Outside → Takes verify_ref_app (map string_bytes words.entry.now) → ⊥ }
 {
     let Ok(command) = verify_ref_command(alloc) else {
@@ -45,7 +46,8 @@ fn take_verify_ref<'a>(alloc: Global, words: &'a [String]) -> Result<ArgMatches<
 // The ids of keys that are given, if any are.
 fn root_in(alloc: Global, matches: &ArgMatches) -> Result<Option<Items<KeyId>>, WordsFault>
     ensures found { IfOk result (IsRoot (first_of (codes "root") (rows_of (found_of matches.now)))) }
-    ensures outside { IsErrOf result WordsFault.Outside → (root : Option (List (List ℕ))) → IsRoot (first_of (codes "root") (rows_of (found_of matches.now))) root → ⊥ }
+    ensures outside { IsErrOf result WordsFault.Outside → (root : Option (List (List ℕ)))
+        → IsRoot (first_of (codes "root") (rows_of (found_of matches.now))) root → ⊥ }
 {
     let Some(text) = value_in(matches, "root") else {
         return Ok(None);

@@ -5,3 +5,4 @@ mod Refused
 mod Free
 mod ToldOutcome
 mod OneOutcome
+mod ToldWorld

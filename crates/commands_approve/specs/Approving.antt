@@ -89,14 +89,18 @@ untold fault = Err fault
 
 -- how it is told why no approval is kept: as it is, and of a broken log with the line of its break
 abbrev pub TellsRefusal : Option (List ℕ) → Option (List ℕ) → NotApproved → ApproveFault → Type 0
-TellsRefusal printed printed_now (none.Unread fault) answer = (told : RecordFault) × (answer ≡ Unrecorded told) × recording.TellsUnread printed printed_now fault told
+TellsRefusal printed printed_now (none.Unread fault) answer = (told : RecordFault) × (answer ≡ Unrecorded told)
+    × recording.TellsUnread printed printed_now fault told
 TellsRefusal printed printed_now (none.Unreadable id) answer = (answer ≡ Unreadable id) × (printed_now ≡ printed)
 TellsRefusal printed printed_now none.Full answer = (answer ≡ Full) × (printed_now ≡ printed)
 TellsRefusal printed printed_now none.TooLong answer = (answer ≡ TooLong) × (printed_now ≡ printed)
-TellsRefusal printed printed_now (none.Unappended fault) answer = (answer ≡ Unrecorded (Unappended fault)) × (printed_now ≡ printed)
+TellsRefusal printed printed_now (none.Unappended fault) answer = (answer ≡ Unrecorded (Unappended fault))
+    × (printed_now ≡ printed)
 
-module _ {R D : Type 0} (keeper_of : keeper.Ghosts R) (disk_of : disk.Ghosts D) (name target : List ℕ) (left left_now : Option (List ℕ)) (old new : R) (file file_now : D) where
-  -- the log was read, and the approval of the reference to the target's tree, in which the key's signature has room, and of
+module _ {R D : Type 0} (keeper_of : keeper.Ghosts R) (disk_of : disk.Ghosts D) (name target : List ℕ)
+    (left left_now : Option (List ℕ)) (old new : R) (file file_now : D) where
+  -- the log was read, and the approval of the reference to the target's tree, in which the key's signature has room,
+  -- and of
   -- whose place nothing is in the way; and signing and keeping it came to this
   pub record Tries (result : Result Ends AppendFault) : Type 0 where
     pub secret : Secret
@@ -104,10 +108,12 @@ module _ {R D : Type 0} (keeper_of : keeper.Ghosts R) (disk_of : disk.Ghosts D) 
     pub ends : Ends
     pub envelope : Envelope
     pub room : HasRoom secret envelope
-    pub read : Told (λ was now. IsLogOf was ids × IsWanted was ids name target ends envelope × IsFree was name ends) (keeper_of.content old) (keeper_of.content new)
+    pub read : Told (λ was now. IsLogOf was ids × IsWanted was ids name target ends envelope × IsFree was name ends)
+        (keeper_of.content old) (keeper_of.content new)
     pub stores : StoreEnds keeper_of disk_of name ends envelope secret old new file file_now left left_now result
 
-  -- what was wanted was not read, nothing was asked of the clock, and store and disk are as they were; a log is never too long
+  -- what was wanted was not read, nothing was asked of the clock, and store and disk are as they were; a log is never
+  -- too long
   pub record Refuses (fault : ReadingFault) : Type 0 where
     pub why : recording.Refuses keeper_of disk_of left left_now old new file file_now fault
     pub any_length : IsAnyLength fault
@@ -116,7 +122,8 @@ module _ {R D : Type 0} (keeper_of : keeper.Ghosts R) (disk_of : disk.Ghosts D) 
   pub record Declines (Why : Repository → List (List ℕ) → Secret → Type 0) : Type 0 where
     pub secret : Secret
     pub is_key : (bytes : List ℕ) → disk_of.seen file_now ≡ Some bytes → IsKeyFile bytes secret
-    pub why : (r : Repository) → keeper_of.content new ≡ Some r → (ids : List (List ℕ)) × IsLogOf r ids × Why r ids secret
+    pub why : (r : Repository) → keeper_of.content new ≡ Some r → (ids : List (List ℕ)) × IsLogOf r ids
+        × Why r ids secret
     pub same : Untouched keeper_of disk_of old new file file_now
     pub unasked : left_now ≡ left
 
@@ -142,11 +149,15 @@ module _ {R D : Type 0} (keeper_of : keeper.Ghosts R) (disk_of : disk.Ghosts D) 
 
   -- the approval is kept and told; or why not, what is left of it, and what was printed
   abbrev pub ApproveEnds : Option (List ℕ) → Option (List ℕ) → Result (Unit {0}) ApproveFault → Type 0
-  ApproveEnds printed printed_now (Ok done) = (ends : Ends) × Tries (Ok ends) × (printed_now ≡ with_end printed (approval_line ends))
-  ApproveEnds printed printed_now (Err (Unrecorded (Unread fault))) = Refuses fault × recording.SaysUnread fault printed printed_now
-  ApproveEnds printed printed_now (Err (Unrecorded (BreakUntold id))) = Refuses (reading.LogBroken id) × GainsPart printed printed_now (break_line id)
+  ApproveEnds printed printed_now (Ok done) = (ends : Ends) × Tries (Ok ends)
+      × (printed_now ≡ with_end printed (approval_line ends))
+  ApproveEnds printed printed_now (Err (Unrecorded (Unread fault))) = Refuses fault
+      × recording.SaysUnread fault printed printed_now
+  ApproveEnds printed printed_now (Err (Unrecorded (BreakUntold id))) = Refuses (reading.LogBroken id)
+      × GainsPart printed printed_now (break_line id)
   ApproveEnds printed printed_now (Err (Unrecorded (Unappended fault))) = Tries (Err fault) × (printed_now ≡ printed)
-  ApproveEnds printed printed_now (Err (Unrecorded SinkFailed)) = (ends : Ends) × Tries (Ok ends) × GainsPart printed printed_now (approval_line ends)
+  ApproveEnds printed printed_now (Err (Unrecorded SinkFailed)) = (ends : Ends) × Tries (Ok ends)
+      × GainsPart printed printed_now (approval_line ends)
   ApproveEnds printed printed_now (Err (Unreadable id)) = DeclinesObject id × (printed_now ≡ printed)
   ApproveEnds printed printed_now (Err Full) = DeclinesFull × (printed_now ≡ printed)
   ApproveEnds printed printed_now (Err TooLong) = DeclinesLong × (printed_now ≡ printed)

@@ -11,4 +11,6 @@ pub mod Approving
 -- how it ends the program
 pub mod Outcomes
 -- the reads that it may cost
-pub mod Reading
+pub mod Reads
+-- what `approve` does to the objects outside, and what it comes to over what they hold
+pub mod Runs

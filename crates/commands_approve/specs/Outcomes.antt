@@ -43,7 +43,8 @@ module _ (name target file : List ℕ) (was : Repository) where
 
   -- the wanted approval has room for the key's signature, and nothing is in the way of its place
   abbrev pub IsOpen : Repository → List (List ℕ) → Secret → Type 0
-  IsOpen r ids secret = HasWanted name target r ids secret (λ ends envelope. HasRoom secret envelope × IsFree r name ends)
+  IsOpen r ids secret = HasWanted name target r ids secret (λ ends envelope. HasRoom secret envelope
+      × IsFree r name ends)
 
   -- the file is one of a key with an unused leaf
   pub record MayApprove : Type 0 where
@@ -92,10 +93,15 @@ module _ (name target file : List ℕ) (was : Repository) where
 
 -- it comes to one outcome at most
 pub record OneOfApprovals : Type 0 where
-  pub approved : (name target file : List ℕ) (was : Repository) (a b : Result (Unit {0}) ApproveFault) → ApproveComes name target file was a → ApproveComes name target file was b → a ≡ b
+  pub approved : (name target file : List ℕ) (was : Repository) (a b : Result (Unit {0}) ApproveFault)
+      → ApproveComes name target file was a → ApproveComes name target file was b → a ≡ b
 
 -- what ended is what the command comes to, or it stopped
 pub record TellsOfApprovals {R D : Type 0} (keeper_of : keeper.Ghosts R) (disk_of : disk.Ghosts D) : Type 0 where
-  pub approved : (name target : List ℕ) (left left_now : Option (List ℕ)) (was now : Repository) (file file_now : List ℕ) (old new : R) (key key_now : D) (printed printed_now : Option (List ℕ)) (outcome : Result (Unit {0}) ApproveFault)
-      → keeper_of.content old ≡ Some was → keeper_of.content new ≡ Some now → disk_of.seen key ≡ Some file → disk_of.seen key_now ≡ Some file_now
-      → ApproveEnds keeper_of disk_of name target left left_now old new key key_now printed printed_now outcome → ApproveComes name target file was outcome ⊎ IsStopped (approve_ending outcome)
+  pub approved : (name target : List ℕ) (left left_now : Option (List ℕ)) (was now : Repository)
+      (file file_now : List ℕ) (old new : R) (key key_now : D) (printed printed_now : Option (List ℕ))
+      (outcome : Result (Unit {0}) ApproveFault)
+      → keeper_of.content old ≡ Some was → keeper_of.content new ≡ Some now → disk_of.seen key ≡ Some file
+      → disk_of.seen key_now ≡ Some file_now
+      → ApproveEnds keeper_of disk_of name target left left_now old new key key_now printed printed_now outcome
+      → ApproveComes name target file was outcome ⊎ IsStopped (approve_ending outcome)

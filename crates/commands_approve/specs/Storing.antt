@@ -22,7 +22,8 @@ use Rattle.approvals.specs.declared.sites.Site.{Site}
 use Rattle.envelope_signing.specs.Seals.{signature_by, signed_text}
 use Rattle.log_appending.specs.Untouched.{Untouched}
 use Rattle.log_appending.specs.declared.appending.AppendFault.{AppendFault}
-use Rattle.log_appending.specs.declared.appending.AppendFault.TheVariants.{ClockFailed, Exhausted, DiskFailed, CommitFailed, Memory, MemoryAfter}
+use Rattle.log_appending.specs.declared.appending.AppendFault.TheVariants.{ClockFailed, Exhausted, DiskFailed}
+use Rattle.log_appending.specs.declared.appending.AppendFault.TheVariants.{CommitFailed, Memory, MemoryAfter}
 use Rattle.commands_approve.specs.declared.ends.Ends.{Ends}
 
 -- the approval with a signature of the key in place of its old one, or else last
@@ -38,11 +39,13 @@ module _ (name : List ℕ) (ends : Ends) (envelope : Envelope) (secret : Secret)
 
   -- and it is the one of a repository's attestations
   abbrev pub IsOf : Repository → List ℕ → Attested → Type 0
-  IsOf r signature a = attested r (value_of r attestations_name) name ends.from ends.tree (sealed_by secret signature envelope) (author_of seconds) ≡ Ok a
+  IsOf r signature a = attested r (value_of r attestations_name) name ends.from ends.tree
+      (sealed_by secret signature envelope) (author_of seconds) ≡ Ok a
 
   -- where its place is this
   abbrev pub IsAt : Site → List ℕ → Attested → Type 0
-  IsAt site signature a = (r : Repository) → IsSiteOf r (value_of r attestations_name) name ends.from ends.tree site → IsOf r signature a
+  IsAt site signature a = (r : Repository) → IsSiteOf r (value_of r attestations_name) name ends.from ends.tree site
+      → IsOf r signature a
 
   module _ {D : Type 0} (disk_of : disk.Ghosts D) (file file_now : D) where
     abbrev pub Signs : List ℕ → Type 0
@@ -65,7 +68,8 @@ module _ (name : List ℕ) (ends : Ends) (envelope : Envelope) (secret : Secret)
     SignEnds site (Err Memory) = file_now ≡ file
     SignEnds site (Err MemoryAfter) = (signature : List ℕ) × Signs signature
 
-module _ {R D : Type 0} (keeper_of : keeper.Ghosts R) (disk_of : disk.Ghosts D) (name : List ℕ) (ends : Ends) (envelope : Envelope) (secret : Secret) (old new : R) (file file_now : D) where
+module _ {R D : Type 0} (keeper_of : keeper.Ghosts R) (disk_of : disk.Ghosts D) (name : List ℕ) (ends : Ends)
+    (envelope : Envelope) (secret : Secret) (old new : R) (file file_now : D) where
   -- the first unused leaf signed the approval, and the change that puts it among the attestations of what was held was
   -- committed, with this outcome
   pub record Keeps (Held : Attested → Type 0) (seconds : ℕ) : Type 0 where
@@ -73,18 +77,22 @@ module _ {R D : Type 0} (keeper_of : keeper.Ghosts R) (disk_of : disk.Ghosts D) 
     pub signs : Signs name ends envelope secret seconds disk_of file file_now signature
     pub attested : Attested
     pub attests : Attests name ends envelope secret seconds signature attested
-    pub is : Told (λ was now. IsOf name ends envelope secret seconds was signature attested) (keeper_of.content old) (keeper_of.content new)
+    pub is : Told (λ was now. IsOf name ends envelope secret seconds was signature attested) (keeper_of.content old)
+        (keeper_of.content new)
     pub held : Held attested
 
-  -- why it is not kept: each leaf is used; the first unused one may be torn, or is lost; the commit failed; or nothing was
+  -- why it is not kept: each leaf is used; the first unused one may be torn, or is lost; the commit failed; or nothing
+  -- was
   -- done
   abbrev pub RefusesKeeping : AppendFault → ℕ → Type 0
   RefusesKeeping ClockFailed seconds = ⊥
-  RefusesKeeping Exhausted seconds = Untouched keeper_of disk_of old new file file_now × ((bytes : List ℕ) → disk_of.seen file_now ≡ Some bytes → IsUsedUp bytes secret)
+  RefusesKeeping Exhausted seconds = Untouched keeper_of disk_of old new file file_now
+      × ((bytes : List ℕ) → disk_of.seen file_now ≡ Some bytes → IsUsedUp bytes secret)
   RefusesKeeping DiskFailed seconds = Undisturbed keeper_of old new × MayTear disk_of secret file file_now
   RefusesKeeping CommitFailed seconds = Keeps (λ a. MayGain keeper_of old new a.change) seconds
   RefusesKeeping Memory seconds = Untouched keeper_of disk_of old new file file_now
-  RefusesKeeping MemoryAfter seconds = Undisturbed keeper_of old new × ((signature : List ℕ) × Signs name ends envelope secret seconds disk_of file file_now signature)
+  RefusesKeeping MemoryAfter seconds = Undisturbed keeper_of old new
+      × ((signature : List ℕ) × Signs name ends envelope secret seconds disk_of file file_now signature)
 
   abbrev pub KeepingEnds : Result Ends AppendFault → ℕ → Type 0
   KeepingEnds (Ok kept) seconds = Keeps (λ a. Gains keeper_of old new a.change) seconds × (kept ≡ ends)

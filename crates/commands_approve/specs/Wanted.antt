@@ -27,10 +27,12 @@ approval_or payload (Some envelope) = envelope
 
 -- the approval between these ends, as it is kept under the attestations' value
 abbrev pub IsApprovalOf : Repository → List ℕ → Ends → Envelope → Type 0
-IsApprovalOf r name ends envelope = envelope ≡ approval_or (payload_text name ends.from ends.tree) (approval_at r (value_of r attestations_name) name ends.from ends.tree)
+IsApprovalOf r name ends envelope = envelope ≡ approval_or (payload_text name ends.from ends.tree)
+    (approval_at r (value_of r attestations_name) name ends.from ends.tree)
 
 -- the approval of a reference, from where it stood after the entries at these ids to the target's tree
-pub record IsWanted (r : Repository) (ids : List (List ℕ)) (name target : List ℕ) (ends : Ends) (envelope : Envelope) : Type 0 where
+pub record IsWanted (r : Repository) (ids : List (List ℕ)) (name target : List ℕ) (ends : Ends)
+    (envelope : Envelope) : Type 0 where
   pub comes : ComesFrom r ids name ends.from
   pub goes : HasTree r target ends.tree
   pub is : IsApprovalOf r name ends envelope
@@ -49,7 +51,8 @@ pub record IsTooLong (secret : Secret) (envelope : Envelope) : Type 0 where
   pub long : FitsNot (id_text secret) (signature_len secret) envelope
 
 -- there is room, and an object is in the way of the approval's place among the attestations
-pub record IsInWay (r : Repository) (name : List ℕ) (ends : Ends) (secret : Secret) (envelope : Envelope) (id : List ℕ) : Type 0 where
+pub record IsInWay (r : Repository) (name : List ℕ) (ends : Ends) (secret : Secret) (envelope : Envelope)
+    (id : List ℕ) : Type 0 where
   pub room : HasRoom secret envelope
   pub in_way : IsInWayOf r (value_of r attestations_name) name ends.from ends.tree id
 
@@ -94,7 +97,8 @@ pub record HasApproval (r : Repository) (name : List ℕ) (ends : Ends) (P : Env
 
 abbrev pub WhyUnprepared : Repository → List ℕ → Ends → Secret → NotWanted → Type 0
 WhyUnprepared r name ends secret (Log fault) = IsUnbroken fault
-WhyUnprepared r name ends secret (Unreadable id) = HasApproval r name ends (λ envelope. IsInWay r name ends secret envelope id)
+WhyUnprepared r name ends secret (Unreadable id) =
+    HasApproval r name ends (λ envelope. IsInWay r name ends secret envelope id)
 WhyUnprepared r name ends secret Full = HasApproval r name ends (HasNoPlace secret)
 WhyUnprepared r name ends secret TooLong = HasApproval r name ends (IsTooLong secret)
 

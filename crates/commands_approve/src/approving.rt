@@ -6,8 +6,9 @@ ghost use Rattle.octets.specs.Causes.{HasCause};
 ghost use Rattle.octets.specs.Content.{Told};
 ghost use Rattle.edge_io.specs.Moments.{LeavesOnly};
 ghost use Rattle.leaf_journal.specs.KeyFile.{KeepsUsed};
-ghost use Rattle.commands_approve.specs.Approving.{ApproveEnds, TellsRefusal, clock_failed, disk_failed, keeper_failed, sink_failed, untold};
-ghost use Rattle.commands_approve.specs.Reading.{ReadsFew};
+ghost use Rattle.commands_approve.specs.Approving.{ApproveEnds, TellsRefusal, clock_failed, disk_failed, keeper_failed};
+ghost use Rattle.commands_approve.specs.Approving.{sink_failed, untold};
+ghost use Rattle.commands_approve.specs.Reads.{ReadsFew};
 
 use crate::keeping::{NotApproved, keep_approval};
 use crate::lines::{LONGEST_LINE, write_approval_line};
@@ -68,13 +69,15 @@ pub fn approve<K: Sink, R: Keeper, D: Disk, C: Clock>(
     disk: &mut D,
     clock: &mut C,
 ) -> Result<(), ApproveFault>
-    ensures ends { ApproveEnds R.Keeper D.Disk name.now target.now (C.left clock.old) (C.left clock.new) keeper.old keeper.new disk.old disk.new (K.contents sink.old) (K.contents sink.new) result }
+    ensures ends { ApproveEnds R.Keeper D.Disk name.now target.now (C.left clock.old) (C.left clock.new) keeper.old
+        keeper.new disk.old disk.new (K.contents sink.old) (K.contents sink.new) result }
     ensures any_moment { LeavesOnly D.moment D.left_since disk.old disk.new (KeepsUsed (D.may_leave disk.old)) }
     ensures sink { HasCause sink_failed (K.faults sink.old) (K.faults sink.new) result }
     ensures keeper { HasCause keeper_failed (R.faults keeper.old) (R.faults keeper.new) result }
     ensures disk { HasCause disk_failed (D.faults disk.old) (D.faults disk.new) result }
     ensures clock { HasCause clock_failed (C.faults clock.old) (C.faults clock.new) result }
-    ensures reads { OnOk result (Told (λ r now. ReadsFew r target.now (R.reads keeper.old) (R.reads keeper.new)) (R.content keeper.old) (R.content keeper.new)) }
+    ensures reads { OnOk result (Told (λ r now. ReadsFew r target.now (R.reads keeper.old) (R.reads keeper.new))
+        (R.content keeper.old) (R.content keeper.new)) }
 {
     let Ok(mut line) = Vec::with_capacity(alloc, LONGEST_LINE) else {
         return Err(unrecorded(RecordFault::Unread {

@@ -13,7 +13,7 @@ ghost use Rattle.policy_epochs.specs.declared.policies.Policy.{Policy};
 ghost use Rattle.entry_rules.specs.declared.faults.Fault.{Fault};
 ghost use Rattle.rsl_chain.specs.Logs.{IsLogOf, IsUnbroken, fault_of_keeper, log_failed};
 ghost use Rattle.commands_approve.specs.Ends.{ComesFrom, HasTree, IsBrokenAt, WhyNoEnds, not_failed};
-ghost use Rattle.commands_approve.specs.Reading.{ReadsEntries, state_reads};
+ghost use Rattle.commands_approve.specs.Reads.{ReadsEntries, state_reads};
 
 use entry_rules::EntryRules;
 use git_object::{Ids, ObjectId, RefName};
@@ -45,7 +45,8 @@ pub enum NotWanted {
 
 // Where a reference stood after the entries that an engine took.
 fn prior_of(engine: &LogEngine, name: &RefName) -> ObjectId
-    ensures { (rules : Rules Policy Fault) (log : List Taken) → Stands rules log engine.now → result ≡ from rules log name.now }
+    ensures { (rules : Rules Policy Fault) (log : List Taken) → Stands rules log engine.now
+        → result ≡ from rules log name.now }
 {
     engine.prior_target(name).unwrap_or(ObjectId::zeros())
 }
@@ -57,11 +58,14 @@ fn read_from<R: Keeper>(
     ids: &Ids,
     keeper: &mut R,
 ) -> Result<ObjectId, LogFault>
-    ensures from { IfOk result (λ from. (r : Repository) → R.content keeper.new ≡ Some r → ComesFrom r ids.now name.now from) }
-    ensures unbroken { IfErr result (λ fault. (r : Repository) → R.content keeper.new ≡ Some r → IsLogOf r ids.now → IsUnbroken fault) }
+    ensures from { IfOk result (λ from. (r : Repository) → R.content keeper.new ≡ Some r
+        → ComesFrom r ids.now name.now from) }
+    ensures unbroken { IfErr result (λ fault. (r : Repository) → R.content keeper.new ≡ Some r → IsLogOf r ids.now
+        → IsUnbroken fault) }
     ensures same { Undisturbed R.Keeper keeper.old keeper.new }
     ensures cause { HasCause log_failed (R.faults keeper.old) (R.faults keeper.new) result }
-    ensures reads { OnOk result ((r : Repository) → R.content keeper.new ≡ Some r → ReadsEntries r ids.now 0 (R.reads keeper.old) (R.reads keeper.new)) }
+    ensures reads { OnOk result ((r : Repository) → R.content keeper.new ≡ Some r
+        → ReadsEntries r ids.now 0 (R.reads keeper.old) (R.reads keeper.new)) }
 {
     let rules = EntryRules::new(None);
     match judge_entries(alloc, keeper, &rules, ids.as_slice()) {
@@ -76,11 +80,14 @@ fn read_tree<R: Keeper>(
     target: &ObjectId,
     keeper: &mut R,
 ) -> Result<Result<ObjectId, ObjectId>, KeeperFault>
-    ensures tree { IfOk result (λ found. IfOk found (λ tree. (r : Repository) → R.content keeper.new ≡ Some r → HasTree r target.now tree)) }
-    ensures broken { IfOk result (λ found. IfErr found (λ id. (r : Repository) → R.content keeper.new ≡ Some r → IsBrokenAt r target.now id)) }
+    ensures tree { IfOk result (λ found. IfOk found (λ tree. (r : Repository) → R.content keeper.new ≡ Some r
+        → HasTree r target.now tree)) }
+    ensures broken { IfOk result (λ found. IfErr found (λ id. (r : Repository) → R.content keeper.new ≡ Some r
+        → IsBrokenAt r target.now id)) }
     ensures same { Undisturbed R.Keeper keeper.old keeper.new }
     ensures cause { HasCause keeper_failed (R.faults keeper.old) (R.faults keeper.new) result }
-    ensures reads { (r : Repository) → R.content keeper.new ≡ Some r → R.reads keeper.new ≤ R.reads keeper.old + state_reads r target.now }
+    ensures reads { (r : Repository) → R.content keeper.new ≡ Some r → R.reads keeper.new ≤ R.reads keeper.old
+        + state_reads r target.now }
 {
     match state_of(alloc, keeper, target)? {
         State::Absent => Ok(Ok(ObjectId::zeros())),
@@ -110,11 +117,14 @@ pub fn read_ends<R: Keeper>(
     ids: &Ids,
     keeper: &mut R,
 ) -> Result<Ends, NotWanted>
-    ensures ends { IfOk result (λ ends. (r : Repository) → R.content keeper.new ≡ Some r → ComesFrom r ids.now name.now ends.from × HasTree r target.now ends.tree) }
-    ensures why { IfErr result (λ why. (r : Repository) → R.content keeper.new ≡ Some r → IsLogOf r ids.now → WhyNoEnds r target.now why) }
+    ensures ends { IfOk result (λ ends. (r : Repository) → R.content keeper.new ≡ Some r
+        → ComesFrom r ids.now name.now ends.from × HasTree r target.now ends.tree) }
+    ensures why { IfErr result (λ why. (r : Repository) → R.content keeper.new ≡ Some r → IsLogOf r ids.now
+        → WhyNoEnds r target.now why) }
     ensures same { Undisturbed R.Keeper keeper.old keeper.new }
     ensures cause { HasCause not_failed (R.faults keeper.old) (R.faults keeper.new) result }
-    ensures reads { OnOk result ((r : Repository) → R.content keeper.new ≡ Some r → ReadsEntries r ids.now (state_reads r target.now) (R.reads keeper.old) (R.reads keeper.new)) }
+    ensures reads { OnOk result ((r : Repository) → R.content keeper.new ≡ Some r
+        → ReadsEntries r ids.now (state_reads r target.now) (R.reads keeper.old) (R.reads keeper.new)) }
 {
     let from = match read_from(alloc, name, ids, keeper) {
         Ok(from) => from,

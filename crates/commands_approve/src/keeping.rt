@@ -6,7 +6,7 @@ ghost use Rattle.octets.specs.Content.{Told};
 ghost use Rattle.edge_io.specs.Moments.{LeavesOnly};
 ghost use Rattle.leaf_journal.specs.KeyFile.{KeepsUsed};
 ghost use Rattle.commands_approve.specs.Approving.{KeptEnds, no_clock, no_disk, no_keeper, not_kept};
-ghost use Rattle.commands_approve.specs.Reading.{ReadsFew};
+ghost use Rattle.commands_approve.specs.Reads.{ReadsFew};
 
 use crate::ends::{Ends, NotWanted};
 use crate::preparing::prepare;
@@ -54,12 +54,14 @@ pub fn keep_approval<R: Keeper, D: Disk, C: Clock>(
     disk: &mut D,
     clock: &mut C,
 ) -> Result<Ends, NotApproved>
-    ensures ends { KeptEnds R.Keeper D.Disk name.now target.now (C.left clock.old) (C.left clock.new) keeper.old keeper.new disk.old disk.new result }
+    ensures ends { KeptEnds R.Keeper D.Disk name.now target.now (C.left clock.old) (C.left clock.new) keeper.old
+        keeper.new disk.old disk.new result }
     ensures any_moment { LeavesOnly D.moment D.left_since disk.old disk.new (KeepsUsed (D.may_leave disk.old)) }
     ensures keeper { HasCause no_keeper (R.faults keeper.old) (R.faults keeper.new) result }
     ensures disk { HasCause no_disk (D.faults disk.old) (D.faults disk.new) result }
     ensures clock { HasCause no_clock (C.faults clock.old) (C.faults clock.new) result }
-    ensures reads { OnOk result (Told (λ r now. ReadsFew r target.now (R.reads keeper.old) (R.reads keeper.new)) (R.content keeper.old) (R.content keeper.new)) }
+    ensures reads { OnOk result (Told (λ r now. ReadsFew r target.now (R.reads keeper.old) (R.reads keeper.new))
+        (R.content keeper.old) (R.content keeper.new)) }
 {
     let opened = match open_whole_log(alloc, keeper, disk) {
         Ok(opened) => opened,

@@ -4,7 +4,7 @@ ghost use Rattle.std.specs.Prelude.{◌≡◌, ◌≤◌, []};
 ghost use Rattle.std.specs.Vec.{vec_capacity};
 ghost use Rattle.commands_approve.specs.Lines.{approval_line};
 
-use crate::Ends;
+use crate::ends::Ends;
 use log_appending::append;
 
 /// The most bytes of a line.

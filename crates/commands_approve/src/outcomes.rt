@@ -3,7 +3,7 @@
 ghost use Rattle.std.specs.Prelude.{◌≡◌};
 ghost use Rattle.commands_approve.specs.Outcomes.{approve_ending, fault_ending};
 
-use crate::ApproveFault;
+use crate::approving::ApproveFault;
 use endings::{Ending, Refusal};
 use log_appending::record_ending;
 

@@ -13,8 +13,9 @@ ghost use Rattle.git_object.specs.References.{attestations_name};
 ghost use Rattle.approvals.specs.Sites.{IsFitSite, IsSiteOf};
 ghost use Rattle.envelope_signing.specs.Seals.{IsSealable, id_text};
 ghost use Rattle.commands_approve.specs.Ends.{ComesFrom, HasTree, not_failed};
-ghost use Rattle.commands_approve.specs.Reading.{ReadsEntries, state_reads};
-ghost use Rattle.commands_approve.specs.Wanted.{HasRoom, IsApprovalOf, IsPrepared, IsWanted, WhyNoPlace, WhyNoRoom, WhyNotWanted, WhyUnprepared, approval_or, no_place};
+ghost use Rattle.commands_approve.specs.Reads.{ReadsEntries, state_reads};
+ghost use Rattle.commands_approve.specs.Wanted.{HasRoom, IsApprovalOf, IsPrepared, IsWanted, WhyNoPlace, WhyNoRoom};
+ghost use Rattle.commands_approve.specs.Wanted.{WhyNotWanted, WhyUnprepared, approval_or, no_place};
 
 use crate::ends::{Ends, NotWanted, read_ends};
 use approvals::{AttestFault, Site, find_site, load_approval, payload_of};
@@ -69,7 +70,8 @@ fn no_store(fault: KeeperFault) -> NotWanted
 
 // The value of the reference to the attestations: its id, or zeros where it is not there.
 fn read_attestations<R: Keeper>(alloc: Global, keeper: &mut R) -> Result<ObjectId, KeeperFault>
-    ensures value { IfOk result (λ id. (r : Repository) → R.content keeper.new ≡ Some r → id ≡ value_of r attestations_name) }
+    ensures value { IfOk result (λ id. (r : Repository) → R.content keeper.new ≡ Some r
+        → id ≡ value_of r attestations_name) }
     ensures same { Undisturbed R.Keeper keeper.old keeper.new }
     ensures cause { HasCause keeper_failed (R.faults keeper.old) (R.faults keeper.new) result }
     ensures reads { R.reads keeper.new ≡ R.reads keeper.old }
@@ -83,7 +85,8 @@ fn read_attestations<R: Keeper>(alloc: Global, keeper: &mut R) -> Result<ObjectI
 
 // An approval without signatures.
 fn unsigned(alloc: Global, name: &RefName, ends: &Ends) -> Result<Envelope, Memory>
-    ensures envelope { IfOk result (λ envelope. envelope ≡ approval_or (payload_text name.now ends.now.from ends.now.tree) None) }
+    ensures envelope { IfOk result
+        (λ envelope. envelope ≡ approval_or (payload_text name.now ends.now.from ends.now.tree) None) }
     ensures approves { IfOk result (λ envelope. is_approval name.now ends.now.from ends.now.tree envelope ≡ true) }
     ensures sealable { IfOk result IsSealable }
 {
@@ -103,7 +106,8 @@ fn read_envelope<R: Keeper>(
     keeper: &mut R,
 ) -> Result<Envelope, KeeperFault>
     ensures envelope { IfOk result (λ envelope. (r : Repository) → R.content keeper.new ≡ Some r
-        → envelope ≡ approval_or (payload_text name.now ends.now.from ends.now.tree) (approval_at r attestations.now name.now ends.now.from ends.now.tree)) }
+        → envelope ≡ approval_or (payload_text name.now ends.now.from ends.now.tree)
+        (approval_at r attestations.now name.now ends.now.from ends.now.tree)) }
     ensures approves { IfOk result (λ envelope. is_approval name.now ends.now.from ends.now.tree envelope ≡ true) }
     ensures sealable { IfOk result IsSealable }
     ensures same { Undisturbed R.Keeper keeper.old keeper.new }
@@ -126,8 +130,10 @@ fn read_found<R: Keeper>(
     ends: &Ends,
     keeper: &mut R,
 ) -> Result<Found, KeeperFault>
-    ensures is { IfOk result (λ found. (r : Repository) → R.content keeper.new ≡ Some r → IsApprovalOf r name.now ends.now found.envelope) }
-    ensures value { IfOk result (λ found. (r : Repository) → R.content keeper.new ≡ Some r → found.attestations ≡ value_of r attestations_name) }
+    ensures is { IfOk result (λ found. (r : Repository) → R.content keeper.new ≡ Some r
+        → IsApprovalOf r name.now ends.now found.envelope) }
+    ensures value { IfOk result (λ found. (r : Repository) → R.content keeper.new ≡ Some r
+        → found.attestations ≡ value_of r attestations_name) }
     ensures approves { IfOk result (λ found. is_approval name.now ends.now.from ends.now.tree found.envelope ≡ true) }
     ensures sealable { IfOk result (λ found. IsSealable found.envelope) }
     ensures same { Undisturbed R.Keeper keeper.old keeper.new }
@@ -184,8 +190,10 @@ fn find_place<R: Keeper>(
     keeper: &mut R,
 ) -> Result<Site, NotWanted>
     ensures fit { IfOk result IsFitSite }
-    ensures site { IfOk result (λ site. (r : Repository) → R.content keeper.new ≡ Some r → IsSiteOf r attestations.now name.now ends.now.from ends.now.tree site) }
-    ensures why { IfErr result (λ why. (r : Repository) → R.content keeper.new ≡ Some r → WhyNoPlace r attestations.now name.now ends.now why) }
+    ensures site { IfOk result (λ site. (r : Repository) → R.content keeper.new ≡ Some r
+        → IsSiteOf r attestations.now name.now ends.now.from ends.now.tree site) }
+    ensures why { IfErr result (λ why. (r : Repository) → R.content keeper.new ≡ Some r
+        → WhyNoPlace r attestations.now name.now ends.now why) }
     ensures same { Undisturbed R.Keeper keeper.old keeper.new }
     ensures cause { HasCause not_failed (R.faults keeper.old) (R.faults keeper.new) result }
     ensures reads { R.reads keeper.new ≤ R.reads keeper.old + 27 }
@@ -213,9 +221,12 @@ fn prepare_between<R: Keeper>(
 ) -> Result<Prepared, NotWanted>
     ensures prepared { IfOk result (IsPrepared key.now.signer.secret name.now) }
     ensures ends { IfOk result (λ prepared. prepared.ends ≡ ends) }
-    ensures is { IfOk result (λ prepared. (r : Repository) → R.content keeper.new ≡ Some r → IsApprovalOf r name.now ends prepared.envelope) }
-    ensures site { IfOk result (λ prepared. (r : Repository) → R.content keeper.new ≡ Some r → IsSiteOf r (value_of r attestations_name) name.now ends.from ends.tree prepared.site) }
-    ensures why { IfErr result (λ why. (r : Repository) → R.content keeper.new ≡ Some r → WhyUnprepared r name.now ends key.now.signer.secret why) }
+    ensures is { IfOk result (λ prepared. (r : Repository) → R.content keeper.new ≡ Some r
+        → IsApprovalOf r name.now ends prepared.envelope) }
+    ensures site { IfOk result (λ prepared. (r : Repository) → R.content keeper.new ≡ Some r
+        → IsSiteOf r (value_of r attestations_name) name.now ends.from ends.tree prepared.site) }
+    ensures why { IfErr result (λ why. (r : Repository) → R.content keeper.new ≡ Some r
+        → WhyUnprepared r name.now ends key.now.signer.secret why) }
     ensures same { Undisturbed R.Keeper keeper.old keeper.new }
     ensures cause { HasCause not_failed (R.faults keeper.old) (R.faults keeper.new) result }
     ensures reads { R.reads keeper.new ≤ R.reads keeper.old + 55 }
@@ -254,14 +265,16 @@ pub fn prepare<R: Keeper>(
     keeper: &mut R,
 ) -> Result<Prepared, NotWanted>
     ensures prepared { IfOk result (IsPrepared opened.now.key.signer.secret name.now) }
-    ensures wanted { IfOk result (λ prepared. (r : Repository) → R.content keeper.new ≡ Some r → IsWanted r opened.now.log.ids name.now target.now prepared.ends prepared.envelope) }
+    ensures wanted { IfOk result (λ prepared. (r : Repository) → R.content keeper.new ≡ Some r
+        → IsWanted r opened.now.log.ids name.now target.now prepared.ends prepared.envelope) }
     ensures site { IfOk result (λ prepared. (r : Repository) → R.content keeper.new ≡ Some r
         → IsSiteOf r (value_of r attestations_name) name.now prepared.ends.from prepared.ends.tree prepared.site) }
     ensures why { IfErr result (λ why. (r : Repository) → R.content keeper.new ≡ Some r → IsLogOf r opened.now.log.ids
         → WhyNotWanted name.now target.now r opened.now.log.ids opened.now.key.signer.secret why) }
     ensures same { Undisturbed R.Keeper keeper.old keeper.new }
     ensures cause { HasCause not_failed (R.faults keeper.old) (R.faults keeper.new) result }
-    ensures reads { OnOk result ((r : Repository) → R.content keeper.new ≡ Some r → ReadsEntries r opened.now.log.ids (state_reads r target.now + 55) (R.reads keeper.old) (R.reads keeper.new)) }
+    ensures reads { OnOk result ((r : Repository) → R.content keeper.new ≡ Some r
+        → ReadsEntries r opened.now.log.ids (state_reads r target.now + 55) (R.reads keeper.old) (R.reads keeper.new)) }
 {
     let ends = match read_ends(alloc, name, target, &opened.log.ids, keeper) {
         Ok(ends) => ends,

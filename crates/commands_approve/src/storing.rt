@@ -46,9 +46,11 @@ fn seal_change(
     author: &Octets,
 ) -> Result<Attested, Memory>
     requires prepared { (name : List ℕ) × (secret : Secret) × IsPrepared secret name prepared }
-    ensures attests { IfOk result (λ a. (name : List ℕ) (secret : Secret) (seconds : ℕ) → IsPrepared secret name prepared → length sig ≡ signature_len secret → author.now ≡ author_of seconds
+    ensures attests { IfOk result (λ a. (name : List ℕ) (secret : Secret) (seconds : ℕ)
+        → IsPrepared secret name prepared → length sig ≡ signature_len secret → author.now ≡ author_of seconds
         → Attests name prepared.ends prepared.envelope secret seconds sig a) }
-    ensures at { IfOk result (λ a. (name : List ℕ) (secret : Secret) (seconds : ℕ) → IsPrepared secret name prepared → author.now ≡ author_of seconds
+    ensures at { IfOk result (λ a. (name : List ℕ) (secret : Secret) (seconds : ℕ) → IsPrepared secret name prepared
+        → author.now ≡ author_of seconds
         → IsAt name prepared.ends prepared.envelope secret seconds prepared.site sig a) }
 {
     are_bytes(sig.as_slice());
@@ -75,7 +77,8 @@ fn sign_prepared<D: Disk>(
     requires loaded { (file : List ℕ) → D.seen disk.old ≡ Some file → IsLoaded file key.signer }
     requires room { length key.room.items ≡ signature_len key.signer.secret }
     requires prepared { IsPrepared key.signer.secret name.now prepared }
-    ensures ends { SignEnds name.now prepared.ends prepared.envelope key.signer.secret seconds D.Disk disk.old disk.new prepared.site result }
+    ensures ends { SignEnds name.now prepared.ends prepared.envelope key.signer.secret seconds D.Disk disk.old disk.new
+        prepared.site result }
     ensures any_moment { LeavesOnly D.moment D.left_since disk.old disk.new (KeepsUsed (D.may_leave disk.old)) }
     ensures disk { HasCause disk_failed (D.faults disk.old) (D.faults disk.new) result }
 {
@@ -109,8 +112,10 @@ fn keep_prepared<R: Keeper, D: Disk>(
     requires loaded { (file : List ℕ) → D.seen disk.old ≡ Some file → IsLoaded file key.signer }
     requires room { length key.room.items ≡ signature_len key.signer.secret }
     requires prepared { IsPrepared key.signer.secret name.now prepared }
-    requires site { (r : Repository) → R.content keeper.old ≡ Some r → IsSiteOf r (value_of r attestations_name) name.now prepared.ends.from prepared.ends.tree prepared.site }
-    ensures ends { KeepingEnds R.Keeper D.Disk name.now prepared.ends prepared.envelope key.signer.secret keeper.old keeper.new disk.old disk.new result seconds }
+    requires site { (r : Repository) → R.content keeper.old ≡ Some r
+        → IsSiteOf r (value_of r attestations_name) name.now prepared.ends.from prepared.ends.tree prepared.site }
+    ensures ends { KeepingEnds R.Keeper D.Disk name.now prepared.ends prepared.envelope key.signer.secret keeper.old
+        keeper.new disk.old disk.new result seconds }
     ensures any_moment { LeavesOnly D.moment D.left_since disk.old disk.new (KeepsUsed (D.may_leave disk.old)) }
     ensures keeper { HasCause commit_failed (R.faults keeper.old) (R.faults keeper.new) result }
     ensures disk { HasCause disk_failed (D.faults disk.old) (D.faults disk.new) result }
@@ -145,8 +150,10 @@ pub fn store_approval<R: Keeper, D: Disk, C: Clock>(
     requires loaded { (file : List ℕ) → D.seen disk.old ≡ Some file → IsLoaded file key.signer }
     requires room { length key.room.items ≡ signature_len key.signer.secret }
     requires prepared { IsPrepared key.signer.secret name.now prepared }
-    requires site { (r : Repository) → R.content keeper.old ≡ Some r → IsSiteOf r (value_of r attestations_name) name.now prepared.ends.from prepared.ends.tree prepared.site }
-    ensures ends { StoreEnds R.Keeper D.Disk name.now prepared.ends prepared.envelope key.signer.secret keeper.old keeper.new disk.old disk.new (C.left clock.old) (C.left clock.new) result }
+    requires site { (r : Repository) → R.content keeper.old ≡ Some r
+        → IsSiteOf r (value_of r attestations_name) name.now prepared.ends.from prepared.ends.tree prepared.site }
+    ensures ends { StoreEnds R.Keeper D.Disk name.now prepared.ends prepared.envelope key.signer.secret keeper.old
+        keeper.new disk.old disk.new (C.left clock.old) (C.left clock.new) result }
     ensures any_moment { LeavesOnly D.moment D.left_since disk.old disk.new (KeepsUsed (D.may_leave disk.old)) }
     ensures keeper { HasCause commit_failed (R.faults keeper.old) (R.faults keeper.new) result }
     ensures disk { HasCause disk_failed (D.faults disk.old) (D.faults disk.new) result }

@@ -2,3 +2,4 @@ mod ToldOutcome
 mod OneSeal
 mod ToldSeal
 mod SealedFrom
+mod ToldWorld

@@ -14,7 +14,8 @@ use Rattle.commands_keys.specs.declared.signing_envelopes.SigningFault.TheVarian
 use Rattle.commands_keys.specs.declared.inputs.InputFault.{InputFault}
 use Rattle.commands_keys.specs.declared.inputs.InputFault.TheVariants as input
 use Rattle.commands_keys.specs.declared.making_keys.KeyGenFault.{KeyGenFault}
-use Rattle.commands_keys.specs.declared.making_keys.KeyGenFault.TheVariants.{NotEmpty, EntropyFailed, DiskFailed, SinkFailed, Memory}
+use Rattle.commands_keys.specs.declared.making_keys.KeyGenFault.TheVariants.{NotEmpty, EntropyFailed, DiskFailed}
+use Rattle.commands_keys.specs.declared.making_keys.KeyGenFault.TheVariants.{SinkFailed, Memory}
 use Rattle.commands_keys.specs.declared.sealing.SealFault.{SealFault}
 use Rattle.commands_keys.specs.declared.sealing.SealFault.TheVariants as seal
 

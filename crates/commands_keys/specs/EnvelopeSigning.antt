@@ -13,7 +13,8 @@ use Rattle.dsse_envelope.specs.Written.{text_of}
 use Rattle.dsse_envelope.specs.declared.envelope.Envelope.{Envelope}
 use Rattle.envelope_signing.specs.Seals.{id_text, signature_by, signed_text}
 use Rattle.commands_keys.specs.declared.signing_envelopes.SigningFault.{SigningFault}
-use Rattle.commands_keys.specs.declared.signing_envelopes.SigningFault.TheVariants.{Unopened, Full, Exhausted, DiskFailed, Memory, MemoryAfter}
+use Rattle.commands_keys.specs.declared.signing_envelopes.SigningFault.TheVariants.{Unopened, Full, Exhausted}
+use Rattle.commands_keys.specs.declared.signing_envelopes.SigningFault.TheVariants.{DiskFailed, Memory, MemoryAfter}
 
 -- the text of an envelope and a line feed
 abbrev pub line_of : Envelope → List ℕ
@@ -48,7 +49,8 @@ module _ {D : Type 0} (disk_of : disk.Ghosts D) (e : Envelope) (old new : D) whe
     pub signature : List ℕ
     pub signs : Signs secret signature
     pub line_is : line ≡ line_of (sealed (signature_by secret signature) e)
-    pub reads_back : reading (text_of (sealed (signature_by secret signature) e)) ≡ Ok (sealed (signature_by secret signature) e)
+    pub reads_back : reading (text_of (sealed (signature_by secret signature) e))
+        ≡ Ok (sealed (signature_by secret signature) e)
 
   -- the envelope has 64 signatures, and none is of the file's key
   pub record HasNoPlace : Type 0 where

@@ -12,3 +12,5 @@ pub mod Inputs
 pub mod EnvelopeSigning
 -- what each outcome of `seal` means
 pub mod Sealing
+-- what each command does to the objects outside, and what it comes to over what they hold
+pub mod Runs

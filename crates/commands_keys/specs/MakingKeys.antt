@@ -1,5 +1,6 @@
 -- What each outcome of `key-gen` means.
-use Rattle.std.specs.Prelude.{◌≡◌, ◌⊎◌, ◌<◌, ◌≤◌, ◌+◌, ℕ, List, [], length, Option, None, Some, Result, Ok, Err, option_map}
+use Rattle.std.specs.Prelude.{◌≡◌, ◌⊎◌, ◌<◌, ◌≤◌, ◌+◌, ℕ, List, [], length, Option, None, Some, Result, Ok, Err}
+use Rattle.std.specs.Prelude.{option_map}
 use Rattle.octets.specs.Content.{GainsPart, with_end, with_front}
 use Rattle.edge_io.specs.Disk.{IsKept}
 use Rattle.edge_io.specs.declared.disks.Disk as disk
@@ -17,7 +18,8 @@ use Rattle.endings.specs.declared.ending.Part.TheVariants as part
 use Rattle.endings.specs.declared.ending.Refusal.TheVariants as refusal
 use Rattle.commands_keys.specs.KeyLines.{key_line}
 use Rattle.commands_keys.specs.declared.making_keys.KeyGenFault.{KeyGenFault}
-use Rattle.commands_keys.specs.declared.making_keys.KeyGenFault.TheVariants.{NotEmpty, EntropyFailed, DiskFailed, SinkFailed, Memory}
+use Rattle.commands_keys.specs.declared.making_keys.KeyGenFault.TheVariants.{NotEmpty, EntropyFailed, DiskFailed}
+use Rattle.commands_keys.specs.declared.making_keys.KeyGenFault.TheVariants.{SinkFailed, Memory}
 
 -- how the program ends
 abbrev pub key_gen_ending : Result (Unit {0}) KeyGenFault → Ending
@@ -62,7 +64,8 @@ module _ {D : Type 0} (disk_of : disk.Ghosts D) (old new : D) where
 abbrev pub DrewPart : Option (List ℕ) → Option (List ℕ) → Type 0
 DrewPart left left_now = (left_now ≡ left) ⊎ ((i : List ℕ) × (length i ≡ 16) × (left ≡ with_front i left_now))
 
-module _ {D : Type 0} (disk_of : disk.Ghosts D) (lms : LmsType) (ots : OtsType) (bottom : Option LmsType) (left left_now : Option (List ℕ)) (old new : D) where
+module _ {D : Type 0} (disk_of : disk.Ghosts D) (lms : LmsType) (ots : OtsType) (bottom : Option LmsType)
+    (left left_now : Option (List ℕ)) (old new : D) where
   -- an identifier of 16 bytes was drawn, then a seed of 32, and nothing else
   pub record Draws (i seed : List ℕ) : Type 0 where
     pub i_long : length i ≡ 16
@@ -89,10 +92,14 @@ module _ {D : Type 0} (disk_of : disk.Ghosts D) (lms : LmsType) (ots : OtsType) 
 
   -- a key was made and told; or why not, and what is left of it
   abbrev pub KeyGenEnds : Option (List ℕ) → Option (List ℕ) → Result (Unit {0}) KeyGenFault → Type 0
-  KeyGenEnds printed printed_now (Ok done) = (key : Secret) × IsMade key × (printed_now ≡ with_end printed (key_line (public_bytes key)))
+  KeyGenEnds printed printed_now (Ok done) = (key : Secret) × IsMade key
+      × (printed_now ≡ with_end printed (key_line (public_bytes key)))
   KeyGenEnds printed printed_now (Err NotEmpty) =
-      IsUnmade disk_of old new × (printed_now ≡ printed) × ((file : List ℕ) → disk_of.seen new ≡ Some file → 0 < length file) × DrewBoth
+      IsUnmade disk_of old new × (printed_now ≡ printed)
+      × ((file : List ℕ) → disk_of.seen new ≡ Some file → 0 < length file) × DrewBoth
   KeyGenEnds printed printed_now (Err EntropyFailed) = (new ≡ old) × (printed_now ≡ printed) × DrewPart left left_now
   KeyGenEnds printed printed_now (Err DiskFailed) = (printed_now ≡ printed) × IsHalfMade
-  KeyGenEnds printed printed_now (Err SinkFailed) = (key : Secret) × IsMade key × GainsPart printed printed_now (key_line (public_bytes key))
-  KeyGenEnds printed printed_now (Err Memory) = IsUnmade disk_of old new × (printed_now ≡ printed) × ((left_now ≡ left) ⊎ DrewBoth)
+  KeyGenEnds printed printed_now (Err SinkFailed) = (key : Secret) × IsMade key
+      × GainsPart printed printed_now (key_line (public_bytes key))
+  KeyGenEnds printed printed_now (Err Memory) = IsUnmade disk_of old new × (printed_now ≡ printed)
+      × ((left_now ≡ left) ⊎ DrewBoth)

@@ -13,7 +13,8 @@ use Rattle.commands_keys.specs.EnvelopeSigning.{RefusesSigning, Seals}
 use Rattle.commands_keys.specs.Inputs as inputs
 use Rattle.commands_keys.specs.Inputs.{RefusesInput, Takes}
 use Rattle.commands_keys.specs.declared.signing_envelopes.SigningFault.{SigningFault}
-use Rattle.commands_keys.specs.declared.signing_envelopes.SigningFault.TheVariants.{Unopened, Full, Exhausted, DiskFailed, Memory, MemoryAfter}
+use Rattle.commands_keys.specs.declared.signing_envelopes.SigningFault.TheVariants.{Unopened, Full, Exhausted}
+use Rattle.commands_keys.specs.declared.signing_envelopes.SigningFault.TheVariants.{DiskFailed, Memory, MemoryAfter}
 use Rattle.commands_keys.specs.declared.inputs.InputFault.{InputFault}
 use Rattle.commands_keys.specs.declared.inputs.InputFault.TheVariants as input
 use Rattle.commands_keys.specs.declared.sealing.SealFault.{SealFault}
@@ -78,6 +79,7 @@ module _ {D : Type 0} (disk_of : disk.Ghosts D) (add : Bool) (left left_now : Op
   -- front of the line went out
   abbrev pub SealEnds : Option (List ℕ) → Option (List ℕ) → Result (Unit {0}) SealFault → Type 0
   SealEnds printed printed_now (Ok done) = (line : List ℕ) × SealsGiven line × (printed_now ≡ with_end printed line)
-  SealEnds printed printed_now (Err (Untaken fault)) = RefusesInput add left left_now fault × (new ≡ old) × (printed_now ≡ printed)
+  SealEnds printed printed_now (Err (Untaken fault)) = RefusesInput add left left_now fault × (new ≡ old)
+      × (printed_now ≡ printed)
   SealEnds printed printed_now (Err (Unsigned fault)) = RefusesGiven fault × (printed_now ≡ printed)
   SealEnds printed printed_now (Err SinkFailed) = (line : List ℕ) × SealsGiven line × GainsPart printed printed_now line

@@ -1,20 +1,16 @@
 //! The commands that work on the key file: `key-gen` and `seal`.
 //!
-//! This crate stands on `edge_io`, `leaf_journal`, `lms_keys`, `dsse_envelope` and `endings`. Each command is a
-//! function over exactly the objects that it needs, with outcomes of its own. A crate above may rely on each
-//! outcome's meaning, which stands as one table a command in `specs/`, on each object counting a fault exactly where
-//! the outcome names it, and on one outcome at most for what the objects hold (`laws`).
+//! What it promises, and where to begin: `README.md` in this crate's folder.
 
 #![tactic(auto)]
 
+mod commands;
 mod inputs;
 mod key_lines;
 pub mod laws;
 mod making_keys;
+pub mod over_objects;
 mod sealing;
 mod signing_envelopes;
 
-pub use inputs::InputFault;
-pub use making_keys::{KeyGenFault, key_gen, key_gen_ending};
-pub use sealing::{SealFault, seal, seal_ending};
-pub use signing_envelopes::SigningFault;
+pub use commands::{key_gen, seal};

@@ -4,12 +4,15 @@ ghost use Rattle.std.specs.Prelude.{◌≡◌, ◌≤◌, ◌+◌, [], IfErr, No
 ghost use Rattle.std.specs.Vec.{vec_capacity};
 ghost use Rattle.octets.specs.Causes.{HasCause, each};
 ghost use Rattle.octets.specs.Content.{with_front};
+ghost use Rattle.edge_io.specs.Moments.{LeavesOnly};
 ghost use Rattle.endings.specs.Counts.{Faults, IsCounted};
 ghost use Rattle.lms_keys.specs.LmsType.{height};
 ghost use Rattle.hss_keys.specs.Secret.{public_bytes};
 ghost use Rattle.leaf_journal.specs.Faults.{create_failed};
+ghost use Rattle.leaf_journal.specs.KeyFile.{KeepsUsed};
 ghost use Rattle.commands_keys.specs.KeyLines.{key_line};
-ghost use Rattle.commands_keys.specs.MakingKeys.{DrewPart, IsFiled, IsLow, KeyGenEnds, WhyUnmade, key_gen_ending, secret_of};
+ghost use Rattle.commands_keys.specs.MakingKeys.{DrewPart, IsFiled, IsLow, KeyGenEnds, WhyUnmade, key_gen_ending};
+ghost use Rattle.commands_keys.specs.MakingKeys.{secret_of};
 
 use crate::key_lines::{KEY_LINE, write_key_line};
 use edge_io::{Disk, Entropy, Failed, Sink, write_all};
@@ -75,6 +78,7 @@ fn make_one<D: Disk>(
     ensures filed { OnOk result (IsFiled D.Disk disk.old disk.new (secret_of lms ots None i seed)) }
     ensures told { OnOk result (line.new.items ≡ key_line (public_bytes (secret_of lms ots None i seed))) }
     ensures unmade { IfErr result (WhyUnmade D.Disk disk.old disk.new (secret_of lms ots None i seed)) }
+    ensures any_moment { LeavesOnly D.moment D.left_since disk.old disk.new (KeepsUsed (D.may_leave disk.old)) }
     ensures cause { HasCause create_failed (D.faults disk.old) (D.faults disk.new) result }
 {
     match create(alloc, disk, lms, ots, i, seed) {
@@ -103,6 +107,7 @@ fn make_two<D: Disk>(
     ensures filed { OnOk result (IsFiled D.Disk disk.old disk.new (secret_of lms ots (Some bottom) i seed)) }
     ensures told { OnOk result (line.new.items ≡ key_line (public_bytes (secret_of lms ots (Some bottom) i seed))) }
     ensures unmade { IfErr result (WhyUnmade D.Disk disk.old disk.new (secret_of lms ots (Some bottom) i seed)) }
+    ensures any_moment { LeavesOnly D.moment D.left_since disk.old disk.new (KeepsUsed (D.may_leave disk.old)) }
     ensures cause { HasCause create_failed (D.faults disk.old) (D.faults disk.new) result }
 {
     match create_two(alloc, disk, lms, bottom, ots, i, seed) {
@@ -131,6 +136,7 @@ fn make<D: Disk>(
     ensures filed { OnOk result (IsFiled D.Disk disk.old disk.new (secret_of lms ots bottom i seed)) }
     ensures told { OnOk result (line.new.items ≡ key_line (public_bytes (secret_of lms ots bottom i seed))) }
     ensures unmade { IfErr result (WhyUnmade D.Disk disk.old disk.new (secret_of lms ots bottom i seed)) }
+    ensures any_moment { LeavesOnly D.moment D.left_since disk.old disk.new (KeepsUsed (D.may_leave disk.old)) }
     ensures cause { HasCause create_failed (D.faults disk.old) (D.faults disk.new) result }
 {
     match bottom {
@@ -153,7 +159,9 @@ pub fn key_gen<K: Sink, D: Disk, E: Entropy>(
     entropy: &mut E,
 ) -> Result<(), KeyGenFault>
     requires low { IsLow lms bottom }
-    ensures ends { KeyGenEnds D.Disk lms ots bottom (E.left entropy.old) (E.left entropy.new) disk.old disk.new (K.contents sink.old) (K.contents sink.new) result }
+    ensures ends { KeyGenEnds D.Disk lms ots bottom (E.left entropy.old) (E.left entropy.new) disk.old disk.new
+        (K.contents sink.old) (K.contents sink.new) result }
+    ensures any_moment { LeavesOnly D.moment D.left_since disk.old disk.new (KeepsUsed (D.may_leave disk.old)) }
     ensures counted { (rest : Faults) → IsCounted (key_gen_ending result)
         (record rest { sink = K.faults sink.old; disk = D.faults disk.old; entropy = E.faults entropy.old })
         (record rest { sink = K.faults sink.new; disk = D.faults disk.new; entropy = E.faults entropy.new }) }

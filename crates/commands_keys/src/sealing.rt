@@ -5,7 +5,8 @@ ghost use Rattle.octets.specs.Causes.{HasCause};
 ghost use Rattle.edge_io.specs.Moments.{LeavesOnly};
 ghost use Rattle.leaf_journal.specs.KeyFile.{KeepsUsed};
 ghost use Rattle.endings.specs.Counts.{Faults, IsCounted};
-ghost use Rattle.commands_keys.specs.Sealing.{SealEnds, SealedEnds, disk_failed, input_ending, seal_ending, signing_ending, source_failed};
+ghost use Rattle.commands_keys.specs.Sealing.{SealEnds, SealedEnds, disk_failed, input_ending, seal_ending};
+ghost use Rattle.commands_keys.specs.Sealing.{signing_ending, source_failed};
 
 use crate::inputs::{InputFault, take_envelope};
 use crate::signing_envelopes::{SigningFault, sign_envelope};
@@ -117,7 +118,8 @@ pub fn seal<S: Source, K: Sink, D: Disk>(
     sink: &mut K,
     disk: &mut D,
 ) -> Result<(), SealFault>
-    ensures ends { SealEnds D.Disk add (S.left source.old) (S.left source.new) disk.old disk.new (K.contents sink.old) (K.contents sink.new) result }
+    ensures ends { SealEnds D.Disk add (S.left source.old) (S.left source.new) disk.old disk.new (K.contents sink.old)
+        (K.contents sink.new) result }
     ensures any_moment { LeavesOnly D.moment D.left_since disk.old disk.new (KeepsUsed (D.may_leave disk.old)) }
     ensures counted { (rest : Faults) → IsCounted (seal_ending result)
         (record rest { source = S.faults source.old; sink = K.faults sink.old; disk = D.faults disk.old })

@@ -42,7 +42,8 @@ fn sealed_line(alloc: Global, envelope: Envelope, signature: Signature) -> Resul
     requires id { HasTextId signature }
     requires place { has_room signature.keyid envelope.signatures ≡ true }
     ensures line { IfOk result (λ line. line ≡ line_of (sealed signature envelope)) }
-    ensures reads_back { IfOk result (λ line. reading (text_of (sealed signature envelope)) ≡ Ok (sealed signature envelope)) }
+    ensures reads_back { IfOk result
+        (λ line. reading (text_of (sealed signature envelope)) ≡ Ok (sealed signature envelope)) }
 {
     let envelope = sealed(alloc, envelope, signature)?;
     let mut line = envelope.write(alloc)?;

@@ -28,7 +28,8 @@ pub record OneOfHistory : Type 0 where
 
 -- an entry has as its number its place among the entries of the log, from 1
 abbrev pub CountsFromOne : Type 0
-CountsFromOne = (was : Repository) (front : List Entry) (entry : Entry) (rest : List Entry) → IsHistory was (front ++ entry ∷ rest) → entry.number ≡ length front + 1
+CountsFromOne = (was : Repository) (front : List Entry) (entry : Entry) (rest : List Entry)
+    → IsHistory was (front ++ entry ∷ rest) → entry.number ≡ length front + 1
 
 -- what ended is what the command comes to, or it stopped
 abbrev pub TellsOfHistory : Type 0

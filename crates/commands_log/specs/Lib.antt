@@ -5,3 +5,5 @@ pub mod Printing
 -- What the outcomes of the command mean, and what holds of them.
 pub mod Logging
 pub mod Laws
+-- What each command does to the objects outside, and what it comes to over what they hold.
+pub mod Runs

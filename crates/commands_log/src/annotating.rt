@@ -5,7 +5,8 @@ ghost use Rattle.octets.specs.Causes.{HasCause};
 ghost use Rattle.edge_io.specs.Moments.{LeavesOnly};
 ghost use Rattle.leaf_journal.specs.KeyFile.{KeepsUsed};
 ghost use Rattle.rsl_chain.specs.declared.entries.EntryBody.TheVariants.{Annotation};
-ghost use Rattle.log_appending.specs.Recording.{AnnotateEnds, NoteEnds, clock_failed, disk_failed, keeper_failed, no_clock, no_disk, no_keeper, sink_failed};
+ghost use Rattle.log_appending.specs.Recording.{AnnotateEnds, NoteEnds, clock_failed, disk_failed, keeper_failed};
+ghost use Rattle.log_appending.specs.Recording.{no_clock, no_disk, no_keeper, sink_failed};
 
 use edge_io::{Clock, Disk, Failed, Sink, write_all};
 use git_object::Ids;
@@ -40,7 +41,8 @@ fn append_note<R: Keeper, D: Disk, C: Clock>(
 ) -> Result<Appended, NotAppended>
     requires some { 0 < length ids.now }
     requires few { length ids.now ≤ 256 }
-    ensures ends { NoteEnds R.Keeper D.Disk ids.now skip message.now (C.left clock.old) (C.left clock.new) keeper.old keeper.new disk.old disk.new result }
+    ensures ends { NoteEnds R.Keeper D.Disk ids.now skip message.now (C.left clock.old) (C.left clock.new) keeper.old
+        keeper.new disk.old disk.new result }
     ensures any_moment { LeavesOnly D.moment D.left_since disk.old disk.new (KeepsUsed (D.may_leave disk.old)) }
     ensures keeper { HasCause no_keeper (R.faults keeper.old) (R.faults keeper.new) result }
     ensures disk { HasCause no_disk (D.faults disk.old) (D.faults disk.new) result }
@@ -77,7 +79,8 @@ pub fn annotate<K: Sink, R: Keeper, D: Disk, C: Clock>(
 ) -> Result<(), RecordFault>
     requires some { 0 < length ids.now }
     requires few { length ids.now ≤ 256 }
-    ensures ends { AnnotateEnds R.Keeper D.Disk ids.now skip message.now (C.left clock.old) (C.left clock.new) keeper.old keeper.new disk.old disk.new (K.contents sink.old) (K.contents sink.new) result }
+    ensures ends { AnnotateEnds R.Keeper D.Disk ids.now skip message.now (C.left clock.old) (C.left clock.new)
+        keeper.old keeper.new disk.old disk.new (K.contents sink.old) (K.contents sink.new) result }
     ensures any_moment { LeavesOnly D.moment D.left_since disk.old disk.new (KeepsUsed (D.may_leave disk.old)) }
     ensures sink { HasCause sink_failed (K.faults sink.old) (K.faults sink.new) result }
     ensures keeper { HasCause keeper_failed (R.faults keeper.old) (R.faults keeper.new) result }

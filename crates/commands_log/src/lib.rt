@@ -1,20 +1,18 @@
 //! The commands over the log: `log`, which prints its entries, and `record` and `annotate`, which add one.
 //!
-//! `log` stands on `rsl_chain`, the two others on `log_appending`. A crate above may rely on the meaning of each outcome: of
-//! `log` exactly the lines of the log's entries were printed, or the line that names its break, or a front of these, and
-//! `laws` says that a repository comes to one outcome at most; of the others the tables stand in `log_appending`.
+//! What it promises, and where to begin: `README.md` in this crate's folder.
 
 #![tactic(auto)]
 
 mod annotating;
+mod commands;
 mod faults;
 pub mod laws;
 mod lines;
 mod logging;
+pub mod over_objects;
 mod printing;
 mod recording;
 
-pub use annotating::annotate;
+pub use commands::{annotate, log, record};
 pub use faults::LogCommandFault;
-pub use logging::{log, log_ending};
-pub use recording::record;

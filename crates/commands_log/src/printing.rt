@@ -30,7 +30,8 @@ fn gather<R: Keeper>(
     piece: &mut Octets,
 ) -> Result<(), LogFault>
     ensures gathers { OnOk result (Gathers (R.content keeper.new) id.now piece.old piece.new) }
-    ensures broken { IfErr result (λ fault. (r : Repository) → R.content keeper.new ≡ Some r → IsNoEntryAs r id.now fault) }
+    ensures broken { IfErr result (λ fault. (r : Repository) → R.content keeper.new ≡ Some r
+        → IsNoEntryAs r id.now fault) }
     ensures same { Undisturbed R.Keeper keeper.old keeper.new }
     ensures cause { HasCause log_failed (R.faults keeper.old) (R.faults keeper.new) result }
     ensures reads { R.reads keeper.new ≡ one_more (R.reads keeper.old) }

@@ -28,7 +28,8 @@ pub fn record<K: Sink, R: Keeper, D: Disk, C: Clock>(
     clock: &mut C,
 ) -> Result<(), RecordFault>
     requires { name.now ≡ log_name → ⊥ }
-    ensures ends { RecordEnds R.Keeper D.Disk name.now (C.left clock.old) (C.left clock.new) keeper.old keeper.new disk.old disk.new (K.contents sink.old) (K.contents sink.new) result }
+    ensures ends { RecordEnds R.Keeper D.Disk name.now (C.left clock.old) (C.left clock.new) keeper.old keeper.new
+        disk.old disk.new (K.contents sink.old) (K.contents sink.new) result }
     ensures any_moment { LeavesOnly D.moment D.left_since disk.old disk.new (KeepsUsed (D.may_leave disk.old)) }
     ensures sink { HasCause sink_failed (K.faults sink.old) (K.faults sink.new) result }
     ensures keeper { HasCause keeper_failed (R.faults keeper.old) (R.faults keeper.new) result }

@@ -4,3 +4,4 @@ pub mod Explained
 pub mod Counted
 mod OneOutcome
 mod ToldOutcome
+mod ToldWorld

@@ -92,11 +92,14 @@ IsRefusal why (none.Unread fault) = fault ≡ reading.Memory
 IsRefusal why (none.Refused told line) = (told ≡ why) × (line ≡ policy_line why)
 IsRefusal why (none.Unappended fault) = ⊥
 
-module _ {R D : Type 0} (keeper_of : keeper.Ghosts R) (disk_of : disk.Ghosts D) (left left_now : Option (List ℕ)) (old new : R) (file file_now : D) where
+module _ {R D : Type 0} (keeper_of : keeper.Ghosts R) (disk_of : disk.Ghosts D) (left left_now : Option (List ℕ))
+    (old new : R) (file file_now : D) where
   abbrev pub Tries : Result Appended AppendFault → Type 0
-  Tries result = recording.Tries keeper_of disk_of left left_now old new file file_now (recording.Records policy_name) RecordsEpoch result
+  Tries result = recording.Tries keeper_of disk_of left left_now old new file file_now (recording.Records policy_name)
+      RecordsEpoch result
 
-  -- the line tells the fault that an entry would have, nothing was asked of the clock, and store and disk are as they were
+  -- the line tells the fault that an entry would have, nothing was asked of the clock, and store and disk are as they
+  -- were
   pub record RefusesPolicy (why : PolicyFault) (line : List ℕ) : Type 0 where
     pub line_is : line ≡ policy_line why
     pub holds : HoldsKey keeper_of disk_of new file_now
@@ -113,7 +116,8 @@ module _ {R D : Type 0} (keeper_of : keeper.Ghosts R) (disk_of : disk.Ghosts D) 
 
   -- what adding the entry and telling it came to
   abbrev pub AppliesTold : Option (List ℕ) → Option (List ℕ) → Result (Unit {0}) RecordFault → Type 0
-  AppliesTold printed printed_now result = recording.AddsTold keeper_of disk_of left left_now old new file file_now (recording.Records policy_name) RecordsEpoch printed printed_now result
+  AppliesTold printed printed_now result = recording.AddsTold keeper_of disk_of left left_now old new file file_now
+      (recording.Records policy_name) RecordsEpoch printed printed_now result
 
   -- an entry was added and told, which is an epoch; or why not, what is left of it, and what was printed
   abbrev pub ApplyEnds : Option (List ℕ) → Option (List ℕ) → Result (Unit {0}) ApplyFault → Type 0

@@ -1,5 +1,6 @@
 -- What `explain` prints: the rules that a name reaches under the policy in force after the whole log.
-use Rattle.std.specs.Prelude.{◌≡◌, ◌⊎◌, ◌++◌, ℕ, Bool, true, false, List, [], ◌∷◌, Option, Some, None, Result, Ok, Err, codes, decimal, map}
+use Rattle.std.specs.Prelude.{◌≡◌, ◌⊎◌, ◌++◌, ℕ, Bool, true, false, List, [], ◌∷◌, Option, Some, None, Result, Ok, Err}
+use Rattle.std.specs.Prelude.{codes, decimal, map}
 use Rattle.std.specs.List.{flat_map}
 use Rattle.octets.specs.Content.{GainsPart, with_end}
 use Rattle.git_object.specs.Repository.{Repository}
@@ -100,7 +101,8 @@ module _ (held : Option Repository) (printed printed_now : Option (List ℕ)) (n
   Prints (Err SinkFailed) = PrintsPart
   Prints (Err Memory) = printed_now ≡ printed
 
-  -- what each outcome means: the text was printed, or the line of the log's break, or a front of one of these, or nothing
+  -- what each outcome means: the text was printed, or the line of the log's break, or a front of one of these, or
+  -- nothing
   abbrev pub ExplainEnds : Result (Unit {0}) LogCommandFault → Type 0
   ExplainEnds (Ok done) = (text : List ℕ) × (printed_now ≡ with_end printed text) × ExplainsLog held name text
   ExplainEnds (Err (Broken id)) = (printed_now ≡ with_end printed (break_line id)) × BreaksAt id

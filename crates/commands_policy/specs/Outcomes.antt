@@ -43,7 +43,8 @@ UnrecordedComes file was SinkFailed = ⊥
 abbrev pub ApplyComes : List ℕ → Repository → Result (Unit {0}) ApplyFault → Type 0
 ApplyComes file was (Ok done) = IsReady file was × OpensEpoch was
 ApplyComes file was (Err (Unrecorded fault)) = UnrecordedComes file was fault
-ApplyComes file was (Err (Refused why line)) = (line ≡ policy_line why) × HasPolicyFault was why × ((secret : Secret) × IsKeyFile file secret)
+ApplyComes file was (Err (Refused why line)) = (line ≡ policy_line why) × HasPolicyFault was why
+    × ((secret : Secret) × IsKeyFile file secret)
 
 -- what `explain` comes to
 abbrev pub ExplainComes : Repository → Result (Unit {0}) LogCommandFault → Type 0
@@ -56,13 +57,20 @@ ExplainComes was (Err log.Memory) = ⊥
 -- ---- the laws
 -- each comes to one outcome at most
 pub record OneOfPolicy : Type 0 where
-  pub applied : (file : List ℕ) (was : Repository) (a b : Result (Unit {0}) ApplyFault) → ApplyComes file was a → ApplyComes file was b → a ≡ b
-  pub explained : (was : Repository) (a b : Result (Unit {0}) LogCommandFault) → ExplainComes was a → ExplainComes was b → a ≡ b
+  pub applied : (file : List ℕ) (was : Repository) (a b : Result (Unit {0}) ApplyFault) → ApplyComes file was a
+      → ApplyComes file was b → a ≡ b
+  pub explained : (was : Repository) (a b : Result (Unit {0}) LogCommandFault) → ExplainComes was a → ExplainComes was b
+      → a ≡ b
 
 -- what ended is what the command comes to, or it stopped
 pub record TellsOfPolicy {R D : Type 0} (keeper_of : keeper.Ghosts R) (disk_of : disk.Ghosts D) : Type 0 where
-  pub applied : (left left_now : Option (List ℕ)) (was now : Repository) (file file_now : List ℕ) (old new : R) (key key_now : D) (printed printed_now : Option (List ℕ)) (outcome : Result (Unit {0}) ApplyFault)
-      → keeper_of.content old ≡ Some was → keeper_of.content new ≡ Some now → disk_of.seen key ≡ Some file → disk_of.seen key_now ≡ Some file_now
-      → ApplyEnds keeper_of disk_of left left_now old new key key_now printed printed_now outcome → ApplyComes file was outcome ⊎ IsStopped (apply_ending outcome)
-  pub explained : (was : Repository) (printed printed_now : Option (List ℕ)) (name : Name) (outcome : Result (Unit {0}) LogCommandFault)
-      → ExplainEnds (Some was) printed printed_now name outcome → ExplainComes was outcome ⊎ IsStopped (explain_ending outcome)
+  pub applied : (left left_now : Option (List ℕ)) (was now : Repository) (file file_now : List ℕ) (old new : R)
+      (key key_now : D) (printed printed_now : Option (List ℕ)) (outcome : Result (Unit {0}) ApplyFault)
+      → keeper_of.content old ≡ Some was → keeper_of.content new ≡ Some now → disk_of.seen key ≡ Some file
+      → disk_of.seen key_now ≡ Some file_now
+      → ApplyEnds keeper_of disk_of left left_now old new key key_now printed printed_now outcome
+      → ApplyComes file was outcome ⊎ IsStopped (apply_ending outcome)
+  pub explained : (was : Repository) (printed printed_now : Option (List ℕ)) (name : Name)
+      (outcome : Result (Unit {0}) LogCommandFault)
+      → ExplainEnds (Some was) printed printed_now name outcome → ExplainComes was outcome
+      ⊎ IsStopped (explain_ending outcome)

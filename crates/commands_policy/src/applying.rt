@@ -8,7 +8,7 @@ ghost use Rattle.git_object.specs.Repository.{Repository};
 ghost use Rattle.leaf_journal.specs.KeyFile.{KeepsUsed};
 ghost use Rattle.policy_epochs.specs.declared.faults.PolicyFault.{PolicyFault};
 ghost use Rattle.commands_policy.specs.Applying.{ApplyEnds, clock_failed, disk_failed, keeper_failed, sink_failed};
-ghost use Rattle.commands_policy.specs.Reading.{ReadsPolicies};
+ghost use Rattle.commands_policy.specs.Reads.{ReadsPolicies};
 ghost use Rattle.commands_policy.specs.declared.applying.ApplyFault.TheVariants as apply;
 
 use crate::policies::{NotApplied, append_policy};
@@ -47,14 +47,17 @@ pub fn policy_apply<K: Sink, R: Keeper, D: Disk, C: Clock>(
     disk: &mut D,
     clock: &mut C,
 ) -> Result<(), ApplyFault>
-    ensures ends { ApplyEnds R.Keeper D.Disk (C.left clock.old) (C.left clock.new) keeper.old keeper.new disk.old disk.new (K.contents sink.old) (K.contents sink.new) result }
+    ensures ends { ApplyEnds R.Keeper D.Disk (C.left clock.old) (C.left clock.new) keeper.old keeper.new disk.old
+        disk.new (K.contents sink.old) (K.contents sink.new) result }
     ensures any_moment { LeavesOnly D.moment D.left_since disk.old disk.new (KeepsUsed (D.may_leave disk.old)) }
     ensures sink { HasCause sink_failed (K.faults sink.old) (K.faults sink.new) result }
     ensures keeper { HasCause keeper_failed (R.faults keeper.old) (R.faults keeper.new) result }
     ensures disk { HasCause disk_failed (D.faults disk.old) (D.faults disk.new) result }
     ensures clock { HasCause clock_failed (C.faults clock.old) (C.faults clock.new) result }
-    ensures reads { OnOk result (Told (λ r now. ReadsPolicies r (R.reads keeper.old) (R.reads keeper.new)) (R.content keeper.old) (R.content keeper.new)) }
-    ensures reads_refused { (why : PolicyFault) (line : List ℕ) → IsErrOf result (apply.Refused why line) → (r : Repository) → R.content keeper.new ≡ Some r → ReadsPolicies r (R.reads keeper.old) (R.reads keeper.new) }
+    ensures reads { OnOk result (Told (λ r now. ReadsPolicies r (R.reads keeper.old) (R.reads keeper.new))
+        (R.content keeper.old) (R.content keeper.new)) }
+    ensures reads_refused { (why : PolicyFault) (line : List ℕ) → IsErrOf result (apply.Refused why line)
+        → (r : Repository) → R.content keeper.new ≡ Some r → ReadsPolicies r (R.reads keeper.old) (R.reads keeper.new) }
 {
     let Ok(mut line) = Vec::with_capacity(alloc, LONGEST_LINE) else {
         return Err(unrecorded(RecordFault::Unread {

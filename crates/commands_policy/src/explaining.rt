@@ -47,11 +47,13 @@ fn load_text<R: Keeper>(
     name: &[u8],
     keeper: &mut R,
 ) -> Result<Octets, LogFault>
-    ensures explains { IfOk result (λ text. ExplainsLog (R.content keeper.new) (record { space = space; text = name.now }) text) }
+    ensures explains { IfOk result
+        (λ text. ExplainsLog (R.content keeper.new) (record { space = space; text = name.now }) text) }
     ensures broken { IfErr result (λ fault. (r : Repository) → R.content keeper.new ≡ Some r → IsBrokenAs r fault) }
     ensures same { Undisturbed R.Keeper keeper.old keeper.new }
     ensures cause { HasCause log_failed (R.faults keeper.old) (R.faults keeper.new) result }
-    ensures reads { OnOk result ((r : Repository) → R.content keeper.new ≡ Some r → ReadsLog r (R.reads keeper.old) (R.reads keeper.new)) }
+    ensures reads { OnOk result ((r : Repository) → R.content keeper.new ≡ Some r
+        → ReadsLog r (R.reads keeper.old) (R.reads keeper.new)) }
 {
     let epochs = match load_epochs(alloc, keeper, None) {
         Ok(epochs) => epochs,
@@ -77,11 +79,13 @@ fn print_text<K: Sink, R: Keeper>(
     sink: &mut K,
     keeper: &mut R,
 ) -> Result<(), LogCommandFault>
-    ensures prints { Prints (R.content keeper.new) (K.contents sink.old) (K.contents sink.new) (record { space = space; text = name.now }) result }
+    ensures prints { Prints (R.content keeper.new) (K.contents sink.old) (K.contents sink.new)
+        (record { space = space; text = name.now }) result }
     ensures same { Undisturbed R.Keeper keeper.old keeper.new }
     ensures keeper_cause { HasCause of_keeper (R.faults keeper.old) (R.faults keeper.new) result }
     ensures sink_cause { HasCause of_sink (K.faults sink.old) (K.faults sink.new) result }
-    ensures reads { OnOk result ((r : Repository) → R.content keeper.new ≡ Some r → ReadsLog r (R.reads keeper.old) (R.reads keeper.new)) }
+    ensures reads { OnOk result ((r : Repository) → R.content keeper.new ≡ Some r
+        → ReadsLog r (R.reads keeper.old) (R.reads keeper.new)) }
 {
     let text = load_text(alloc, space, name, keeper)?;
     write_all(sink, text.as_slice())?;
@@ -99,9 +103,11 @@ pub fn explain<K: Sink, R: Keeper>(
     sink: &mut K,
     keeper: &mut R,
 ) -> Result<(), LogCommandFault>
-    ensures ends { ExplainEnds (R.content keeper.new) (K.contents sink.old) (K.contents sink.new) (record { space = space; text = name.now }) result }
+    ensures ends { ExplainEnds (R.content keeper.new) (K.contents sink.old) (K.contents sink.new)
+        (record { space = space; text = name.now }) result }
     ensures same { Undisturbed R.Keeper keeper.old keeper.new }
-    ensures reads { OnOk result ((r : Repository) → R.content keeper.new ≡ Some r → ReadsLog r (R.reads keeper.old) (R.reads keeper.new)) }
+    ensures reads { OnOk result ((r : Repository) → R.content keeper.new ≡ Some r
+        → ReadsLog r (R.reads keeper.old) (R.reads keeper.new)) }
     ensures counted { (rest : Faults) → IsCounted (explain_ending result)
         (record rest { sink = K.faults sink.old; keeper = R.faults keeper.old })
         (record rest { sink = K.faults sink.new; keeper = R.faults keeper.new }) }

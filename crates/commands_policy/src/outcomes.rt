@@ -3,7 +3,7 @@
 ghost use Rattle.std.specs.Prelude.{◌≡◌};
 ghost use Rattle.commands_policy.specs.Outcomes.{apply_ending};
 
-use crate::ApplyFault;
+use crate::applying::ApplyFault;
 use endings::{Ending, Refusal};
 use log_appending::record_ending;
 

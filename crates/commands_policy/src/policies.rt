@@ -11,8 +11,9 @@ ghost use Rattle.rsl_chain.specs.Logs.{IsBrokenAs, IsLogOf, log_failed};
 ghost use Rattle.policy_epochs.specs.declared.faults.PolicyFault.{PolicyFault};
 ghost use Rattle.policy_reading.specs.Policies.{policy_reads};
 ghost use Rattle.policy_reading.specs.Reading.{entry_reads};
-ghost use Rattle.commands_policy.specs.Reading.{ReadsPolicies};
-ghost use Rattle.commands_policy.specs.Applying.{IsRefusal, Judges, PolicyEnds, no_clock, no_disk, no_keeper, policy_line};
+ghost use Rattle.commands_policy.specs.Reads.{ReadsPolicies};
+ghost use Rattle.commands_policy.specs.Applying.{IsRefusal, Judges, PolicyEnds, no_clock, no_disk, no_keeper};
+ghost use Rattle.commands_policy.specs.Applying.{policy_line};
 ghost use Rattle.commands_policy.specs.declared.policies.NotApplied.TheVariants as none;
 
 use edge_io::{Clock, Disk};
@@ -65,11 +66,14 @@ fn judge_value<R: Keeper>(
     ids: &Ids,
     keeper: &mut R,
 ) -> Result<Result<ObjectId, PolicyFault>, LogFault>
-    ensures judges { IfOk result (λ judged. (r : Repository) → R.content keeper.new ≡ Some r → IsLogOf r ids.now → Judges r name.now judged) }
-    ensures broken { IfErr result (λ fault. (r : Repository) → R.content keeper.new ≡ Some r → IsLogOf r ids.now → IsBrokenAs r fault) }
+    ensures judges { IfOk result (λ judged. (r : Repository) → R.content keeper.new ≡ Some r → IsLogOf r ids.now
+        → Judges r name.now judged) }
+    ensures broken { IfErr result (λ fault. (r : Repository) → R.content keeper.new ≡ Some r → IsLogOf r ids.now
+        → IsBrokenAs r fault) }
     ensures same { Undisturbed R.Keeper keeper.old keeper.new }
     ensures cause { HasCause log_failed (R.faults keeper.old) (R.faults keeper.new) result }
-    ensures reads { (r : Repository) → R.content keeper.new ≡ Some r → R.reads keeper.new ≤ R.reads keeper.old + (sum_by (entry_reads r) ids.now + policy_reads r (value_of r name.now)) }
+    ensures reads { (r : Repository) → R.content keeper.new ≡ Some r → R.reads keeper.new ≤ R.reads keeper.old
+        + (sum_by (entry_reads r) ids.now + policy_reads r (value_of r name.now)) }
 {
     let found = match keeper.read_ref(alloc, name) {
         Ok(found) => found,
@@ -91,13 +95,16 @@ pub fn append_policy<R: Keeper, D: Disk, C: Clock>(
     disk: &mut D,
     clock: &mut C,
 ) -> Result<Appended, NotApplied>
-    ensures ends { PolicyEnds R.Keeper D.Disk (C.left clock.old) (C.left clock.new) keeper.old keeper.new disk.old disk.new result }
+    ensures ends { PolicyEnds R.Keeper D.Disk (C.left clock.old) (C.left clock.new) keeper.old keeper.new disk.old
+        disk.new result }
     ensures any_moment { LeavesOnly D.moment D.left_since disk.old disk.new (KeepsUsed (D.may_leave disk.old)) }
     ensures keeper { HasCause no_keeper (R.faults keeper.old) (R.faults keeper.new) result }
     ensures disk { HasCause no_disk (D.faults disk.old) (D.faults disk.new) result }
     ensures clock { HasCause no_clock (C.faults clock.old) (C.faults clock.new) result }
-    ensures reads { OnOk result (Told (λ r now. ReadsPolicies r (R.reads keeper.old) (R.reads keeper.new)) (R.content keeper.old) (R.content keeper.new)) }
-    ensures reads_refused { (why : PolicyFault) (line : List ℕ) → IsErrOf result (none.Refused why line) → (r : Repository) → R.content keeper.new ≡ Some r → ReadsPolicies r (R.reads keeper.old) (R.reads keeper.new) }
+    ensures reads { OnOk result (Told (λ r now. ReadsPolicies r (R.reads keeper.old) (R.reads keeper.new))
+        (R.content keeper.old) (R.content keeper.new)) }
+    ensures reads_refused { (why : PolicyFault) (line : List ℕ) → IsErrOf result (none.Refused why line)
+        → (r : Repository) → R.content keeper.new ≡ Some r → ReadsPolicies r (R.reads keeper.old) (R.reads keeper.new) }
 {
     let Ok(name) = RefName::of_policy(alloc) else {
         return Err(NotApplied::Unread {

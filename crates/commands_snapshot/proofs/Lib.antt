@@ -3,3 +3,4 @@ mod ListingMade
 mod Stored
 mod OneSnapshot
 mod ToldSnapshot
+mod ToldWorld

@@ -12,3 +12,5 @@ pub mod Causes
 pub mod Contents
 -- the laws of what it comes to
 pub mod OutcomeLaws
+-- what `snapshot` does to the objects outside, and what it comes to over what they hold
+pub mod Runs

@@ -15,7 +15,8 @@ use Rattle.object_making.specs.Matching.{IsNoTree}
 use Rattle.object_making.specs.Rows.{IsListingText, Row}
 use Rattle.object_making.specs.Reading.{IsNoListing, blob_of, listed_of}
 use Rattle.commands_snapshot.specs.declared.making.InputFault.{InputFault}
-use Rattle.commands_snapshot.specs.declared.making.InputFault.TheVariants.{TooLong, NoListing, NoTree, LargeTree, SourceFailed, Memory}
+use Rattle.commands_snapshot.specs.declared.making.InputFault.TheVariants.{TooLong, NoListing, NoTree, LargeTree}
+use Rattle.commands_snapshot.specs.declared.making.InputFault.TheVariants.{SourceFailed, Memory}
 use Rattle.commands_snapshot.specs.declared.making.Made.{Made}
 
 -- the objects are a blob for each row and then trees, and whatever trees keep these objects, a walk of the root meets
@@ -25,7 +26,8 @@ pub record IsMade (rows : List Row) (made : Made) : Type 0 where
   pub new_trees : List Pair
   pub objects_are : made.objects ≡ map blob_of rows ++ new_trees
   pub are_trees : AllByRecursion IsTreeObject new_trees
-  pub leads : (trees : Trees) → Keeps trees made.objects → path_values (steps trees 32 [] made.root) ≡ values (map listed_of rows)
+  pub leads : (trees : Trees) → Keeps trees made.objects → path_values (steps trees 32 [] made.root)
+      ≡ values (map listed_of rows)
   pub only : (trees : Trees) → Keeps trees made.objects → map pair_id new_trees ≡ tree_ids trees 32 made.root
   pub visited : (trees : Trees) → Keeps trees made.objects → AreOpen trees (steps trees 32 [] made.root)
 

@@ -14,6 +14,9 @@ pub record OneOfTrees : Type 0 where
 
 -- what ended is what it comes to, or it stopped
 pub record TellsOfTrees {R : Type 0} (keeper_of : keeper.Ghosts R) : Type 0 where
-  pub snapshot : (name : List ℕ) (left_now : Option (List ℕ)) (bytes : List ℕ) (time time_now : Option (List ℕ)) (was now : Repository) (old new : R) (printed printed_now : Option (List ℕ)) (outcome : Result (Unit {0}) SnapshotFault)
+  pub snapshot : (name : List ℕ) (left_now : Option (List ℕ)) (bytes : List ℕ) (time time_now : Option (List ℕ))
+      (was now : Repository) (old new : R) (printed printed_now : Option (List ℕ))
+      (outcome : Result (Unit {0}) SnapshotFault)
       → keeper_of.content old ≡ Some was → keeper_of.content new ≡ Some now
-      → SnapshotEnds keeper_of name (Some bytes) left_now time time_now old new printed printed_now outcome → SnapshotComes name bytes was outcome ⊎ IsStopped (snapshot_ending outcome)
+      → SnapshotEnds keeper_of name (Some bytes) left_now time time_now old new printed printed_now outcome
+      → SnapshotComes name bytes was outcome ⊎ IsStopped (snapshot_ending outcome)

@@ -45,7 +45,8 @@ snapshot_ending (Err SinkFailed) = Refused (refusal.Fault part.Sink)
 abbrev pub commit_line : List ℕ → List ℕ
 commit_line id = codes "commit " ++ encode_lower id ++ codes "\n"
 
-module _ {R : Type 0} (keeper_of : keeper.Ghosts R) (name : List ℕ) (left left_now time time_now : Option (List ℕ)) (old new : R) where
+module _ {R : Type 0} (keeper_of : keeper.Ghosts R) (name : List ℕ) (left left_now time time_now : Option (List ℕ))
+    (old new : R) where
   -- the listing that the source gave was stored, and the reference stands at its commit
   pub record Snaps (id : List ℕ) : Type 0 where
     pub made : Made
@@ -71,7 +72,9 @@ module _ {R : Type 0} (keeper_of : keeper.Ghosts R) (name : List ℕ) (left left
   StoredEnds (Err SinkFailed) = ⊥
 
   abbrev pub SnapshotEnds : Option (List ℕ) → Option (List ℕ) → Result (Unit {0}) SnapshotFault → Type 0
-  SnapshotEnds printed printed_now (Ok done) = (id : List ℕ) × Snaps id × (printed_now ≡ with_end printed (commit_line id))
+  SnapshotEnds printed printed_now (Ok done) = (id : List ℕ) × Snaps id
+      × (printed_now ≡ with_end printed (commit_line id))
   SnapshotEnds printed printed_now (Err (Untaken fault)) = Unmade fault × (printed_now ≡ printed)
   SnapshotEnds printed printed_now (Err (Unstored fault)) = SnapsNone fault × (printed_now ≡ printed)
-  SnapshotEnds printed printed_now (Err SinkFailed) = (id : List ℕ) × Snaps id × GainsPart printed printed_now (commit_line id)
+  SnapshotEnds printed printed_now (Err SinkFailed) = (id : List ℕ) × Snaps id
+      × GainsPart printed printed_now (commit_line id)

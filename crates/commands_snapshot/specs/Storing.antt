@@ -16,7 +16,8 @@ use Rattle.commands_snapshot.specs.declared.making.Made.{Made}
 use Rattle.commands_snapshot.specs.declared.parents.ParentFault.{ParentFault}
 use Rattle.commands_snapshot.specs.declared.parents.ParentFault.TheVariants as parent
 use Rattle.commands_snapshot.specs.declared.storing.StoringFault.{StoringFault}
-use Rattle.commands_snapshot.specs.declared.storing.StoringFault.TheVariants.{KeeperFailed, NoCommit, ClockFailed, CommitFailed, Memory}
+use Rattle.commands_snapshot.specs.declared.storing.StoringFault.TheVariants.{KeeperFailed, NoCommit, ClockFailed}
+use Rattle.commands_snapshot.specs.declared.storing.StoringFault.TheVariants.{CommitFailed, Memory}
 
 -- the commit of a snapshot
 abbrev pub snapshot_commit : Made → Option (List ℕ) → ℕ → Pair
@@ -59,17 +60,22 @@ abbrev pub MayAsk : Option (List ℕ) → Option (List ℕ) → Type 0
 MayAsk time time_now = (time_now ≡ time) ⊎ ((seconds : ℕ) × Asks time time_now seconds)
 
 -- what each outcome of the commit means
-abbrev pub CommitEnds : {R : Type 0} → keeper.Ghosts R → List ℕ → Made → Option (List ℕ) → ℕ → R → R → Result (List ℕ) KeeperFault → Type 0
+abbrev pub CommitEnds : {R : Type 0} → keeper.Ghosts R → List ℕ → Made → Option (List ℕ) → ℕ → R → R
+    → Result (List ℕ) KeeperFault → Type 0
 CommitEnds keeper_of name made parent seconds old new (Ok id) =
-    (id ≡ pair_id (snapshot_commit made parent seconds)) × Gains keeper_of old new (snapshot_change name made.objects (snapshot_commit made parent seconds))
-CommitEnds keeper_of name made parent seconds old new (Err Failed) = MayGain keeper_of old new (snapshot_change name made.objects (snapshot_commit made parent seconds))
+    (id ≡ pair_id (snapshot_commit made parent seconds))
+    × Gains keeper_of old new (snapshot_change name made.objects (snapshot_commit made parent seconds))
+CommitEnds keeper_of name made parent seconds old new (Err Failed) =
+    MayGain keeper_of old new (snapshot_change name made.objects (snapshot_commit made parent seconds))
 CommitEnds keeper_of name made parent seconds old new (Err none.Memory) = Undisturbed keeper_of old new
 
-module _ {R : Type 0} (keeper_of : keeper.Ghosts R) (name : List ℕ) (made : Made) (time time_now : Option (List ℕ)) (old new : R) where
+module _ {R : Type 0} (keeper_of : keeper.Ghosts R) (name : List ℕ) (made : Made) (time time_now : Option (List ℕ))
+    (old new : R) where
   -- the reference stood at this parent in what is told, and this is what became of the snapshot's change
   pub record Stores (Held : Change → Type 0) (id : List ℕ) : Type 0 where
     pub parent : Option (List ℕ)
-    pub parent_is : (now : Repository) → keeper_of.content new ≡ Some now → (was : Repository) × (keeper_of.content old ≡ Some was) × IsParent was name parent
+    pub parent_is : (now : Repository) → keeper_of.content new ≡ Some now → (was : Repository)
+        × (keeper_of.content old ≡ Some was) × IsParent was name parent
     pub seconds : ℕ
     pub asked : Asks time time_now seconds
     pub id_is : id ≡ pair_id (snapshot_commit made parent seconds)

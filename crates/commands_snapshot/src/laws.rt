@@ -19,8 +19,11 @@ use object_making::laws::kept;
 /// In a repository that has each of the objects that were made of a listing under its own id, a walk of their root meets
 /// exactly the listing's paths with their modes and blobs, in its order, and each tree on it may be visited.
 pub fn listings_kept()
-    ensures { (r : Repository) (readings : Readings) → AreReadings r readings → (rows : List Row) (made : Made) → IsMade rows made
-        → AllByRecursion (λ pair. HasObject r (pair_id pair) pair) made.objects → (path_values (steps readings.trees 32 [] made.root) ≡ values (map listed_of rows)) × AreOpen readings.trees (steps readings.trees 32 [] made.root) }
+    ensures { (r : Repository) (readings : Readings) → AreReadings r readings → (rows : List Row) (made : Made)
+        → IsMade rows made
+        → AllByRecursion (λ pair. HasObject r (pair_id pair) pair) made.objects
+        → (path_values (steps readings.trees 32 [] made.root) ≡ values (map listed_of rows))
+        × AreOpen readings.trees (steps readings.trees 32 [] made.root) }
 {
     kept();
 }

@@ -1,21 +1,17 @@
 //! The command that keeps a tree: `snapshot`.
 //!
-//! This crate stands on `object_making`, `keeper_api` and `edge_io`. It reads the source to its end, makes blobs and
-//! trees of the listing, reads where the reference stands, asks the clock, commits once, and prints. A crate above
-//! may rely on each outcome's meaning over source, store, clock and sink, which stands as one table in `specs/`, and
-//! on each object counting a fault exactly where the outcome names it.
+//! What it promises, and where to begin: `README.md` in this crate's folder.
 
 #![tactic(auto)]
 
+mod commands;
 pub mod laws;
 mod making;
 pub mod outcome_laws;
 mod outcomes;
+pub mod over_objects;
 mod parents;
 mod snapshots;
 mod storing;
 
-pub use making::{InputFault, Made};
-pub use outcomes::snapshot_ending;
-pub use snapshots::{SnapshotFault, snapshot};
-pub use storing::StoringFault;
+pub use commands::snapshot;

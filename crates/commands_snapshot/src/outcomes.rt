@@ -3,7 +3,9 @@
 ghost use Rattle.std.specs.Prelude.{◌≡◌};
 ghost use Rattle.commands_snapshot.specs.Snapshots.{input_ending, snapshot_ending, storing_ending};
 
-use crate::{InputFault, SnapshotFault, StoringFault};
+use crate::making::InputFault;
+use crate::snapshots::SnapshotFault;
+use crate::storing::StoringFault;
 use endings::{Ending, Part, Refusal};
 
 fn failed(part: Part) -> Ending

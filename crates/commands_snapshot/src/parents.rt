@@ -44,7 +44,8 @@ fn reads_as_commit(alloc: Global, body: &[u8]) -> Result<bool, Memory>
 
 // Whether a commit that can be read is kept at an id.
 fn has_commit<R: Keeper>(alloc: Global, keeper: &mut R, id: &ObjectId) -> Result<bool, KeeperFault>
-    ensures has { IfOk result (λ has. (r : Repository) → R.content keeper.new ≡ Some r → IsTrue has ↔ HasCommit r id.now) }
+    ensures has { IfOk result (λ has. (r : Repository) → R.content keeper.new ≡ Some r
+        → IsTrue has ↔ HasCommit r id.now) }
     ensures same { Undisturbed R.Keeper keeper.old keeper.new }
     ensures cause { HasCause keeper_failed (R.faults keeper.old) (R.faults keeper.new) result }
     ensures reads { R.reads keeper.new ≤ R.reads keeper.old + 1 }
@@ -67,8 +68,10 @@ pub fn read_parent<R: Keeper>(
     name: &RefName,
     keeper: &mut R,
 ) -> Result<Option<ObjectId>, ParentFault>
-    ensures parent { IfOk result (λ parent. (r : Repository) → R.content keeper.new ≡ Some r → IsParent r name.now parent) }
-    ensures why { IfErr result (λ fault. (r : Repository) → R.content keeper.new ≡ Some r → WhyNoParent name.now fault r) }
+    ensures parent { IfOk result (λ parent. (r : Repository) → R.content keeper.new ≡ Some r
+        → IsParent r name.now parent) }
+    ensures why { IfErr result (λ fault. (r : Repository) → R.content keeper.new ≡ Some r
+        → WhyNoParent name.now fault r) }
     ensures same { Undisturbed R.Keeper keeper.old keeper.new }
     ensures cause { HasCause parent_failed (R.faults keeper.old) (R.faults keeper.new) result }
     ensures reads { R.reads keeper.new ≤ R.reads keeper.old + 1 }

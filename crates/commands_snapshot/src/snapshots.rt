@@ -59,7 +59,8 @@ fn take_snapshot<S: Source, R: Keeper, C: Clock>(
     keeper: &mut R,
     clock: &mut C,
 ) -> Result<ObjectId, SnapshotFault>
-    ensures ends { StoredEnds R.Keeper name.now (S.left source.old) (S.left source.new) (C.left clock.old) (C.left clock.new) keeper.old keeper.new result }
+    ensures ends { StoredEnds R.Keeper name.now (S.left source.old) (S.left source.new) (C.left clock.old)
+        (C.left clock.new) keeper.old keeper.new result }
     ensures source { HasCause source_failed (S.faults source.old) (S.faults source.new) result }
     ensures keeper { HasCause keeper_failed (R.faults keeper.old) (R.faults keeper.new) result }
     ensures clock { HasCause clock_failed (C.faults clock.old) (C.faults clock.new) result }
@@ -88,7 +89,8 @@ pub fn snapshot<S: Source, K: Sink, R: Keeper, C: Clock>(
     keeper: &mut R,
     clock: &mut C,
 ) -> Result<(), SnapshotFault>
-    ensures ends { SnapshotEnds R.Keeper name.now (S.left source.old) (S.left source.new) (C.left clock.old) (C.left clock.new) keeper.old keeper.new (K.contents sink.old) (K.contents sink.new) result }
+    ensures ends { SnapshotEnds R.Keeper name.now (S.left source.old) (S.left source.new) (C.left clock.old)
+        (C.left clock.new) keeper.old keeper.new (K.contents sink.old) (K.contents sink.new) result }
     ensures counted { (rest : Faults) → IsCounted (snapshot_ending result)
         (record rest { source = S.faults source.old; sink = K.faults sink.old; keeper = R.faults keeper.old; clock = C.faults clock.old })
         (record rest { source = S.faults source.new; sink = K.faults sink.new; keeper = R.faults keeper.new; clock = C.faults clock.new }) }

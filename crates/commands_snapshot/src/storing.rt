@@ -3,9 +3,10 @@
 ghost use Rattle.std.specs.Prelude.{◌≡◌, ◌≤◌, ◌+◌, IfOk};
 ghost use Rattle.octets.specs.Causes.{HasCause};
 ghost use Rattle.keeper_api.specs.Faults as failed;
-ghost use Rattle.commands_snapshot.specs.Storing.{CommitEnds, StoringEnds, clock_failed, keeper_failed, no_parent, snapshot_change, snapshot_commit};
+ghost use Rattle.commands_snapshot.specs.Storing.{CommitEnds, StoringEnds, clock_failed, keeper_failed, no_parent};
+ghost use Rattle.commands_snapshot.specs.Storing.{snapshot_change, snapshot_commit};
 
-use crate::Made;
+use crate::making::Made;
 use crate::parents::{ParentFault, read_parent};
 use edge_io::{Clock, Failed};
 use git_object::{Memory, Object, ObjectId, Objects, RefName};
@@ -95,7 +96,8 @@ pub fn store_snapshot<R: Keeper, C: Clock>(
     keeper: &mut R,
     clock: &mut C,
 ) -> Result<ObjectId, StoringFault>
-    ensures ends { StoringEnds R.Keeper name.now made (C.left clock.old) (C.left clock.new) keeper.old keeper.new result }
+    ensures ends { StoringEnds R.Keeper name.now made (C.left clock.old) (C.left clock.new) keeper.old keeper.new
+        result }
     ensures keeper { HasCause keeper_failed (R.faults keeper.old) (R.faults keeper.new) result }
     ensures clock { HasCause clock_failed (C.faults clock.old) (C.faults clock.new) result }
     ensures reads { R.reads keeper.new ≤ R.reads keeper.old + 1 }

@@ -1,2 +1,3 @@
 pub mod SameStream
 pub mod ToldStream
+mod ToldWorld

@@ -3,7 +3,8 @@ use Rattle.std.specs.Prelude.{ℕ, List, Option, Result, Ok, Err}
 use Rattle.git_object.specs.Repository.{Repository}
 use Rattle.clone_stream.specs.Exporting.{Exports, RefusesExport}
 use Rattle.clone_stream.specs.declared.export_faults.ExportFault.{ExportFault}
-use Rattle.clone_stream.specs.declared.export_faults.ExportFault.TheVariants.{Damaged, TooLarge, KeeperFailed, SinkFailed, Memory}
+use Rattle.clone_stream.specs.declared.export_faults.ExportFault.TheVariants.{Damaged, TooLarge, KeeperFailed}
+use Rattle.clone_stream.specs.declared.export_faults.ExportFault.TheVariants.{SinkFailed, Memory}
 use Rattle.endings.specs.declared.ending.Ending.{Ending}
 use Rattle.endings.specs.declared.ending.Ending.TheVariants.{Done, Refused}
 use Rattle.endings.specs.declared.ending.Part.TheVariants as part

@@ -21,8 +21,10 @@ import_ending (Err SinkFailed) = Refused (refusal.Fault part.Sink)
 abbrev pub imported_line : List ℕ
 imported_line = codes "imported\n"
 
-module _ {R : Type 0} (keeper_of : keeper.Ghosts R) (left left_now : Option (List ℕ)) (old new : R) (printed printed_now : Option (List ℕ)) where
-  -- the stream was taken and that was printed; or nothing was printed, or the stream was taken and a front of the line was
+module _ {R : Type 0} (keeper_of : keeper.Ghosts R) (left left_now : Option (List ℕ)) (old new : R)
+    (printed printed_now : Option (List ℕ)) where
+  -- the stream was taken and that was printed; or nothing was printed, or the stream was taken and a front of the line
+  -- was
   abbrev pub ImportEnds : Result (Unit {0}) ImportFault → Type 0
   ImportEnds (Ok done) = TakesInto keeper_of left left_now old new × (printed_now ≡ with_end printed imported_line)
   ImportEnds (Err (Untaken fault)) = DeclinesTaking keeper_of left left_now old new fault × (printed_now ≡ printed)

@@ -17,8 +17,10 @@ pub record OneOfStream : Type 0 where
 
 -- what ended is what the command comes to, or it stopped
 pub record TellsOfStream {R : Type 0} (keeper_of : keeper.Ghosts R) : Type 0 where
-  pub import : (bytes : List ℕ) (left_now : Option (List ℕ)) (was now : Repository) (old new : R) (printed printed_now : Option (List ℕ)) (outcome : Result (Unit {0}) ImportFault)
+  pub import : (bytes : List ℕ) (left_now : Option (List ℕ)) (was now : Repository) (old new : R)
+      (printed printed_now : Option (List ℕ)) (outcome : Result (Unit {0}) ImportFault)
       → keeper_of.content old ≡ Some was → keeper_of.content new ≡ Some now
-      → ImportEnds keeper_of (Some bytes) left_now old new printed printed_now outcome → ImportComes was bytes outcome ⊎ IsStopped (import_ending outcome)
+      → ImportEnds keeper_of (Some bytes) left_now old new printed printed_now outcome → ImportComes was bytes outcome
+      ⊎ IsStopped (import_ending outcome)
   pub export : (was : Repository) (printed printed_now : Option (List ℕ)) (outcome : Result (Unit {0}) ExportFault)
       → ExportEnds (Some was) printed printed_now outcome → ExportComes was outcome ⊎ IsStopped (export_ending outcome)

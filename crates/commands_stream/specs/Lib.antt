@@ -8,3 +8,5 @@ pub mod Exporting
 pub mod Contents
 -- the laws of these commands
 pub mod Laws
+-- what each command does to the objects outside, and what it comes to over what they hold
+pub mod Runs

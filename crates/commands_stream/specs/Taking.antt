@@ -78,8 +78,11 @@ module _ {R : Type 0} (keeper_of : keeper.Ghosts R) (left left_now : Option (Lis
 -- the repository is open: where a stream was asked for, it was taken, and else nothing was read
 abbrev pub Opens : Bool → {R : Type 0} → keeper.Ghosts R → Option (List ℕ) → Option (List ℕ) → R → R → Type 0
 Opens stdin keeper_of left left_now old new =
-    (IsTrue stdin × TakesInto keeper_of left left_now old new) ⊎ ((stdin ≡ false) × (left_now ≡ left) × Undisturbed keeper_of old new)
+    (IsTrue stdin × TakesInto keeper_of left left_now old new)
+    ⊎ ((stdin ≡ false) × (left_now ≡ left) × Undisturbed keeper_of old new)
 
 -- no repository is open: a stream was asked for, and none was taken
-abbrev pub DeclinesOpening : Bool → {R : Type 0} → keeper.Ghosts R → Option (List ℕ) → Option (List ℕ) → R → R → TakeFault → Type 0
-DeclinesOpening stdin keeper_of left left_now old new fault = IsTrue stdin × DeclinesTaking keeper_of left left_now old new fault
+abbrev pub DeclinesOpening : Bool → {R : Type 0} → keeper.Ghosts R → Option (List ℕ) → Option (List ℕ) → R → R
+    → TakeFault → Type 0
+DeclinesOpening stdin keeper_of left left_now old new fault = IsTrue stdin
+    × DeclinesTaking keeper_of left left_now old new fault

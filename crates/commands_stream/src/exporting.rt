@@ -49,7 +49,8 @@ pub fn export<K: Sink, R: Keeper>(
     ensures counted { (rest : Faults) → IsCounted (export_ending result)
         (record rest { sink = K.faults sink.old; keeper = R.faults keeper.old })
         (record rest { sink = K.faults sink.new; keeper = R.faults keeper.new }) }
-    ensures reads { OnOk result ((r : Repository) → R.content keeper.new ≡ Some r → R.reads keeper.new ≤ R.reads keeper.old + length (entries r.objects)) }
+    ensures reads { OnOk result ((r : Repository) → R.content keeper.new ≡ Some r
+        → R.reads keeper.new ≤ R.reads keeper.old + length (entries r.objects)) }
 {
     match write_stream(alloc, keeper, sink) {
         Ok(()) => Ok(()),

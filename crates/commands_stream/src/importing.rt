@@ -41,7 +41,8 @@ pub fn import<S: Source, K: Sink, R: Keeper>(
     sink: &mut K,
     keeper: &mut R,
 ) -> Result<(), ImportFault>
-    ensures ends { ImportEnds R.Keeper (S.left source.old) (S.left source.new) keeper.old keeper.new (K.contents sink.old) (K.contents sink.new) result }
+    ensures ends { ImportEnds R.Keeper (S.left source.old) (S.left source.new) keeper.old keeper.new
+        (K.contents sink.old) (K.contents sink.new) result }
     ensures counted { (rest : Faults) → IsCounted (import_ending result)
         (record rest { source = S.faults source.old; sink = K.faults sink.old; keeper = R.faults keeper.old })
         (record rest { source = S.faults source.new; sink = K.faults sink.new; keeper = R.faults keeper.new }) }

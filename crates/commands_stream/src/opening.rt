@@ -17,7 +17,8 @@ pub fn open<S: Source, R: Keeper>(
     keeper: &mut R,
 ) -> Result<(), TakeFault>
     ensures opens { OnOk result (Opens stdin R.Keeper (S.left source.old) (S.left source.new) keeper.old keeper.new) }
-    ensures declines { IfErr result (DeclinesOpening stdin R.Keeper (S.left source.old) (S.left source.new) keeper.old keeper.new) }
+    ensures declines { IfErr result
+        (DeclinesOpening stdin R.Keeper (S.left source.old) (S.left source.new) keeper.old keeper.new) }
     ensures unread { stdin ≡ false → source.new ≡ source.old }
     ensures counted { (rest : Faults) → IsCounted (take_ending result)
         (record rest { source = S.faults source.old; keeper = R.faults keeper.old })

@@ -54,7 +54,8 @@ pub(crate) fn take<S: Source, R: Keeper>(
     keeper: &mut R,
 ) -> Result<(), TakeFault>
     ensures took { OnOk result (TakesInto R.Keeper (S.left source.old) (S.left source.new) keeper.old keeper.new) }
-    ensures declines { IfErr result (DeclinesTaking R.Keeper (S.left source.old) (S.left source.new) keeper.old keeper.new) }
+    ensures declines { IfErr result
+        (DeclinesTaking R.Keeper (S.left source.old) (S.left source.new) keeper.old keeper.new) }
     ensures counted { (rest : Faults) → IsCounted (take_ending result)
         (record rest { source = S.faults source.old; keeper = R.faults keeper.old })
         (record rest { source = S.faults source.new; keeper = R.faults keeper.new }) }

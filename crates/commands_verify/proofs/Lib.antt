@@ -1,3 +1,4 @@
 mod SameOutcome
 mod StaysOpen
 mod ToldContent
+mod ToldWorld

@@ -9,7 +9,8 @@ use Rattle.commands_verify.specs.declared.verifying.VerifyFault.TheVariants as v
 use Rattle.commands_stream.specs.Contents.{TakeComes, IsOpened}
 
 -- a repository is opened, and this is its verdict
-pub record IsJudged (name : List ℕ) (root : Option (List (List ℕ))) (stdin : Bool) (was : Repository) (bytes : List ℕ) (verdict : RefVerdict) : Type 0 where
+pub record IsJudged (name : List ℕ) (root : Option (List (List ℕ))) (stdin : Bool) (was : Repository) (bytes : List ℕ)
+    (verdict : RefVerdict) : Type 0 where
   pub repository : Repository
   pub opened : IsOpened stdin was bytes repository
   pub judged : IsVerdict repository name (anchor_of root) verdict
@@ -21,7 +22,8 @@ pub record IsBrokenLog (stdin : Bool) (was : Repository) (bytes : List ℕ) (id 
   pub breaks : IsBreakOf repository id
 
 -- what `verify-ref` comes to
-abbrev pub VerifyComes : List ℕ → Option (List (List ℕ)) → Bool → Repository → List ℕ → Result RefVerdict VerifyFault → Type 0
+abbrev pub VerifyComes : List ℕ → Option (List (List ℕ)) → Bool → Repository → List ℕ → Result RefVerdict VerifyFault
+    → Type 0
 VerifyComes name root stdin was bytes (Ok verdict) = IsJudged name root stdin was bytes verdict
 VerifyComes name root stdin was bytes (Err (verify.Unopened fault)) = IsTrue stdin × TakeComes was bytes fault
 VerifyComes name root stdin was bytes (Err (verify.LogBroken id)) = IsBrokenLog stdin was bytes id

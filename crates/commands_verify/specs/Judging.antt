@@ -7,7 +7,8 @@ use Rattle.rsl_chain.specs.declared.log_faults.LogFault.TheVariants as log
 use Rattle.verify_ref.specs.Verdicts.{IsVerdict}
 use Rattle.commands_verify.specs.Verdicts.{RefVerdict, anchor_of}
 use Rattle.commands_verify.specs.declared.verifying.VerifyFault.{VerifyFault}
-use Rattle.commands_verify.specs.declared.verifying.VerifyFault.TheVariants.{Unopened, LogBroken, KeeperFailed, SinkFailed, Memory}
+use Rattle.commands_verify.specs.declared.verifying.VerifyFault.TheVariants.{Unopened, LogBroken, KeeperFailed}
+use Rattle.commands_verify.specs.declared.verifying.VerifyFault.TheVariants.{SinkFailed, Memory}
 
 -- the fault that the store counts
 abbrev pub judge_failed : VerifyFault → Bool

@@ -10,11 +10,15 @@ use Rattle.commands_verify.specs.declared.verifying.VerifyFault.{VerifyFault}
 
 -- it comes to one outcome at most
 pub record OneOfVerify : Type 0 where
-  pub verify : (name : List ℕ) (root : Option (List (List ℕ))) (stdin : Bool) (was : Repository) (bytes : List ℕ) (a b : Result RefVerdict VerifyFault)
+  pub verify : (name : List ℕ) (root : Option (List (List ℕ))) (stdin : Bool) (was : Repository) (bytes : List ℕ)
+      (a b : Result RefVerdict VerifyFault)
       → VerifyComes name root stdin was bytes a → VerifyComes name root stdin was bytes b → a ≡ b
 
 -- what ended is what the command comes to, or it stopped
 pub record TellsOfVerify {R : Type 0} (keeper_of : keeper.Ghosts R) : Type 0 where
-  pub verify : (name : List ℕ) (root : Option (List (List ℕ))) (stdin : Bool) (bytes : List ℕ) (left_now : Option (List ℕ)) (was now : Repository) (old new : R) (printed printed_now : Option (List ℕ)) (outcome : Result RefVerdict VerifyFault)
+  pub verify : (name : List ℕ) (root : Option (List (List ℕ))) (stdin : Bool) (bytes : List ℕ)
+      (left_now : Option (List ℕ)) (was now : Repository) (old new : R) (printed printed_now : Option (List ℕ))
+      (outcome : Result RefVerdict VerifyFault)
       → keeper_of.content old ≡ Some was → keeper_of.content new ≡ Some now
-      → VerifyEnds name root stdin keeper_of (Some bytes) left_now old new printed printed_now outcome → VerifyComes name root stdin was bytes outcome ⊎ IsStopped (verify_ending outcome)
+      → VerifyEnds name root stdin keeper_of (Some bytes) left_now old new printed printed_now outcome
+      → VerifyComes name root stdin was bytes outcome ⊎ IsStopped (verify_ending outcome)

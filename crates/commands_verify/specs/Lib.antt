@@ -8,3 +8,5 @@ pub mod Verifying
 pub mod Contents
 -- the laws of these commands
 pub mod Laws
+-- what `verify-ref` does to the objects outside, and what it comes to over what they hold
+pub mod Runs

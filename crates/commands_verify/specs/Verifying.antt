@@ -15,7 +15,8 @@ use Rattle.verify_ref.specs.Verdicts.{IsVerdict}
 use Rattle.commands_verify.specs.Verdicts.{RefVerdict, anchor_of}
 use Rattle.judging.specs.declared.verdicts.Verdict.TheVariants.{Accepted, TipDiffers, Violation}
 use Rattle.commands_verify.specs.declared.verifying.VerifyFault.{VerifyFault}
-use Rattle.commands_verify.specs.declared.verifying.VerifyFault.TheVariants.{Unopened, LogBroken, KeeperFailed, SinkFailed, Memory}
+use Rattle.commands_verify.specs.declared.verifying.VerifyFault.TheVariants.{Unopened, LogBroken, KeeperFailed}
+use Rattle.commands_verify.specs.declared.verifying.VerifyFault.TheVariants.{SinkFailed, Memory}
 
 -- how the program ends
 abbrev pub verify_ending : Result RefVerdict VerifyFault → Ending
@@ -28,7 +29,8 @@ verify_ending (Err KeeperFailed) = Refused (refusal.Fault part.Keeper)
 verify_ending (Err SinkFailed) = Refused (refusal.Fault part.Sink)
 verify_ending (Err Memory) = Refused refusal.Memory
 
-module _ (name : List ℕ) (root : Option (List (List ℕ))) (stdin : Bool) {R : Type 0} (keeper_of : keeper.Ghosts R) (left left_now : Option (List ℕ)) (old new : R) where
+module _ (name : List ℕ) (root : Option (List (List ℕ))) (stdin : Bool) {R : Type 0} (keeper_of : keeper.Ghosts R)
+    (left left_now : Option (List ℕ)) (old new : R) where
   -- the repository is open, and this is the verdict on what the store then tells
   pub record FindsVerdict (verdict : RefVerdict) : Type 0 where
     pub opens : Opens stdin keeper_of left left_now old new

@@ -49,7 +49,8 @@ pub(crate) fn judge<R: Keeper>(
     ensures judges { Judges name.now root.now (R.content keeper.new) result }
     ensures same { Undisturbed R.Keeper keeper.old keeper.new }
     ensures cause { HasCause judge_failed (R.faults keeper.old) (R.faults keeper.new) result }
-    ensures reads { OnOk result ((r : Repository) → R.content keeper.new ≡ Some r → ReadsVerdict (anchor_of root.now) r (R.reads keeper.old) (R.reads keeper.new)) }
+    ensures reads { OnOk result ((r : Repository) → R.content keeper.new ≡ Some r
+        → ReadsVerdict (anchor_of root.now) r (R.reads keeper.old) (R.reads keeper.new)) }
 {
     let Ok(anchor) = anchor_of(alloc, root) else {
         return Err(VerifyFault::Memory);

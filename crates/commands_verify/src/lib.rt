@@ -1,14 +1,13 @@
 //! The command `verify-ref`.
 //!
-//! This crate stands on `verify_ref` for the verdict on a reference, on `commands_stream` for the repository that is judged, and
-//! on `endings` for the line of a broken log. A crate above may rely on each outcome's meaning, which stands as one table in
-//! `specs/`, on the counts of faults that its ending says, and on `laws`: where the objects tell their content, the command
-//! comes to one outcome at most.
+//! What it promises, and where to begin: `README.md` in this crate's folder.
 
 #![tactic(auto)]
 
+mod commands;
 mod held_verdict;
 pub mod laws;
+pub mod over_objects;
 mod verifying;
 
-pub use verifying::{VerifyFault, verify_ending, verify_ref};
+pub use commands::verify_ref;

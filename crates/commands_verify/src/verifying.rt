@@ -72,9 +72,11 @@ fn look<S: Source, R: Keeper>(
     source: &mut S,
     keeper: &mut R,
 ) -> Result<RefVerdict, VerifyFault>
-    ensures ends { LookEnds name.now root.now stdin R.Keeper (S.left source.old) (S.left source.new) keeper.old keeper.new result }
+    ensures ends { LookEnds name.now root.now stdin R.Keeper (S.left source.old) (S.left source.new) keeper.old
+        keeper.new result }
     ensures unread { stdin ≡ false → source.new ≡ source.old }
-    ensures reads { OnOk result ((r : Repository) → R.content keeper.new ≡ Some r → ReadsVerdict (anchor_of root.now) r (R.reads keeper.old) (R.reads keeper.new)) }
+    ensures reads { OnOk result ((r : Repository) → R.content keeper.new ≡ Some r
+        → ReadsVerdict (anchor_of root.now) r (R.reads keeper.old) (R.reads keeper.new)) }
     ensures counted { (rest : Faults) → IsCounted (verify_ending result)
         (record rest { source = S.faults source.old; keeper = R.faults keeper.old })
         (record rest { source = S.faults source.new; keeper = R.faults keeper.new }) }
@@ -99,9 +101,11 @@ pub fn verify_ref<S: Source, K: Sink, R: Keeper>(
     sink: &mut K,
     keeper: &mut R,
 ) -> Result<RefVerdict, VerifyFault>
-    ensures ends { VerifyEnds name.now root.now stdin R.Keeper (S.left source.old) (S.left source.new) keeper.old keeper.new (K.contents sink.old) (K.contents sink.new) result }
+    ensures ends { VerifyEnds name.now root.now stdin R.Keeper (S.left source.old) (S.left source.new) keeper.old
+        keeper.new (K.contents sink.old) (K.contents sink.new) result }
     ensures unread { stdin ≡ false → source.new ≡ source.old }
-    ensures reads { OnOk result ((r : Repository) → R.content keeper.new ≡ Some r → ReadsVerdict (anchor_of root.now) r (R.reads keeper.old) (R.reads keeper.new)) }
+    ensures reads { OnOk result ((r : Repository) → R.content keeper.new ≡ Some r
+        → ReadsVerdict (anchor_of root.now) r (R.reads keeper.old) (R.reads keeper.new)) }
     ensures counted { (rest : Faults) → IsCounted (verify_ending result)
         (record rest { source = S.faults source.old; sink = K.faults sink.old; keeper = R.faults keeper.old })
         (record rest { source = S.faults source.new; sink = K.faults sink.new; keeper = R.faults keeper.new }) }

@@ -13,3 +13,4 @@ mod NamedReferences
 mod RuleTexts
 mod NewJournals
 mod FirstLeaves
+mod ToldWorld

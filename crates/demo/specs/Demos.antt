@@ -1,5 +1,6 @@
 -- What each outcome of `demo` means.
-use Rattle.std.specs.Prelude.{◌≡◌, ◌⊎◌, ◌++◌, ℕ, List, Bool, true, false, Option, Some, None, Result, Ok, Err, codes, decimal}
+use Rattle.std.specs.Prelude.{◌≡◌, ◌⊎◌, ◌++◌, ℕ, List, Bool, true, false, Option, Some, None, Result, Ok, Err, codes}
+use Rattle.std.specs.Prelude.{decimal}
 use Rattle.octets.specs.Content.{GainsPart, with_end}
 use Rattle.git_object.specs.Repository.{Repository}
 use Rattle.keeper_api.specs.declared.keepers.Keeper as keeper
@@ -64,7 +65,8 @@ demo_lines n verdict = codes "demo " ++ decimal n ++ codes "\n" ++ line main_nam
 
 -- ---- what it means
 module _ (n : ℕ) {R : Type 0} (keeper_of : keeper.Ghosts R) (old new : R) where
-  -- the store was filled, and this is the verdict on the branch of the repository that it then tells, under no given root
+  -- the store was filled, and this is the verdict on the branch of the repository that it then tells, under no given
+  -- root
   pub record FindsVerdict (verdict : Verdict Fault) : Type 0 where
     pub fills : Fills n keeper_of old new
     pub is : (r : Repository) → keeper_of.content new ≡ Some r → IsVerdict r main_name None verdict
@@ -85,15 +87,18 @@ module _ (n : ℕ) {R : Type 0} (keeper_of : keeper.Ghosts R) (old new : R) wher
 
   -- a verdict was found, and a front of the lines was printed, and not all
   abbrev pub PrintsPart : Option (List ℕ) → Option (List ℕ) → Type 0
-  PrintsPart printed printed_now = (verdict : Verdict Fault) × FindsVerdict verdict × GainsPart printed printed_now (demo_lines n verdict)
+  PrintsPart printed printed_now = (verdict : Verdict Fault) × FindsVerdict verdict
+      × GainsPart printed printed_now (demo_lines n verdict)
 
   -- a break was found, and a front of its line was printed, and not all
   abbrev pub PrintsBreakPart : Option (List ℕ) → Option (List ℕ) → Type 0
   PrintsBreakPart printed printed_now = (id : List ℕ) × FindsBreak id × GainsPart printed printed_now (break_line id)
 
   abbrev pub DemoEnds : Option (List ℕ) → Option (List ℕ) → Result (Verdict Fault) DemoFault → Type 0
-  DemoEnds printed printed_now (Ok verdict) = FindsVerdict verdict × (printed_now ≡ with_end printed (demo_lines n verdict))
-  DemoEnds printed printed_now (Err (Unfilled fault)) = FillEnds n keeper_of old new (Err fault) × (printed_now ≡ printed)
+  DemoEnds printed printed_now (Ok verdict) = FindsVerdict verdict
+      × (printed_now ≡ with_end printed (demo_lines n verdict))
+  DemoEnds printed printed_now (Err (Unfilled fault)) = FillEnds n keeper_of old new (Err fault)
+      × (printed_now ≡ printed)
   DemoEnds printed printed_now (Err (LogBroken id)) = FindsBreak id × (printed_now ≡ with_end printed (break_line id))
   DemoEnds printed printed_now (Err KeeperFailed) = Fills n keeper_of old new × (printed_now ≡ printed)
   DemoEnds printed printed_now (Err SinkFailed) = PrintsPart printed printed_now ⊎ PrintsBreakPart printed printed_now

@@ -1,4 +1,5 @@
--- The history of a demonstration: its commits, the log that records them, and the repository that all of it is. Change j is
+-- The history of a demonstration: its commits, the log that records them, and the repository that all of it is. Change
+-- j is
 -- recorded by entry j + 1 of the log; entry 1 records the policy.
 use Rattle.std.specs.Prelude.{◌++◌, ◌∷◌, ◌+◌, ◌%◌, [], ℕ, suc, zero, List, Option, Some, None, codes}
 use Rattle.git_object.specs.Names.{log_name}
@@ -44,12 +45,18 @@ uses_after (suc j) = with_use (suc j % 3) (uses_after j)
 abbrev pub signed_entry : ℕ → ℕ → Draft → Pair
 signed_entry k leaf draft = record {
   kind = kind.Commit;
-  body = signed_text_of (unsigned_text draft) (record { signer = key_id k; signature = signed_by (demo_key k) leaf (unsigned_text draft) });
+  body = signed_text_of (unsigned_text draft)
+      (record { signer = key_id k; signature = signed_by (demo_key k) leaf (unsigned_text draft) });
 }
 
 -- a draft that records at these seconds where a reference stands
 abbrev pub draft_of : ℕ → Option (List ℕ) → ℕ → List ℕ → List ℕ → Draft
-draft_of number parent seconds name target = record { parent = parent; author = author_of seconds; number = number; body = Reference name target }
+draft_of number parent seconds name target = record {
+  parent = parent;
+  author = author_of seconds;
+  number = number;
+  body = Reference name target;
+}
 
 -- entry 1 records the policy
 abbrev pub policy_entry : Pair
@@ -57,12 +64,14 @@ policy_entry = signed_entry 0 2 (draft_of 1 None 0 policy_name policy_id)
 
 -- the entry that records change j, after another: it is signed by key j mod 3 with its first unused leaf
 abbrev pub change_entry : ℕ → Uses → List ℕ → List ℕ → Pair
-change_entry j before parent target = signed_entry (j % 3) (uses_of (j % 3) before) (draft_of (j + 1) (Some parent) j main_name target)
+change_entry j before parent target =
+    signed_entry (j % 3) (uses_of (j % 3) before) (draft_of (j + 1) (Some parent) j main_name target)
 
 -- the last entry of the log after change j
 unfoldable pub tip_after : ℕ → List ℕ
 tip_after zero = pair_id policy_entry
-tip_after (suc j) = pair_id (change_entry (suc j) (uses_after j) (tip_after j) (pair_id (change_commit (suc j) (main_after j))))
+tip_after (suc j) = pair_id (change_entry (suc j) (uses_after j) (tip_after j)
+    (pair_id (change_commit (suc j) (main_after j))))
 
 -- ---- the whole
 
@@ -75,7 +84,8 @@ objects_after (suc j) =
 
 -- where the three references stand
 abbrev pub refs_at : Option (List ℕ) → List ℕ → List ℕ → List RefChange
-refs_at main policy tip = record { name = main_name; to = main } ∷ record { name = policy_name; to = Some policy } ∷ record { name = log_name; to = Some tip } ∷ []
+refs_at main policy tip = record { name = main_name; to = main } ∷ record { name = policy_name; to = Some policy }
+    ∷ record { name = log_name; to = Some tip } ∷ []
 
 -- the objects and references after n changes
 abbrev pub demo_change : ℕ → Change

@@ -33,4 +33,5 @@ uses_of k uses = if k == 0 then uses.zeroth else if k == 1 then uses.first else 
 -- once more by the key of a number
 abbrev pub with_use : ℕ → Uses → Uses
 with_use k uses =
-    if k == 0 then record uses { zeroth = uses.zeroth + 1 } else if k == 1 then record uses { first = uses.first + 1 } else record uses { second = uses.second + 1 }
+    if k == 0 then record uses { zeroth = uses.zeroth + 1 } else if k == 1 then record uses { first = uses.first + 1 }
+    else record uses { second = uses.second + 1 }

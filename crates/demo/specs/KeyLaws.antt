@@ -5,4 +5,5 @@ use Rattle.demo.specs.Keys.{demo_key, public_bytes, signed_by}
 
 -- the signature of each message with each leaf of each key is good for the key
 abbrev pub SignWell : Type 0
-SignWell = (k leaf : ℕ) (message : List ℕ) → leaf < 1024 → SigOk (public_bytes k) message (signed_by (demo_key k) leaf message)
+SignWell = (k leaf : ℕ) (message : List ℕ) → leaf < 1024
+    → SigOk (public_bytes k) message (signed_by (demo_key k) leaf message)

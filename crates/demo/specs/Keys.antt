@@ -13,7 +13,8 @@ identifier_text k = codes "demo-i-" ++ decimal k
 abbrev pub seed_text : ℕ → List ℕ
 seed_text k = codes "demo-seed-" ++ decimal k
 
--- the key of a number, with 1,024 leaves and digits of four bits: the identifier is the first 16 bytes of the one hash, and
+-- the key of a number, with 1,024 leaves and digits of four bits: the identifier is the first 16 bytes of the one hash,
+-- and
 -- the seed the other
 unfoldable pub demo_key : ℕ → Secret
 demo_key k = record { lms = H10; ots = W4; i = take 16 (sha256 (identifier_text k)); seed = sha256 (seed_text k) }

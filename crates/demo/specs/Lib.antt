@@ -6,6 +6,8 @@ pub mod Demos
 pub mod Contents
 -- the laws of that
 pub mod Laws
+-- what `demo` does to the objects outside, and what it comes to over what they hold
+pub mod Runs
 -- the policy: its files, their trees and its commit
 pub mod Policies
 -- what the files of a change are, and their trees

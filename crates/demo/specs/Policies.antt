@@ -40,7 +40,14 @@ abbrev pub first_role : Role
 first_role = record { persons = person_of (key_id 0) ∷ []; threshold = 1 }
 
 abbrev pub demo_root : Root
-demo_root = record { schema = 1; version = 1; keys = listed_key 0 ∷ []; persons = []; root = first_role; targets = first_role }
+demo_root = record {
+  schema = 1;
+  version = 1;
+  keys = listed_key 0 ∷ [];
+  persons = [];
+  root = first_role;
+  targets = first_role;
+}
 
 -- key 1 alone changes what is below keys/
 abbrev pub keys_rule : Rule
@@ -80,10 +87,17 @@ payload_type = codes "application/vnd.gittuf+json"
 
 -- the signature of a payload by a key with a leaf
 abbrev pub seal_of : ℕ → ℕ → List ℕ → Signature
-seal_of k leaf payload = record { keyid = encode_lower (key_id k); sig = signed_by (demo_key k) leaf (pae payload_type payload) }
+seal_of k leaf payload = record {
+  keyid = encode_lower (key_id k);
+  sig = signed_by (demo_key k) leaf (pae payload_type payload);
+}
 
 abbrev pub sealed_with : ℕ → ℕ → List ℕ → Envelope
-sealed_with k leaf payload = record { payload_type = payload_type; payload = payload; signatures = seal_of k leaf payload ∷ [] }
+sealed_with k leaf payload = record {
+  payload_type = payload_type;
+  payload = payload;
+  signatures = seal_of k leaf payload ∷ [];
+}
 
 -- a file of the policy, which key 0 signed with a leaf
 abbrev pub policy_file : ℕ → List ℕ → Pair

@@ -1,5 +1,6 @@
 -- The files of a demonstration after each change, and their trees. Changes are numbered from 1.
-use Rattle.std.specs.Prelude.{◌++◌, ◌∷◌, ◌%◌, ◌==◌, [], ℕ, suc, zero, Bool, List, Option, Some, None, codes, decimal, if◌then◌else◌}
+use Rattle.std.specs.Prelude.{◌++◌, ◌∷◌, ◌%◌, ◌==◌, [], ℕ, suc, zero, Bool, List, Option, Some, None, codes, decimal}
+use Rattle.std.specs.Prelude.{if◌then◌else◌}
 use Rattle.std.specs.Option.{option_map}
 use Rattle.git_object.specs.EntryParts.{entry_of}
 use Rattle.git_object.specs.Objects.{Pair, pair_id}

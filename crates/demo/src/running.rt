@@ -105,7 +105,8 @@ fn fill_and_judge<R: Keeper>(
     requires name { name.now ≡ main_name }
     ensures ends { JudgeEnds count R.Keeper keeper.old keeper.new result }
     ensures cause { HasCause keeper_failed (R.faults keeper.old) (R.faults keeper.new) result }
-    ensures reads { OnOk result ((r : Repository) → R.content keeper.new ≡ Some r → ReadsVerdict None r (R.reads keeper.old) (R.reads keeper.new)) }
+    ensures reads { OnOk result ((r : Repository) → R.content keeper.new ≡ Some r
+        → ReadsVerdict None r (R.reads keeper.old) (R.reads keeper.new)) }
 {
     match fill(alloc, count, keeper) {
         Ok(()) => {}
@@ -128,7 +129,8 @@ pub fn demo<K: Sink, R: Keeper>(
 ) -> Result<RefVerdict, DemoFault>
     requires { count ≤ 500 }
     ensures ends { DemoEnds count R.Keeper keeper.old keeper.new (K.contents sink.old) (K.contents sink.new) result }
-    ensures reads { OnOk result ((r : Repository) → R.content keeper.new ≡ Some r → ReadsVerdict None r (R.reads keeper.old) (R.reads keeper.new)) }
+    ensures reads { OnOk result ((r : Repository) → R.content keeper.new ≡ Some r
+        → ReadsVerdict None r (R.reads keeper.old) (R.reads keeper.new)) }
     ensures counted { (rest : Faults) → IsCounted (demo_ending result)
         (record rest { sink = K.faults sink.old; keeper = R.faults keeper.old })
         (record rest { sink = K.faults sink.new; keeper = R.faults keeper.new }) }

@@ -1,9 +1,6 @@
 //! The program `gittuf <store> <key> <command>`: it makes the real objects and calls `gittuf_cli::run`.
 //!
-//! A store `-` is an empty one in memory, and a path that ends in `/` a folder. A key `-` is an empty key file in
-//! memory, and any other word the path of one, which is opened only for a command that uses it, and made where
-//! nothing stands there. The source is standard input, the answer goes to standard output and a refusal to standard
-//! error.
+//! What it promises, and where to begin: `README.md` in this crate's folder.
 
 #![tactic(auto)]
 
@@ -12,7 +9,7 @@ mod needs;
 
 use crate::hints::{hint_at_shared_key, hint_at_slow_key};
 use crate::needs::{Needs, needs_of};
-use command_words::{Key, Places, Store, after_places};
+use command_words::{FrontWords, KeyPlace, Store, after_places};
 use edge_io::{Disk, Failed, FileDisk, MemDisk, OsClock, OsEntropy, StdSink, StdSource, write_all};
 use endings::{Part, Refusal};
 use gittuf_cli::{Outside, run};
@@ -96,13 +93,13 @@ fn run_with_file<R: Keeper + Drop>(
 // Runs the command over a store and the key file that the words name.
 fn run_with_key<R: Keeper + Drop>(
     rt: &HostRuntime,
-    places: Places,
+    places: FrontWords,
     needs: &Needs,
     keeper: R,
 ) -> (u8, R) {
     hint_at_slow_key(rt, needs);
     match places.key {
-        Key::File(path) if needs.key => run_with_file(rt, path, places.command, keeper),
+        KeyPlace::File(path) if needs.key => run_with_file(rt, path, places.command, keeper),
         _ => match MemDisk::new(Octets::new(rt.alloc()), KEY_BYTES, KEY_CALLS) {
             Ok(disk) => run_over(rt, places.command, keeper, disk),
             Err(_) => (refuse(rt, Refusal::Memory), keeper),
@@ -127,7 +124,7 @@ fn open(rt: &HostRuntime, folder: &str, needs: &Needs) -> Result<DirKeeper, Refu
 
 // Runs the command of the words over the store in a folder. Where the folder stays locked after an answer, that is a
 // fault; after a refusal its own status and line say enough.
-fn run_in(rt: &HostRuntime, folder: &str, places: Places, needs: &Needs) -> u8 {
+fn run_in(rt: &HostRuntime, folder: &str, places: FrontWords, needs: &Needs) -> u8 {
     let keeper = match open(rt, folder, needs) {
         Ok(keeper) => keeper,
         Err(refusal) => return refuse(rt, refusal),

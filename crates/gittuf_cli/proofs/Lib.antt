@@ -1,4 +1,3 @@
-mod KeyHeights
 mod SameOutcome
 mod ToldOutcome
 mod Headline

@@ -26,11 +26,14 @@ use Rattle.commands_stream.specs.Laws.{OneOfStream}
 use Rattle.commands_verify.specs.Laws.{OneOfVerify}
 use Rattle.commands_verify.specs.Verifying.{verify_ending}
 use Rattle.commands_snapshot.specs.OutcomeLaws.{OneOfTrees}
-use Rattle.gittuf_cli.specs.Contents.{Comes, Content, IsSettledFor, OneOutcome}
+use Rattle.worlds.specs.Telling.{Content}
+use Rattle.gittuf_cli.specs.Contents.{Comes, IsSettledFor, OneOutcome}
 
-module _ (verifying : OneOfVerify) (stream : OneOfStream) (keys : OneOfKeys) (history : OneOfHistory) (log : OneOfLog) (trees : OneOfTrees) (policy : OneOfPolicy) (approvals : OneOfApprovals) (demos : OneOfDemo) where
+module _ (verifying : OneOfVerify) (stream : OneOfStream) (keys : OneOfKeys) (history : OneOfHistory) (log : OneOfLog) (trees : OneOfTrees)
+    (policy : OneOfPolicy) (approvals : OneOfApprovals) (demos : OneOfDemo) where
   one_comes : (c : Command) (content : Content) → IsSettledFor c content → (x y : Ending) → Comes c content x → Comes c content y → x ≡ y
-  one_comes (command.VerifyRef name root stdin) content settled = one_ending verify_ending (VerifyComes name root stdin content.held content.bytes) (verifying.verify name root stdin content.held content.bytes)
+  one_comes (command.VerifyRef name root stdin) content settled =
+      one_ending verify_ending (VerifyComes name root stdin content.held content.bytes) (verifying.verify name root stdin content.held content.bytes)
   one_comes command.Export content settled = one_ending export_ending (ExportComes content.held) (stream.export content.held)
   one_comes command.Import content settled = one_ending import_ending (ImportComes content.held content.bytes) (stream.import content.held content.bytes)
   one_comes (command.KeyGen height width bottom) content settled = one_ending key_gen_ending (KeyGenComes content.file) (keys.key_gen content.file)
@@ -41,8 +44,10 @@ module _ (verifying : OneOfVerify) (stream : OneOfStream) (keys : OneOfKeys) (hi
       is.is ∙ trees.snapshot name content.bytes content.held is.outcome other.outcome settled is.means other.means ∙ sym other.is
   one_comes command.PolicyApply content settled = one_ending apply_ending (ApplyComes content.file content.held) (policy.applied content.file content.held)
   one_comes (command.Explain space text) content settled = one_ending explain_ending (ExplainComes content.held) (policy.explained content.held)
-  one_comes (command.Annotate skip ids message) content settled = one_ending record_ending (RecordComes content.file content.held) (log.recorded content.file content.held)
-  one_comes (command.Approve name target) content settled = one_ending approve_ending (ApproveComes name target content.file content.held) (approvals.approved name target content.file content.held)
+  one_comes (command.Annotate skip ids message) content settled =
+      one_ending record_ending (RecordComes content.file content.held) (log.recorded content.file content.held)
+  one_comes (command.Approve name target) content settled =
+      one_ending approve_ending (ApproveComes name target content.file content.held) (approvals.approved name target content.file content.held)
   one_comes (command.Demo count) content settled = one_ending demo_ending (DemoComes count content.held) (demos.demo count content.held)
 
   pub same_outcome : OneCommand → OneOutcome

@@ -1,13 +1,7 @@
 -- The sentence that the program exists for: what a run of `verify-ref` answers.
 use Rattle.std.specs.Prelude.{◌≡◌, ◌<◌, ◌-◌, ◌^◌, ◌⊎◌, ℕ, List, Option, Some, Ok, Bool, IsTrue}
 use Rattle.octets.specs.Content.{with_end}
-use Rattle.edge_io.specs.declared.clocks.Clock as clock
-use Rattle.edge_io.specs.declared.disks.Disk as disk
-use Rattle.edge_io.specs.declared.entropies.Entropy as entropy
-use Rattle.edge_io.specs.declared.sinks.Sink as sink
-use Rattle.edge_io.specs.declared.sources.Source as source
 use Rattle.git_object.specs.Repository.{Repository}
-use Rattle.keeper_api.specs.declared.keepers.Keeper as keeper
 use Rattle.rsl_chain.specs.Logs.{IsBreakOf}
 use Rattle.command_words.specs.FirstWords.{IsCommand}
 use Rattle.command_words.specs.declared.commands.Command.TheVariants.{VerifyRef}
@@ -17,12 +11,12 @@ use Rattle.endings.specs.Endings.{refusal_line, status_of}
 use Rattle.endings.specs.declared.ending.Refusal.TheVariants as refusal
 use Rattle.verify_ref.specs.Lines.{line}
 use Rattle.verify_ref.specs.Verdicts.{IsVerdict}
+use Rattle.worlds.specs.Telling.{Content, TellsSource, TellsStore}
+use Rattle.worlds.specs.Worlds.{Types, Ways, World, faults_of}
 use Rattle.commands_stream.specs.Contents.{IsNotTaken, IsOpened}
 use Rattle.commands_verify.specs.Verdicts.{RefVerdict, anchor_of}
 use Rattle.commands_verify.specs.Verifying.{verify_ending}
-use Rattle.gittuf_cli.specs.Contents.{Content, TellsStore}
 use Rattle.gittuf_cli.specs.Runs.{Ran, SaysLine}
-use Rattle.gittuf_cli.specs.Worlds.{World, faults_of}
 
 -- what the sink holds before and after, the status, and what the sink for faults holds and has counted before and after
 pub record Printed : Type 0 where
@@ -62,7 +56,8 @@ module _ (printed : Printed) where
     pub why : IsNotTaken content.held content.bytes number
     pub unprinted : printed.after ≡ printed.before
     pub status_is : printed.status ≡ 3
-    pub says : SaysLine printed.told printed.told_now printed.faults printed.faults_now (refusal_line (refusal.Stream number))
+    pub says : SaysLine printed.told printed.told_now printed.faults printed.faults_now
+        (refusal_line (refusal.Stream number))
 
   -- memory was wanting, which is said; nothing is printed
   pub record WantsMemory : Type 0 where
@@ -80,12 +75,12 @@ pub record NoneFails (before after : Faults) : Type 0 where
   pub sink : before.sink < 2 ^ 64 - 1
   pub keeper : before.keeper < 2 ^ 64 - 1
 
-module _ {S K R D E C : Type 0} (source_of : source.Ghosts S) (sink_of : sink.Ghosts K) (keeper_of : keeper.Ghosts R) (disk_of : disk.Ghosts D) (entropy_of : entropy.Ghosts E) (clock_of : clock.Ghosts C) where
+module _ {types : Types} (ways : Ways types) where
   -- what is printed and said in a run
-  abbrev pub printed_in : World S K R D E C → World S K R D E C → Option (List ℕ) → Option (List ℕ) → ℕ → ℕ → ℕ → Printed
+  abbrev pub printed_in : World types → World types → Option (List ℕ) → Option (List ℕ) → ℕ → ℕ → ℕ → Printed
   printed_in before after told told_now faults faults_now status = record {
-    before = sink_of.contents before.sink;
-    after = sink_of.contents after.sink;
+    before = ways.sink.contents before.sink;
+    after = ways.sink.contents after.sink;
     status = status;
     told = told;
     told_now = told_now;
@@ -93,15 +88,15 @@ module _ {S K R D E C : Type 0} (source_of : source.Ghosts S) (sink_of : sink.Gh
     faults_now = faults_now;
   }
 
-  -- for words that ask for `verify-ref`, over a store that tells what it holds, and with `--stdin` a source that does, in a run
-  -- in which no object counts a fault
+  -- for words that ask for `verify-ref`, over a store that tells what it holds, and with `--stdin` a source that does,
+  -- in a run in which no object counts a fault
   abbrev pub Headline : Type 0
   Headline =
-      (words : List (List ℕ)) (name : List ℕ) (root : Option (List (List ℕ))) (stdin : Bool) (before after : World S K R D E C)
-      (told told_now : Option (List ℕ)) (faults faults_now status : ℕ) (content : Content)
+      (words : List (List ℕ)) (name : List ℕ) (root : Option (List (List ℕ))) (stdin : Bool)
+      (before after : World types) (told told_now : Option (List ℕ)) (faults faults_now status : ℕ) (content : Content)
       → IsCommand words (VerifyRef name root stdin)
-      → TellsStore source_of sink_of keeper_of disk_of entropy_of clock_of before after content
-      → (IsTrue stdin → source_of.left before.source ≡ Some content.bytes)
-      → NoneFails (faults_of source_of sink_of keeper_of disk_of entropy_of clock_of before) (faults_of source_of sink_of keeper_of disk_of entropy_of clock_of after)
-      → Ran source_of sink_of keeper_of disk_of entropy_of clock_of words before after told told_now faults faults_now status
+      → TellsStore ways before after content
+      → (IsTrue stdin → TellsSource ways before content)
+      → NoneFails (faults_of ways before) (faults_of ways after)
+      → Ran ways words before after told told_now faults faults_now status
       → Answers (printed_in before after told told_now faults faults_now status) name root stdin content

@@ -2,45 +2,46 @@
 
 ghost use Rattle.gittuf_cli.specs.Contents.{OneOutcome, TellsOutcome};
 ghost use Rattle.gittuf_cli.specs.Headline.{Headline};
+ghost use Rattle.worlds.specs.Worlds.{ways};
 
 use command_words::laws::one_command;
-use commands_approve::laws::{one_of_approvals, tells_of_approvals};
-use commands_keys::laws::{one_of_keys, tells_of_keys};
-use commands_log::laws::{one_of_history, tells_of_history};
-use commands_policy::laws::{one_of_policy, tells_of_policy};
-use commands_snapshot::outcome_laws::{one_of_trees, tells_of_trees};
-use commands_stream::laws::{one_of_stream, tells_of_stream};
-use commands_verify::laws::{one_of_verify, tells_of_verify};
-use demo::laws::{one_of_demo, tells_of_demo};
+use commands_approve::laws::{approve_over_world, one_of_approvals};
+use commands_keys::laws::{keys_over_world, one_of_keys};
+use commands_log::laws::{log_over_world, one_of_history};
+use commands_policy::laws::{one_of_policy, policy_over_world};
+use commands_snapshot::outcome_laws::{one_of_trees, snapshot_over_world};
+use commands_stream::laws::{one_of_stream, stream_over_world};
+use commands_verify::laws::{one_of_verify, verify_over_world};
+use demo::laws::{demo_over_world, one_of_demo};
 use edge_io::{Clock, Disk, Entropy, Sink, Source};
 use keeper_api::Keeper;
-use log_appending::laws::{one_of_log, tells_of_log};
+use log_appending::laws::one_of_log;
+use worlds::{Kinds, Objects, Of};
 
-/// The sentence that the program exists for. For words that ask for `verify-ref`, over a store that tells what it holds and
-/// with `--stdin` a source that does, a run in which no object counts a fault comes to one of three: memory was wanting, which is
-/// said; or the stream is refused, which is said by its number, and nothing is printed; or the repository that is held, or that
-/// the stream spells, is judged: exactly the line of the one verdict on the reference is printed, with its status, or exactly
-/// the line that names the commit at which its log breaks.
+/// The sentence that the program exists for. For words that ask for `verify-ref`, over a store that tells what it holds
+/// and with `--stdin` a source that does, a run in which no object counts a fault comes to one of three: memory was
+/// wanting, which is said; or the stream is refused, which is said by its number, and nothing is printed; or the
+/// repository that is held, or that the stream spells, is judged: exactly the line of the one verdict on the reference
+/// is printed, with its status, or exactly the line that names the commit at which its log breaks.
 pub fn headline<S: Source, K: Sink, R: Keeper, D: Disk, E: Entropy, C: Clock>()
-    ensures { Headline S.Source K.Sink R.Keeper D.Disk E.Entropy C.Clock }
+    ensures { Headline (ways S.Source K.Sink R.Keeper D.Disk E.Entropy C.Clock) }
 {
     one_command();
 }
 
-/// Where the objects that the command reads tell their content, an ending is the one for the words and that content,
+/// Where the objects that the command touches tell their content, an ending is the one for the words and that content,
 /// unless the run stopped for a fault or for want of memory.
-pub fn tells_outcome<S: Source, K: Sink, R: Keeper, D: Disk, E: Entropy, C: Clock>()
-    ensures { TellsOutcome S.Source K.Sink R.Keeper D.Disk E.Entropy C.Clock }
+pub fn tells_outcome<W: Objects>()
+    ensures { TellsOutcome ⟦<Of<W> as Objects>⟧.ways }
 {
-    tells_of_verify::<R>();
-    tells_of_stream::<R>();
-    tells_of_keys::<D>();
-    tells_of_history();
-    tells_of_log::<R, D>();
-    tells_of_trees::<R>();
-    tells_of_policy::<R, D>();
-    tells_of_approvals::<R, D>();
-    tells_of_demo::<R>();
+    verify_over_world::<W>();
+    stream_over_world::<W>();
+    keys_over_world::<W>();
+    log_over_world::<W>();
+    snapshot_over_world::<W>();
+    policy_over_world::<W>();
+    approve_over_world::<W>();
+    demo_over_world::<W>();
 }
 
 /// There is at most one ending for the same words and content; for `snapshot` where objects are made of the listing or

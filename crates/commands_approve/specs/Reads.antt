@@ -15,9 +15,12 @@ state_reads r target = 9 + walk_visits (readings_of r) target
 
 -- of taking the entries at these ids, where no target of them is broken, and then of so many more
 abbrev pub ReadsEntries : Repository → List (List ℕ) → ℕ → ℕ → ℕ → Type 0
-ReadsEntries r ids more before after = (entries : List Taken) → AreEntries r ids entries → AreBounded (real_rules None) entries → after ≤ before + (judging_reads (real_rules None) entries + more)
+ReadsEntries r ids more before after = (entries : List Taken) → AreEntries r ids entries
+    → AreBounded (real_rules None) entries → after ≤ before + (judging_reads (real_rules None) entries + more)
 
--- of finding the repository's log, which reads each entry once, of taking its entries, of a target's state, of the approval
+-- of finding the repository's log, which reads each entry once, of taking its entries, of a target's state, of the
+-- approval
 -- (28) and of its place (27)
 abbrev pub ReadsFew : Repository → List ℕ → ℕ → ℕ → Type 0
-ReadsFew r target before after = (ids : List (List ℕ)) → IsLogOf r ids → ReadsEntries r ids (length ids + (state_reads r target + 55)) before after
+ReadsFew r target before after = (ids : List (List ℕ)) → IsLogOf r ids
+    → ReadsEntries r ids (length ids + (state_reads r target + 55)) before after
