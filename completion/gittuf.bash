@@ -36,22 +36,26 @@ _git_gittuf() {
         at=$((at + 1))
     done
     if [ "$((COMP_CWORD - at))" -le 1 ]; then
-        _gittuf_reply -W 'setup key policy record approve verify skip note log explain export doctor'
+        _gittuf_reply -W 'setup key policy record approve verify recover push sync skip note log explain report export doctor'
         return
     fi
     case ${COMP_WORDS[at + 1]} in
-        setup) _gittuf_reply -W "--anew $(git remote 2> /dev/null)" ;;
-        doctor) _gittuf_reply -W "--take $(git remote 2> /dev/null)" ;;
-        key) _gittuf_reply -f -W '--file --height --width --id --public' ;;
-        record | approve) _gittuf_reply -W "$(_gittuf_branches)" ;;
-        verify) _gittuf_reply -W "--root $(_gittuf_branches) $(_gittuf_remote_branches)" ;;
+        setup) _gittuf_reply -W "--anew --root $(git remote 2> /dev/null)" ;;
+        doctor) _gittuf_reply -W "--take --anyway $(git remote 2> /dev/null)" ;;
+        key) _gittuf_reply -f -W '--file --height --width --bottom --id --public' ;;
+        record | recover | push) _gittuf_reply -W "--anyway $(_gittuf_branches)" ;;
+        approve) _gittuf_reply -W "--anyway --delete $(_gittuf_branches)" ;;
+        sync) _gittuf_reply -W '--anyway --remote' ;;
+        verify) _gittuf_reply -W "--root --pinned --json $(_gittuf_branches) $(_gittuf_remote_branches)" ;;
+        log) _gittuf_reply -W '-v --json' ;;
+        report) _gittuf_reply -f -W '-o --root --pinned' ;;
         explain) _gittuf_reply -f -W "$(_gittuf_branches)" ;;
-        skip | note) _gittuf_reply -W -m ;;
+        skip | note) _gittuf_reply -W '-m --anyway' ;;
         policy)
             if [ "$((COMP_CWORD - at))" -eq 2 ]; then
-                _gittuf_reply -W 'init person rule show sign discard apply'
+                _gittuf_reply -W 'init person rotate rule show sign discard apply'
             elif [ "${COMP_WORDS[at + 2]}" = rule ]; then
-                _gittuf_reply -W "--persons --threshold --terminating --remove $(_gittuf_references)"
+                _gittuf_reply -W "--persons --threshold --terminating --no-terminating --before --file --remove $(_gittuf_references)"
             elif [ "${COMP_WORDS[at + 2]}" = person ]; then
                 _gittuf_reply -W --remove
             elif [ "${COMP_WORDS[at + 2]}" = sign ]; then

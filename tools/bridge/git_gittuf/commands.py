@@ -1,27 +1,18 @@
 """The words of git gittuf but those of its policy and of its doctor."""
 
-import functools
 import os
-import sys
 
-from git_gittuf import following, history, keys, leaves, names, remotes, sentences
+from git_gittuf import following, history, keys, leaves, looking, names, remotes, sentences, settings
 from git_gittuf.program import Ended
-from git_gittuf.repository import ATTESTATIONS, LOG, Stopped
-from git_gittuf.shown import plain, plain_lines, plain_name
-
-
-def say(sentence):
-    """Tells a person at a terminal what a line means, and nobody else."""
-    if sentence and os.isatty(2):
-        print(sentence, file=sys.stderr, flush=True)
-
-
-def show(printed):
-    """Prints lines of the program."""
-    print(plain_lines(printed), end="", flush=True)
+from git_gittuf.remotes import is_before
+from git_gittuf.repository import ATTESTATIONS, LOG, ZEROS, Stopped
+from git_gittuf.shown import plain, quoted
+from git_gittuf.telling import say, show
 
 
 def setup(work, words):
+    if words.root is not None:
+        settings.keep(work.repository, settings.SAID, words.root)
     if words.anew:
         work.kept.remove()
         work.kept.make()
@@ -39,10 +30,11 @@ def key(work, words):
     path = keys.path_of(work.repository)
     if words.file:
         path = os.path.abspath(words.file)
-    if not keys.is_there(path):
+    is_new = not keys.is_there(path)
+    if is_new:
         if words.id or words.public:
             raise Stopped(f"there is no key at {path}: git gittuf key makes one")
-        keys.make(work.repository, path, words.height, words.width)
+        keys.make(work.repository, path, words.height, words.width, words.bottom)
     if words.file and path not in work.repository.config("gittuf.key", "--type=path"):
         keys.expect_outside(work.repository, path)
         work.repository.asked("write the settings", "config", "gittuf.key", path)
@@ -51,7 +43,53 @@ def key(work, words):
     if words.id or words.public:
         return
     left, all_of_them = keys.signatures_left(path)
-    say(f"It stands at {path}, and has {left} of {all_of_them} signatures left. Never copy it: a copy would sign twice.")
+    begins = "It is new, stands" if is_new else "It was there already, stands"
+    say(f"{begins} at {path}, and has {left} of {all_of_them} signatures left. Never copy it: a copy would sign twice.")
+
+
+def expect_one_log(work, anyway):
+    """Refuses to begin a log where a remote has one, or may have one."""
+    repository = work.repository
+    if LOG in repository.references() or anyway:
+        return
+    for remote in remotes.remotes(repository):
+        answers, there = remotes.asked_log(repository, remote)
+        setup = f"git gittuf setup {quoted(remote)} && git fetch {quoted(remote)}"
+        if there:
+            raise Stopped(f"there is no log here, and {plain(remote)} has one, beside which none is begun: {setup}", 3)
+        if not answers:
+            said = f"there is no log here, and {plain(remote)} does not answer whether it has one"
+            raise Stopped(f"{said}: {setup}; --anyway begins one here", 3)
+
+
+def expect_no_step_back(work, name, value):
+    """Refuses to record that a branch goes back to what the log has left behind, which a fetch without a merge looks like."""
+    repository, last = work.repository, history.last_recorded(work.repository, name)[1]
+    if value is None or last in (None, ZEROS, value) or not repository.are_commits([last, value]) or not is_before(repository, value, last):
+        return
+    if history.is_skipped(repository, history.last_recorded(repository, name)[0]):
+        return
+    meant = names.Meant(name)
+    line = ["tip-differs", os.fsdecode(name), "kept", value.decode(), "recorded", last.decode()]
+    said = sentences.of_behind(repository, meant, line)
+    raise Stopped(f"{said}; --anyway records that it goes back", 3)
+
+
+def recorded_by(work, name, value, path, anyway=False):
+    """Records where a reference stands, where that is lawful, and returns the program's line."""
+    work.bring(maybe=[value] if value else [])
+    kept = history.kept_targets(work.repository, name, value)
+    key = looking.key_id(path)
+    if not anyway:
+        looking.expect_lawful(work, name, value, key)
+
+    def steps():
+        printed = work.asked("record", os.fsdecode(name), key=path)
+        if not anyway:
+            looking.expect_accepted(work, name, value, int(printed.split()[1]), key)
+        return printed
+
+    return work.change(steps, kept)
 
 
 def record(work, words):
@@ -60,32 +98,45 @@ def record(work, words):
     name = names.own_name(repository, words.branch)
     value = repository.references().get(name)
     if value is None and history.last_recorded(repository, name)[1] is None:
-        raise names.no_such(repository, words.branch, recorded_names(work))
+        raise names.no_such(repository, words.branch, history.recorded_names(work))
     path = leaves.signing_key(repository)
-    kept = history.kept_target(repository, name, value)
-    show(work.change(lambda: work.asked("record", os.fsdecode(name), key=path), kept))
+    expect_one_log(work, words.anyway)
+    if not words.anyway:
+        expect_no_step_back(work, name, value)
+    show(recorded_by(work, name, value, path, words.anyway))
     carried = ", ".join(plain(it) for it in remotes.remotes(repository))
-    say(f"git push carries it to {carried or 'others, once there is a remote'}.")
+    say(f"git gittuf push carries it to {carried or 'others, once there is a remote'}.")
+
+
+def approved_by(work, name, target, path):
+    """Approves that a reference goes to the files of a commit, or with none that it goes, and records that."""
+
+    def steps():
+        printed = work.asked("approve", name, target.decode(), key=path)
+        return printed + work.asked("record", ATTESTATIONS.decode(), key=path)
+
+    try:
+        return work.change(steps)
+    except Ended as ended:
+        if ended.status == 3:
+            expect_place(work, name)
+        raise
 
 
 def approve(work, words):
     repository = work.repository
     name = os.fsdecode(names.own_name(repository, words.branch))
-    commit = repository.commit_of(words.commit or name)
-    work.bring([commit])
+    if words.delete and words.commit:
+        raise Stopped("--delete approves that a branch goes, and takes no commit", 2)
+    target = ZEROS if words.delete else repository.commit_of(words.commit or name)
+    work.bring([] if words.delete else [target])
     path = leaves.signing_key(repository)
-
-    def steps():
-        printed = work.asked("approve", name, commit.decode(), key=path)
-        return printed + work.asked("record", ATTESTATIONS.decode(), key=path)
-
-    try:
-        show(work.change(steps))
-    except Ended as ended:
-        if ended.status == 3:
-            expect_place(work, name)
-        raise
-    say(f"Once it is pushed, who records {plain(names.short(os.fsencode(name)))} at these files has your signature for it.")
+    expect_one_log(work, words.anyway)
+    if not words.anyway:
+        looking.expect_person(work, looking.key_id(path), "an approval by it")
+    show(approved_by(work, name, target, path))
+    shown, what = plain(names.short(os.fsencode(name))), "is gone" if words.delete else "has these files"
+    say(f"Once it is pushed, who records that {shown} {what} has your signature for it.")
 
 
 def expect_place(work, name):
@@ -118,80 +169,13 @@ def entry_ids(work, words):
 def annotate(work, words):
     work.bring()
     path = leaves.signing_key(work.repository)
+    if words.word == "skip" and not words.anyway:
+        looking.expect_person(work, looking.key_id(path), "a skip by it")
     asked = ("annotate", words.word, entry_ids(work, words.entries))
     more = (f"--message={words.message}",) if words.message else ()
     show(work.change(lambda: work.asked(*asked, *more, key=path)))
     if words.word == "skip":
         say("It counts once the branch has the files that it had before, and git gittuf record says so.")
-
-
-def recorded_names(work):
-    """The references that the log speaks of, in the order of their first entries."""
-    listed = history.entries(work.asked("log")) if LOG in work.repository.references() else []
-    return list(dict.fromkeys(rest[0] for _, _, kind, rest in listed if kind == b"ref"))
-
-
-def is_protected(work, name):
-    """Whether a rule of the policy in force protects a reference."""
-    return work.asked("explain", f"git:{os.fsdecode(name)}").startswith(b"rule ")
-
-
-def meant_by(work, words):
-    """What is to be judged: what words name, or all that the log speaks of or a rule protects."""
-    if words.branches:
-        recorded = functools.cache(lambda: recorded_names(work))
-        return [it for word in words.branches for it in names.of_word(work.repository, word, recorded)]
-    recorded = recorded_names(work)
-    if not recorded:
-        # Nothing judged is not to look like all is well.
-        raise Stopped("there is no log here: git gittuf setup and git fetch bring one, and git gittuf record begins one", 3)
-    return names.all_of(work.repository, recorded, lambda name: is_protected(work, name))
-
-
-def verdict(work, meant, root):
-    """The program's status and line on a reference."""
-    asked = ("verify-ref", os.fsdecode(meant.name), *(() if root is None else ("--root", root)))
-    if meant.value is None:
-        return work.run(*asked)
-    with work.standing_at(meant.name, meant.value):
-        return work.run(*asked)
-
-
-def unspeakable(work):
-    """The branches and tags, here or at remotes, whose names no log can have, and that no policy leaves unprotected."""
-    found = []
-    for name in names.odd_names(work.repository):
-        status, printed = work.run("explain", f"git:{os.fsdecode(name)}")
-        if status or printed.startswith(b"rule "):
-            found.append(name)
-    return found
-
-
-def verify(work, words):
-    work.bring()
-    odd = [] if words.branches else unspeakable(work)
-    worst = 1 if odd else 0
-    for it in odd:
-        print(f"git-gittuf: no log can speak of {plain_name(it)}, which a rule may protect", file=sys.stderr)
-    for it in meant_by(work, words):
-        status, printed = verdict(work, it, words.root)
-        show(printed)
-        line = os.fsdecode(printed).rstrip("\n")
-        said = sentences.of_line(line, it.remote) if printed else sentences.of_status("verify-ref", status)
-        if not words.branches and sentences.is_unrecorded(line):
-            print(f"git-gittuf: {said}", file=sys.stderr, flush=True)
-        else:
-            say(said)
-        worst = max(worst, status)
-    # A log that does not fit is of somebody who was shown another one.
-    return max(worst, 3) if any(name == LOG for _, name, _ in work.unfit) else worst
-
-
-def log(work, _):
-    work.bring()
-    status, printed = work.run("log")
-    show(printed)
-    return status
 
 
 def export(work, _):

@@ -1,20 +1,27 @@
-"""From Git into the store: by what is new alone, and without the content of files.
+"""From Git into the store: by what is new alone, and no more than judging reads.
 
-Judging reads commits, tags and trees, and of files only those of policies and approvals. So the store gets the commits,
-tags and trees that references reach, and blobs below refs/gittuf/ alone. What each entry of the log recorded is put in
-too where Git still has it, though no reference may reach it any more.
+Judging reads the log, the policies and the approvals, and of what entries of the log recorded the tags, commits and trees,
+but no history and no file. So the store gets what own references reach below refs/gittuf/, whole, the logs of remotes, so
+that the program can read them, and the states that entries recorded where Git has them. Where a branch stands is told by
+its id alone.
 """
 
 import re
 
-from git_gittuf.repository import OWN, TARGETS, ZEROS, Stopped
+from git_gittuf.remotes import BESIDE
+from git_gittuf.repository import LOG, OWN, TARGETS, ZEROS, Stopped
 
 TARGET = re.compile(rb"\n\nRSL Reference Entry\n\nref: [^\n]+\ntargetID: ([0-9a-f]{64})\n")
 
 
 def is_read_whole(name):
-    """Whether the blobs below this reference belong into the store."""
+    """Whether all that this reference reaches belongs into the store."""
     return name.startswith(OWN) and not name.startswith(TARGETS)
+
+
+def is_log(name):
+    """Whether a reference is a remote's log, which is read before it is followed."""
+    return name.startswith(BESIDE) and name.endswith(LOG[len(OWN) - 1 :])
 
 
 def reached(repository, progress, tips, known, *how):
@@ -34,8 +41,9 @@ def new_objects(repository, progress, wanted, held):
     own = [value for name, value in wanted.items() if is_read_whole(name)]
     held_own = {value for name, value in held.items() if value and is_read_whole(name)}
     whole = reached(repository, progress, own, held_own)
-    held = {it for it in held.values() if it}
-    others = reached(repository, progress, wanted.values(), held, "--filter=blob:none")
+    logs = [value for name, value in wanted.items() if is_log(name) and value not in own]
+    held_logs = {value for name, value in held.items() if value and (is_log(name) or is_read_whole(name))}
+    others = reached(repository, progress, logs, held_logs, "--filter=blob:none")
     return [*whole, *others], set(whole)
 
 
@@ -62,12 +70,12 @@ class Copier:
         self.targets, self.too_large, self.count = set(), [], 0
 
     def copy(self, ids, whole=frozenset()):
-        lacking = [it for it in dict.fromkeys(ids) if not self.kept.has(it)]
-        for object_id, kind, body in self.repository.bodies(lacking):
-            self.progress.tell(f"{self.count} objects copied, of {len(lacking)}")
+        ids = list(dict.fromkeys(ids))
+        for object_id, kind, body in self.repository.bodies(ids):
+            self.progress.tell(f"{self.count} objects copied, of {len(ids)}")
             if body is None:
                 self.too_large.append(object_id)
-            elif kind != b"blob" or object_id in whole:
+            elif not self.kept.has(object_id) and (kind != b"blob" or object_id in whole):
                 self.kept.put(object_id, kind, body)
                 self.count += 1
             if kind == b"commit" and body is not None:
@@ -76,20 +84,25 @@ class Copier:
 
     def copy_states(self, ids):
         lacking = [it for it in ids if it != ZEROS and not self.kept.has(it)]
-        self.copy(states_of(self.repository, lacking))
+        # A commit comes after its trees, so that one that is there has them, wherever a call was stopped.
+        self.copy([it for it in reversed(states_of(self.repository, lacking)) if not self.kept.has(it)])
 
 
-def bring(repository, kept, progress, extra=()):
-    """Makes the store what Git is. Returns how many objects were put into it, and which were too large."""
+def bring(repository, kept, progress, extra=(), maybe=()):
+    """Makes the store what Git is, with these states, of which the last may be none that it takes.
+
+    Returns how many objects were put into it, and which were too large.
+    """
     wanted, held = repository.references(), kept.references()
     lacks = [it for it in extra if not kept.has(it)]
-    if wanted == held and not lacks:
+    states = lacks + [it for it in maybe if not kept.has(it)]
+    if wanted == held and not states:
         return 0, []
     ids, whole = new_objects(repository, progress, wanted, held)
     copier = Copier(repository, kept, progress)
     with kept.opened():
         copier.copy(ids, whole)
-        copier.copy_states([*copier.targets, *lacks])
+        copier.copy_states([*copier.targets, *states])
         if wanted != held:
             kept.set_references(held, wanted)
         kept.write_out()

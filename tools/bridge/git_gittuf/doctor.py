@@ -4,16 +4,10 @@ import os
 import stat
 
 import stream_format
-from git_gittuf import following, history, keys, leaves, names, program, remotes
+from git_gittuf import following, history, keys, leaves, names, remotes, seen, signers
 from git_gittuf.remotes import beside
 from git_gittuf.repository import ATTESTATIONS, LOG, POLICY, ZEROS, Stopped
 from git_gittuf.shown import plain, quoted
-
-
-def of_program():
-    places = (("program",), ("crates", "gittuf", "out", "gittuf"))
-    if not any(os.access(os.path.join(program.TOP, *it), os.X_OK) for it in places):
-        yield "the program is not built", f"{quoted(program.LAUNCHER)} - - verify-ref refs/heads/main"
 
 
 def of_key(repository):
@@ -40,6 +34,27 @@ def set_back(remote, name, value):
     return f"git push --force-with-lease={name}:{value.decode() if value else ''} {quoted(remote)} {name}"
 
 
+def entries_after(work, tip):
+    """The entries of the own log after this commit of it, or all."""
+    own = work.repository.references().get(LOG)
+    listed = history.entries(work.log_at(own) or b"") if own else []
+    return listed[following.count_of(work.repository, tip) if tip else 0 :]
+
+
+def signed_by(work, entries):
+    """In words, which entries these are and who signed them."""
+    return f"{signers.numbers(entries)}, signed by {signers.in_force(work).who_signed(work.repository, entries)}"
+
+
+def of_lost(work, remote, value, how):
+    """What a remote's log lost that had gone further, and how that goes on."""
+    last = seen.read(work.repository).get(remote) or value
+    lost = [it for it in entries_after(work, value if how == "back" else None) if it[0] <= following.count_of(work.repository, last)]
+    which = f" no longer has {signed_by(work, lost)}" if lost else " went back"
+    put_back = f"git gittuf push --remote {quoted(remote)} --anyway puts it back"
+    yield f"the log of {remote}{which}", f"ask who may write to {quoted(remote)}; {put_back}"
+
+
 def of_remotes(work, is_whole):
     repository = work.repository
     found = remotes.remotes(repository)
@@ -52,8 +67,17 @@ def of_remotes(work, is_whole):
     for remote, name, own, value, how in remotes.standing(repository, repository.references()):
         shown, how = name.decode(), unfit.get((remote, name), how)
         take, back = f"git gittuf doctor --take {quoted(remote)}", set_back(remote, shown, value)
-        if how == "ahead" and (name != LOG or is_whole):
+        if how in ("same", "ahead") and name == LOG and value:
+            how = "dropped" if remotes.asked_log(repository, remote) == (True, None) else how
+        if how in ("back", "dropped"):
+            yield from of_lost(work, remote, value, how)
+        elif how == "ahead" and name == LOG and is_whole:
+            yield f"{shown} goes on here by {signed_by(work, entries_after(work, value))}", f"git push {quoted(remote)}"
+        elif how == "ahead" and name != LOG:
             yield f"{shown} goes on here from where {remote} has it", f"git push {quoted(remote)}"
+        elif how == "apart" and name == LOG and is_whole:
+            base = repository.git("merge-base", own.decode(), value.decode())[1].strip()
+            yield f"{shown} here and that of {remote} went apart: here is {signed_by(work, entries_after(work, base))}", take
         elif how == "apart":
             yield f"{shown} here and that of {remote} went apart", take
         elif how == "broken":
@@ -107,14 +131,15 @@ def of_log(work, status, printed):
 def doctor(work, words):
     work.bring()
     if words.take is not None:
-        moves = following.to_take(work, words.take)
+        moves = following.to_take(work, words.take, words.anyway)
         work.move(moves)
+        seen.forget(work.repository, words.take)
         for name, (own, value) in moves.items():
             print(f"{name.decode()} goes from {own.decode()} to {value.decode()}")
         work.copy()
         return 0
     status, printed = work.run("log")
-    found = [*of_program(), *of_key(work.repository), *of_remotes(work, not status), *of_names(work.repository)]
+    found = [*of_key(work.repository), *of_remotes(work, not status), *of_names(work.repository)]
     found += of_log(work, status, printed)
     for what, mends in found:
         print(plain(f"{what}: {mends}"))

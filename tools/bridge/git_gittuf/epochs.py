@@ -18,11 +18,11 @@ NO_EPOCH = re.compile(rb"violation refs/gittuf/policy (\d+) not-epoch [^\n]+\n")
 MAX_FILE = 1 << 20
 
 
-def entry(number, parent, target):
-    """The id and the body of an unsigned entry that records the policy."""
+def entry(number, parent, target, name=POLICY):
+    """The id and the body of an unsigned entry that records the policy, or another reference."""
     lines = [b"tree " + EMPTY_TREE, *([b"parent " + parent] if parent else [])]
     lines += [it + b" gittuf <gittuf@localhost> 0 +0000" for it in (b"author", b"committer")]
-    lines += [b"", b"RSL Reference Entry", b"", b"ref: " + POLICY, b"targetID: " + target, b"number: %d" % number]
+    lines += [b"", b"RSL Reference Entry", b"", b"ref: " + name, b"targetID: " + target, b"number: %d" % number]
     body = b"".join(b"%s\n" % it for it in lines)
     found = stream_format.hash_of(b"commit", len(body))
     found.update(body)
@@ -58,12 +58,15 @@ def stream_of(objects, targets):
     return b"".join([*pieces, stream_format.END])
 
 
-def of_entries(repository, entries):
-    """The entries that brought a policy into force, oldest first, each as its number and the policy's id."""
+def of_entries(repository, entries, root=None):
+    """The entries that brought a policy into force, oldest first, each as its number and the policy's id.
+
+    With ids of keys the first one's root role is to have just these.
+    """
     left = [(number, rest[1]) for number, _, kind, rest in entries if kind == b"ref" and rest[0] == POLICY]
     objects = objects_of(repository, {target for _, target in left if target != ZEROS})
     while left:
-        words = ("verify-ref", POLICY.decode(), "--stdin")
+        words = ("verify-ref", POLICY.decode(), *(("--root", root) if root else ()), "--stdin")
         status, printed = program.run("-", "-", *words, input=stream_of(objects, [it[1] for it in left]))
         if not status:
             break

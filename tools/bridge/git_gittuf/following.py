@@ -4,13 +4,13 @@ A remote's log is followed where the program reads it as a chain that goes on fr
 approvals stand where the own log records them, and nowhere else. What a remote has beside that stays beside.
 """
 
-from git_gittuf import epochs, history
+from git_gittuf import epochs, history, seen, signers
 from git_gittuf.remotes import beside, is_before, remotes, standing
 from git_gittuf.repository import ATTESTATIONS, LOG, POLICY, STAGED, TARGETS, ZEROS, Stopped
 from git_gittuf.shown import plain, quoted
 
 # How what a remote has may stand so that it does not fit what is here.
-UNFIT = ("apart", "odd", "broken")
+UNFIT = ("apart", "odd", "broken", "back", "dropped")
 
 
 def targets_of(entries, name):
@@ -47,8 +47,10 @@ def kept_targets(references, remote, entries):
 
 def followed_log(work, references):
     """The moves of the log and of what is edited, what the program printed of the log then, and what does not fit."""
-    moves, printed, unfit = {}, None, []
+    moves, printed, unfit, tips = {}, None, [], seen.read(work.repository)
     for remote, name, _, value, how in standing(work.repository, references):
+        if name == LOG:
+            how = seen.went_back(work.repository, references, remote, how, tips)
         own = moves[name][1] if name in moves else references.get(name)
         if how == "behind" and own is not None and not is_before(work.repository, own, value):
             continue
@@ -73,12 +75,24 @@ def to_follow(work, changed):
         moves.update(to_recorded(repository, references, entries))
         for remote in remotes(repository):
             moves.update(kept_targets(references, remote, entries))
+    seen.note(repository, references, moves.get(LOG, (None, references.get(LOG)))[1], unfit)
     return moves, unfit
 
 
-def sentence(remote, name, how):
+def count_of(repository, tip):
+    """How many commits a log has up to this one."""
+    return int(repository.asked("count entries", "rev-list", "--first-parent", "--count", tip.decode()))
+
+
+def sentence(work, remote, name, how):
     """What is told of something that a remote has and that does not fit."""
+    repository, value = work.repository, work.repository.references().get(beside(remote, name))
     name, whose = plain(name.decode()), plain(remote)
+    if how == "dropped":
+        return f"{whose} has no {name} any more: git gittuf doctor says more"
+    if how == "back":
+        last, now = (count_of(repository, it) for it in (seen.read(repository)[remote], value))
+        return f"{name} of {whose} went back from entry {last} to entry {now}: git gittuf doctor says more"
     if how == "apart":
         return f"{name} here and that of {whose} went apart, and neither is taken back: git gittuf doctor says more"
     if how == "broken":
@@ -104,8 +118,29 @@ def last_whole(work, tip):
     return found
 
 
-def to_take(work, remote):
-    """The moves by which the own log stands where a remote's is whole, or its own is, and policy and approvals as it records."""
+def given_up(work, entries):
+    """The entries of the own log, as far as it is whole, that are not among these."""
+    own = work.repository.references().get(LOG)
+    whole, printed = last_whole(work, own) if own else (None, b"")
+    kept = {it[1] for it in entries}
+    return [it for it in history.entries(printed) if it[1] not in kept] if whole else []
+
+
+def expect_own(work, entries, again):
+    """Refuses to give up entries that somebody else signed."""
+    own, by = signers.own_key(work.repository), signers.of_entries(work.repository, [it[1] for it in entries])
+    others = [it for it in entries if by.get(it[1]) != own or own is None]
+    if others:
+        whose = signers.in_force(work).who_signed(work.repository, others)
+        said = f"{signers.numbers(entries)} would be given up, of which {len(others)} are not of your key but of {whose}"
+        raise Stopped(f"{said}: ask whether they are to go; {again} gives them up", 3)
+
+
+def to_take(work, remote, anyway=False):
+    """The moves by which the own log stands where a remote's is whole, or its own is, and policy and approvals as it records.
+
+    Of entries that go only those of the own key do, unless the others are to go anyway.
+    """
     repository, references = work.repository, work.repository.references()
     tip = references.get(beside(remote, LOG) if remote else LOG)
     if tip is None and remote:
@@ -114,7 +149,10 @@ def to_take(work, remote):
     whole, printed = last_whole(work, tip) if tip else (None, b"")
     if not whole:
         raise Stopped(f"no part of the log {'of ' + plain(remote) if remote else 'here'} is one: ask another clone for its log", 3)
-    wanted = {LOG: whole, **where_recorded(repository, history.entries(printed))}
+    entries = history.entries(printed)
+    if not anyway:
+        expect_own(work, given_up(work, entries), f"git gittuf doctor --take {quoted(remote)} --anyway")
+    wanted = {LOG: whole, **where_recorded(repository, entries)}
     staged = references.get(beside(remote, STAGED)) if remote else None
     if staged and repository.are_commits([staged]):
         wanted[STAGED] = staged

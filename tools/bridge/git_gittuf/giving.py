@@ -46,6 +46,9 @@ class Journal:
         encoded = lambda values: values and {name.encode(): value.encode() for name, value in values.items()}
         return encoded(text["before"]), encoded(text["after"])
 
+    def is_there(self):
+        return os.path.exists(self.path)
+
     def clear(self):
         for it in (self.path, f"{self.path}.new"):
             if os.path.exists(it):

@@ -1,8 +1,9 @@
 """What the log in Git says, as far as a message or a choice needs it. Judging is the program's alone."""
 
+import base64
 import re
 
-from git_gittuf.repository import LOG, TARGETS, ZEROS
+from git_gittuf.repository import LOG, OWN, TARGETS, ZEROS
 from git_gittuf.remotes import is_before
 
 SPECIAL = re.compile(rb"([.*\[\]^$\\])")
@@ -30,11 +31,20 @@ def is_skipped(repository, entry):
     return b"\nskip: true\n" in last_with(repository, b"entryID: " + entry)[1]
 
 
-def kept_target(repository, name, value):
-    """The reference that keeps what was recorded last, where no branch will reach it once this value is recorded.
+def kept_targets(repository, name, value):
+    """The references that keep what is recorded, as far as a branch that goes on from it does not.
 
-    Whoever judges the next entry compares with it, also in a clone that never had it.
+    Whoever judges the next entry compares with what was recorded last, also in a clone that never had it. A tag goes on
+    from nothing, so what is recorded of one is kept from the first on.
     """
+    kept = last_target(repository, name, value)
+    if value is not None and not name.startswith(b"refs/heads/") and not name.startswith(OWN):
+        kept[TARGETS + value] = value
+    return kept
+
+
+def last_target(repository, name, value):
+    """The reference that keeps what was recorded last, where no branch will reach it once this value is recorded."""
     entry, last = last_recorded(repository, name)
     if last in (None, ZEROS) or not repository.there([last]):
         return {}
@@ -47,3 +57,31 @@ def entries(lines):
     """The entries that the program's log lists, as number, id, kind and the rest of the words."""
     found = [it.split(b" ") for it in lines.splitlines()]
     return [(int(it[1]), it[2], it[3], it[4:]) for it in found if it[0] == b"entry"]
+
+
+ANNOTATED = re.compile(rb"^entryID: ([0-9a-f]{64})$", re.MULTILINE)
+MESSAGE = re.compile(rb"\n-----BEGIN MESSAGE-----\n([A-Za-z0-9+/=\n]*)\n-----END MESSAGE-----\n")
+
+
+def skipped(repository, listed):
+    """The ids of the entries that annotations among these skip."""
+    found = set()
+    for _, _, body in repository.bodies([it[1] for it in listed if it[2] == b"skip"]):
+        found.update(ANNOTATED.findall(body.partition(b"\n\n")[2]))
+    return found
+
+
+def message_of(body):
+    """What an annotation says, or nothing."""
+    found = MESSAGE.search(body)
+    try:
+        return base64.b64decode(found[1]).decode(errors="surrogateescape") if found else None
+    except ValueError:
+        # It is no text of the form.
+        return None
+
+
+def recorded_names(work):
+    """The references that the log speaks of, in the order of their first entries."""
+    listed = entries(work.asked("log")) if LOG in work.repository.references() else []
+    return list(dict.fromkeys(rest[0] for _, _, kind, rest in listed if kind == b"ref"))

@@ -72,6 +72,21 @@ class Kept:
     def has(self, object_id):
         return os.path.exists(os.path.join(self.objects, object_id.decode()))
 
+    def is_sound(self, object_id):
+        """Whether an object is here and is what its id says."""
+        try:
+            self.read(object_id)
+        except (Stopped, OSError):
+            return False
+        return True
+
+    def is_all_sound(self):
+        """Whether each file of the store is what its name says."""
+        try:
+            return all(self.is_sound(os.fsencode(it)) for it in os.listdir(self.objects)) and None not in self.references().values()
+        except OSError:
+            return False
+
     def read(self, object_id):
         """The kind and body of an object, which has this id."""
         try:

@@ -4,7 +4,7 @@ import fcntl
 import os
 import re
 
-from git_gittuf import program
+from git_gittuf import program, public_parts
 from git_gittuf.program import Ended
 from git_gittuf.repository import Stopped
 
@@ -36,7 +36,7 @@ def expect_outside(repository, path):
         raise Stopped(f"{path} is inside the repository, where a key would be copied along: name another place", 3)
 
 
-def make(repository, path, height, width):
+def make(repository, path, height, width, bottom=None):
     """Makes a key, first beside its place, so that its public part is known wherever it stands."""
     expect_outside(repository, path)
     beside = f"{path}.new"
@@ -52,7 +52,7 @@ def make(repository, path, height, width):
         # One that was left has no name that signs.
         if os.path.lexists(beside):
             os.remove(beside)
-        words = ("key-gen", height, width)
+        words = ("key-gen", height, width, *(("--bottom", bottom) if bottom else ()))
         status, printed = program.run("-", beside, *words)
         if status or not LINE.fullmatch(printed):
             raise Ended(words, status or 4, printed)
@@ -77,12 +77,15 @@ def needed(repository):
 
 
 def public_line(path):
-    """The line `key <id> <public part>` of a key file."""
+    """The line `key <id> <public part>` of a key file, which is made again from the file where it was lost."""
     try:
         with open(f"{path}.pub", "rb") as file:
             line = file.read(1024)
     except FileNotFoundError:
-        line = b""
+        line = public_parts.line_of(path)
+        with open(f"{path}.pub.new", "wb") as file:
+            file.write(line)
+        os.rename(f"{path}.pub.new", f"{path}.pub")
     if not LINE.fullmatch(line):
         raise Stopped(f"{path}.pub does not hold the line that key-gen printed: put it there, key <id> <public part>")
     return line

@@ -48,9 +48,11 @@ class Looked:
 
     def write(self):
         noted = {"key": self.key_id, "tips": [it.decode() for it in self.tips], "greatest": self.greatest}
-        with open(f"{self.path}.new", "w", encoding="utf-8") as file:
+        # Calls that only read write it side by side.
+        beside = f"{self.path}.{os.getpid()}"
+        with open(beside, "w", encoding="utf-8") as file:
             json.dump(noted, file)
-        os.rename(f"{self.path}.new", self.path)
+        os.rename(beside, self.path)
 
 
 def tips_of(repository):
@@ -91,6 +93,11 @@ def of_envelope(text, key_id):
     except (ValueError, KeyError, TypeError, AttributeError, RecursionError):
         # It is no envelope, and nothing in it counts as signed.
         return
+
+
+def is_signed(text, key_id, public):
+    """Whether an envelope has a good signature by this key."""
+    return any(signatures.is_good(public, signed, it) for signed, it in of_envelope(text, key_id.encode()))
 
 
 def claims(repository, ids, key_id, public):

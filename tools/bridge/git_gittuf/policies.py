@@ -10,7 +10,7 @@ import hashlib
 import json
 import re
 
-from git_gittuf import epochs, forms, history, signatures
+from git_gittuf import epochs, forms, history, settings, signatures
 from git_gittuf.repository import LOG, POLICY, STAGED, Stopped
 from git_gittuf.shown import plain
 
@@ -77,21 +77,52 @@ class Policy:
         return b"".join(b"100644 %d %s\n%s\n" % (len(text), path, text) for path, text in rows)
 
     def says(self, name):
-        return json.loads(json.dumps(self.files[name].says))
+        return json.loads(json.dumps(self.all_files()[name].says))
 
     def role(self, name):
-        return self.files["root"].says["roles"][name]
+        """Who signs a file: the role of its name, or for a delegated rule's file that rule."""
+        return self.files["root"].says["roles"][name] if name in ROLES else self.rule(name) or {"persons": [], "threshold": 1}
+
+    def all_files(self):
+        """The files by their names, those of delegated rules last."""
+        return {**self.files, **self.delegated()}
+
+    def set_file(self, name, file):
+        if name in FILES:
+            self.files[name] = file
+        else:
+            self.others[path_of(name)] = file.envelope()
+
+    def rules(self):
+        """The rules of all files, each with the name of its file."""
+        files = {name: file for name, file in self.all_files().items() if name != "root"}
+        return [(name, it) for name, file in files.items() for it in file.says["rules"]]
+
+    def rule(self, name):
+        return next((it for _, it in self.rules() if it["name"] == name), None)
+
+    def delegated(self):
+        """The rule files of delegated rules, by the names of these, as far as they are ones."""
+        found = {}
+        for path, text in self.others.items():
+            name = path.removeprefix(b"metadata/").removesuffix(b".json").decode(errors="replace")
+            try:
+                found[name] = File.read(name, text)
+            except (ValueError, RecursionError):
+                # It is shown as it is, and what the program says of it counts.
+                continue
+        return found
 
     def persons(self):
         """All persons with their keys, by name."""
         found = {}
-        for file in self.files.values():
+        for file in (*self.delegated().values(), *self.files.values()):
             found.update({it["name"]: it["keyids"] for it in file.says.get("persons", [])})
         return found
 
     def publics(self):
         """The public keys that the files list, by their ids, which are the hashes of them."""
-        listed = [it["public"] for file in self.files.values() for it in file.says["keys"]]
+        listed = [it["public"] for file in (*self.files.values(), *self.delegated().values()) for it in file.says["keys"]]
         found = [bytes.fromhex(it) for it in listed if HEXADECIMAL.fullmatch(it)]
         return {hashlib.sha256(it).hexdigest(): it for it in found}
 
@@ -99,6 +130,11 @@ class Policy:
         """The ids of the keys of these persons."""
         persons = self.persons()
         return [key for name in names for key in persons.get(name, [])]
+
+
+def payload_of(text):
+    """The payload of an envelope."""
+    return base64.b64decode(forms.json_of(text)["payload"], validate=True)
 
 
 def read_file(name, text, place="the policy in force"):
@@ -112,9 +148,14 @@ def read_file(name, text, place="the policy in force"):
 
 def in_force(work):
     """The policy of the log's last epoch, as the program tells it, whatever stands at the policy's reference."""
-    entries = history.entries(work.asked("log")) if LOG in work.repository.references() else []
-    found = epochs.of_entries(work.repository, entries)
-    return Policy(work.repository, found[-1][1] if found else None)
+    repository = work.repository
+    entries = history.entries(work.asked("log")) if LOG in repository.references() else []
+    root = settings.held_to(repository)
+    found = epochs.of_entries(repository, entries, root)
+    if root and not found and epochs.of_entries(repository, entries):
+        said = "the first policy of this log has other root keys than gittuf.root says, or gittuf.firstRoot, as it was seen here first"
+        raise Stopped(f"{said}: git gittuf verify says more", 3)
+    return Policy(repository, found[-1][1] if found else None)
 
 
 def metadata_of(work, commit):
@@ -152,7 +193,7 @@ def id_of(force, draft):
     """The id of a change, by which is signed what was shown: of all that the policies say, without who signed it."""
     found = hashlib.sha256()
     for it in (force, draft):
-        rows = {f"metadata/{name}.json".encode(): file.payload for name, file in it.files.items()}
+        rows = {path_of(name): file.payload for name, file in it.all_files().items()}
         for path, text in sorted({**it.others, **rows}.items()):
             found.update(b"%d %d " % (len(path), len(text)) + path + text)
         found.update(b"end ")
@@ -177,7 +218,17 @@ def settled(says, old, draft):
     if old and {**says, "version": old.says["version"]} == old.says:
         return old
     says = {**says, "version": old.says["version"] + 1 if old else 1}
-    return draft if says == draft.says else written(says)
+    return draft if draft and says == draft.says else written(says)
+
+
+def path_of(name):
+    """Where a rule file stands in a policy's tree."""
+    return b"metadata/%s.json" % name.encode()
+
+
+def begin_file(name):
+    """What a delegated rule's file says before it has a rule."""
+    return {"keys": [], "name": name, "persons": [], "rules": [], "schema": 2, "type": "rules", "version": 1}
 
 
 def begin(name, key_id, public):

@@ -5,6 +5,7 @@ it is taken over.
 """
 
 import os
+import subprocess
 
 from git_gittuf.repository import LOG, OWN, STAGED, Stopped
 from git_gittuf.shown import plain, quoted
@@ -37,7 +38,7 @@ def set_up(repository, remote):
 
 
 def remotes(repository):
-    return [os.fsdecode(it) for it in repository.asked("list the remotes", "remote").splitlines()]
+    return repository.remotes()
 
 
 def remote_named(repository, word):
@@ -50,6 +51,22 @@ def remote_named(repository, word):
     if "origin" not in found and len(found) > 1:
         raise Stopped(f"which remote is meant? git gittuf setup {quoted(found[0])}, for one", 2)
     return "origin" if "origin" in found else found[0]
+
+
+# A server that does not answer so soon is not waited for.
+SECONDS = 20
+
+
+def asked_log(repository, remote):
+    """Whether a remote answers, and at which id it has a log now, or nothing."""
+    words = ("git", *repository.where, "ls-remote", "--quiet", "--", remote, LOG.decode())
+    environment = {**os.environ, "GIT_TERMINAL_PROMPT": "0", "LC_ALL": "C"}
+    try:
+        ran = subprocess.run(words, stdin=subprocess.DEVNULL, capture_output=True, timeout=SECONDS, env=environment)
+    except subprocess.TimeoutExpired:
+        return False, None
+    found = [it.split(b"\t")[0] for it in ran.stdout.splitlines() if it.endswith(b"\t" + LOG)]
+    return ran.returncode == 0, found[0] if found else None
 
 
 def is_before(repository, first, second):

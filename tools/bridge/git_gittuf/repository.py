@@ -152,6 +152,9 @@ class Repository:
         """The values of a setting, none where it is not set."""
         return [os.fsdecode(it) for it in self.git("config", *how, "--get-all", name)[1].splitlines()]
 
+    def remotes(self):
+        return [os.fsdecode(it) for it in self.asked("list the remotes", "remote").splitlines()]
+
     def head(self):
         """The reference that HEAD names, or nothing where it names a commit alone."""
         status, found, _ = self.git("symbolic-ref", "--quiet", "HEAD")

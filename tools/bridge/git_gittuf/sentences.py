@@ -3,6 +3,7 @@
 
 import os
 
+from git_gittuf import names
 from git_gittuf.names import short
 from git_gittuf.shown import plain, quoted
 
@@ -56,13 +57,12 @@ def of_tip(name, words):
 def of_violation(name, words):
     number, fault = words[2], words[3]
     way = (
-        f" Who may change {name.shown} calls git gittuf skip {number}, brings the files back to what they were before it,"
-        f" and calls git gittuf record {name.word}."
+        f" Who may change {name.shown} calls git gittuf recover {name.word}, which leads back to the files that it had before."
     )
     if fault == "no-policy":
         return (
-            f"Entry {number} was recorded while no policy was in force, or with --root none whose first keys are those."
-            " The first policy comes before what it is to protect: git gittuf policy apply."
+            f"Entry {number} was recorded while no policy was in force, or none whose first keys are those of --root,"
+            " of gittuf.root or of gittuf.firstRoot. The first policy comes before what it is to protect: git gittuf policy apply."
         )
     if fault == "broken":
         return f"What entry {number} recorded, or what stood before, lacks the object {words[4][:12]}: git fetch may bring it."
@@ -73,6 +73,44 @@ def of_violation(name, words):
     return (
         f"Entry {number} recorded a policy that does not follow the one in force, which goes on: {' '.join(words[4:])}. git"
         f" gittuf skip {number} and git gittuf record {name.whole} take it back."
+    )
+
+
+# What is added where nobody said whose the first policy is.
+UNPINNED = " Whose the first policy is was only seen here, and said by nobody: git gittuf setup --root KEYID,.. pins it."
+
+
+def of_no_log(has_remote):
+    """Of a clone that has no log."""
+    if has_remote:
+        return "There is no log here, and nothing is judged by one: git gittuf setup && git fetch brings the remote's."
+    return "There is no log here: git gittuf policy init and git gittuf policy apply begin one."
+
+
+def of_behind(repository, meant, words):
+    """Of a branch that has not gone as far as the log has it."""
+    name = Name(words[1], meant.remote)
+    where = f"{name.place} is behind the log, which has it at {words[5][:12]}"
+    if meant.remote:
+        return f"{where}: git fetch brings what was pushed since."
+    ahead = [it for it in names.in_place_of(repository, repository.references(), meant.name) if it.value == words[5].encode()]
+    place = os.fsdecode(names.remote_branch(meant.name, ahead[0].remote)[len(names.REMOTES) :]) if ahead else words[5][:12]
+    if repository.head() == meant.name:
+        return f"{where}: git merge --ff-only {quoted(place)}"
+    return f"{where}: git fetch . {words[5][:12]}:{name.whole}" if not ahead else f"{where}: git fetch {quoted(ahead[0].remote)} {name.word}:{name.word}"
+
+
+def broken_object(line):
+    """The id of the object at which a verdict calls a target broken, or nothing."""
+    words = line.split(" ")
+    return words[4].encode() if words[0] == "violation" and words[3] == "broken" else None
+
+
+def of_limit(words):
+    """Of a target that is there, and that no verdict takes."""
+    return (
+        f"Entry {words[2]} recorded what Git has at {words[4][:12]}, and the program takes none such: a tag of a file, a mode that"
+        " is no longer used, more than 262,144 paths, or trees deeper than 32. docs/FORMATS.md has the limits."
     )
 
 

@@ -1,9 +1,12 @@
 """The words that git gittuf takes, and its page of use."""
 
 import argparse
+import difflib
 import re
 
-from git_gittuf import commands, doctor, policy_commands
+from git_gittuf import commands, doctor, listing, policy_commands, policy_edits, pushing, recovering, reporting, verifying
+from git_gittuf.repository import Stopped
+from git_gittuf.shown import plain
 
 USAGE = """
 usage: git gittuf WORD ..
@@ -13,36 +16,52 @@ records each change, and everyone can verify both in a clone of one's own. Branc
 
 Begin
   setup [REMOTE]                make the store beside Git's objects, and let git fetch and git push carry what is below
-      [--anew]                  refs/gittuf/ from and to the remote; --anew makes the store again from nothing
+      [--root KEYID,..]         refs/gittuf/ from and to the remote; --root keeps whose the first policy must be; --anew
+      [--anew]                  makes the store again from nothing
   key [--file PATH]             make a key, or print the line of the one that is there; PATH becomes gittuf.key, which
-      [--height H] [--width W]  is ~/.local/share/gittuf/key where it is not set; --id and --public print a word of it
+      [--height H] [--width W]  is ~/.local/share/gittuf/key where it is not set; with --bottom it has two levels, of
+      [--bottom H]              these heights; --id and --public print a word of it
       [--id | --public]
   doctor [--take [REMOTE]]      say what is missing or odd, each with the line that mends it; --take gives up what was
-                                recorded here and not pushed, where another was faster, and goes to the last entry
-                                up to which the remote's log is whole, or without REMOTE the log here
+      [--anyway]                recorded here and not pushed, where another was faster, and goes to the last entry
+                                up to which the remote's log is whole, or without REMOTE the log here; entries of
+                                others it gives up only with --anyway
 
 The policy, edited at refs/gittuf/policy-staging until it is applied
   policy init NAME              begin one: NAME signs it, by the key here
   policy person NAME KEY..      a person with these public keys; --remove takes one out
+  policy rotate PERSON [KEY]    give a person this key, or the one here, in place of the older ones
   policy rule NAME PATTERN..    who signs a change of these, as refs/heads/main, 'git:refs/heads/v*' or 'file:docs/*':
       --persons A,B             --persons are asked, and --threshold of them suffice, or 1; --terminating lets no later
-      [--threshold N]           rule count; --remove takes the rule out. The rules root and targets have no pattern: they
-      [--terminating]           say who signs the policy, and its rules
+      [--threshold N]           rule count, which --no-terminating takes back; --before RULE says where it stands, and
+      [--[no-]terminating]      --remove takes it out. With --file NAME it stands in the file that goes on from the rule
+      [--before RULE]           NAME, whose persons sign that file. The rules root and targets have no pattern: they say
+      [--file NAME] [--remove]  who signs the policy, and its rules
   policy show                   print the policy in force, what is edited, who signed that, and its id
   policy sign [--id ID]         print what is edited and sign it: at a terminal it asks before, and elsewhere it wants
                                 the id of what policy show printed
   policy discard                give up what is edited
-  policy apply                  bring it into force, and record that
+  policy apply [--anyway]       bring it into force, and record that
 
 Every day
-  record BRANCH                 sign that a branch or tag stands where it stands now
-  approve BRANCH [COMMIT]       sign that it may go to this commit's files, or to where it stands here
+  record BRANCH                 sign that a branch or tag stands where it stands now, where that is lawful; --anyway
+      [--anyway]                signs it all the same, here and below
+  approve BRANCH [COMMIT]       sign that it may go to this commit's files, or to where it stands here, or with --delete
+      [--delete] [--anyway]     that it may be gone
+  push [BRANCH ..]              push these or the branch that is checked out with the log, all or nothing; where another
+      [--remote R] [--anyway]   was faster it does what sync does, and pushes again
+  sync [--remote R] [--anyway]  fetch, and where another recorded first, record what is still lawful after that anew
+  recover BRANCH [--anyway]     lead out of a violation: sign the skips, say which files are wanted, and then record
   verify [BRANCH ..]            say whether each change was lawful; with no name, of all that the log speaks of and of
       [--root KEYID,..]         each branch and tag that a rule protects. A remote's branch stands for one that is not
-                                here, and is named as origin/main. With --root the first policy must have these keys
+      [--pinned] [--json]       here, and is named as origin/main. The first policy must have the keys of --root, or
+                                those that setup --root kept, which --pinned demands, or else those that it was seen
+                                to have here first
   skip ENTRY .. [-m TEXT]       sign that entries, by number or id, are to be skipped
   note ENTRY .. [-m TEXT]       sign a note on entries
-  log                           print the log, a line for each entry
+  log [-v | --json]             print the log, a line for each entry; -v and --json say who signed it, when, and what it says
+  report [-o FILE]              write a page of HTML for an auditor: the verdicts, the log with who signed it, the policy,
+      [--root ..] [--pinned]    and what this rests on
   explain NAME                  print the rules that protect a branch or a path
   export                        print the stream of the store, without the content of files
 
@@ -56,6 +75,13 @@ what was asked for, 4 what is outside, as a repository that is none, or another 
 """
 
 
+WORDS = (
+    "setup", "key", "doctor", "record", "approve", "verify", "recover", "push", "sync", "skip", "note", "log", "explain",
+    "report", "export", "policy",
+)  # fmt: skip
+STEPS = ("init", "person", "rotate", "rule", "show", "sign", "discard", "apply")
+
+
 class Parser(argparse.ArgumentParser):
     def __init__(self, **how):
         super().__init__(add_help=False, allow_abbrev=False, **how)
@@ -65,28 +91,38 @@ class Parser(argparse.ArgumentParser):
 
 
 def policy_words(parser):
-    words = parser.add_subparsers(dest="step", required=True, metavar="init, person, rule, show, sign, discard or apply")
+    words = parser.add_subparsers(dest="step", required=True, metavar="init, person, rotate, rule, show, sign, discard or apply")
     it = words.add_parser("init")
     it.add_argument("name")
-    it.set_defaults(work=policy_commands.init)
+    it.set_defaults(work=policy_edits.init)
     it = words.add_parser("person")
     it.add_argument("name")
     it.add_argument("public", nargs="*")
     it.add_argument("--remove", action="store_true")
-    it.set_defaults(work=policy_commands.person)
+    it.set_defaults(work=policy_edits.person)
     it = words.add_parser("rule")
     it.add_argument("name")
     it.add_argument("patterns", nargs="*")
     it.add_argument("--persons")
     it.add_argument("--threshold", type=int)
-    it.add_argument("--terminating", action="store_true")
+    it.add_argument("--terminating", action="store_true", default=None)
+    it.add_argument("--no-terminating", action="store_false", dest="terminating", default=None)
+    it.add_argument("--before", metavar="RULE")
+    it.add_argument("--file", metavar="NAME")
     it.add_argument("--remove", action="store_true")
-    it.set_defaults(work=policy_commands.rule)
+    it.set_defaults(work=policy_edits.rule)
+    it = words.add_parser("rotate")
+    it.add_argument("name")
+    it.add_argument("public", nargs="*")
+    it.set_defaults(work=policy_edits.rotate)
     it = words.add_parser("sign")
     it.add_argument("--id")
     it.set_defaults(work=policy_commands.sign)
     for name in ("show", "discard", "apply"):
-        words.add_parser(name).set_defaults(work=getattr(policy_commands, name))
+        it = words.add_parser(name)
+        it.set_defaults(work=getattr(policy_commands, name))
+        it.set_defaults(reads=name == "show")
+    it.add_argument("--anyway", action="store_true")
 
 
 def key_ids(text):
@@ -100,6 +136,7 @@ def key_ids(text):
 
 def key_words(it):
     it.add_argument("--file")
+    it.add_argument("--bottom")
     it.add_argument("--height", default="10")
     it.add_argument("--width", default="4")
     one = it.add_mutually_exclusive_group()
@@ -112,27 +149,84 @@ def annotate_words(it):
     it.add_argument("-m", "--message")
 
 
-def read(words):
-    """The words, and in `work` what they ask for."""
-    parser = Parser(prog="git gittuf")
-    all_words = parser.add_subparsers(dest="word", required=True, metavar="a word")
-    take = {}
-    for name in ("setup", "key", "doctor", "record", "approve", "verify", "skip", "note", "log", "explain", "export", "policy"):
-        take[name] = all_words.add_parser(name)
-        take[name].set_defaults(work=getattr(commands, name, None))
+def help_of(words):
+    """The part of the page of use that is about a word, or of the policy about all of its steps."""
+    name, lines, found = " ".join(words), USAGE.splitlines(), []
+    is_of = False
+    for line in lines:
+        if re.match("  [a-z]", line):
+            is_of = f"{line.strip()} ".startswith(f"{name} ")
+        elif not line.startswith("   "):
+            is_of = False
+        found += [line] if is_of else []
+    return "\n".join(found)
+
+
+def expect_known(words):
+    """Refuses a word that is none, with those that are near."""
+    steps, known = words, WORDS
+    if words[:1] == ["policy"] and words[1:]:
+        steps, known = words[1:], STEPS
+    if not steps or steps[0] not in known:
+        near = difflib.get_close_matches(steps[0], known) if steps else []
+        said = f"{plain(steps[0])} is no word{' of policy' if known is STEPS else ''}" if steps else "a word is wanted"
+        like = f", and near is {' or '.join(near)}" if near else ""
+        raise Stopped(f"{said}{like}: git gittuf -h says which words are taken", 2)
+
+
+def words_of_begin(take):
     take["setup"].add_argument("remote", nargs="?")
     take["setup"].add_argument("--anew", action="store_true")
+    take["setup"].add_argument("--root", type=key_ids)
     key_words(take["key"])
     take["doctor"].add_argument("--take", metavar="REMOTE", nargs="?", const="")
     take["doctor"].set_defaults(work=doctor.doctor)
-    take["record"].add_argument("branch")
-    take["approve"].add_argument("branch")
+    policy_words(take["policy"])
+
+
+def words_of_signing(take):
+    for name in ("record", "approve", "recover"):
+        take[name].add_argument("branch")
     take["approve"].add_argument("commit", nargs="?")
-    take["verify"].add_argument("branches", nargs="*")
-    take["verify"].add_argument("--root", type=key_ids)
-    take["explain"].add_argument("name")
+    take["approve"].add_argument("--delete", action="store_true")
+    take["recover"].set_defaults(work=recovering.recover)
+    take["push"].add_argument("branches", nargs="*")
+    for name in ("push", "sync"):
+        take[name].add_argument("--remote")
+        take[name].set_defaults(work=getattr(pushing, name))
     for name in ("skip", "note"):
         annotate_words(take[name])
         take[name].set_defaults(work=commands.annotate)
-    policy_words(take["policy"])
+    for name in ("doctor", "record", "approve", "skip", "note", "recover", "push", "sync"):
+        take[name].add_argument("--anyway", action="store_true")
+
+
+def words_of_judging(take):
+    take["verify"].add_argument("branches", nargs="*")
+    take["verify"].set_defaults(work=verifying.verify)
+    take["report"].add_argument("-o", "--output", metavar="FILE")
+    take["report"].set_defaults(work=reporting.report)
+    for name in ("verify", "report"):
+        take[name].add_argument("--root", type=key_ids)
+        take[name].add_argument("--pinned", action="store_true")
+    take["log"].add_argument("-v", "--verbose", action="store_true")
+    take["log"].set_defaults(work=listing.log)
+    for name in ("verify", "log"):
+        take[name].add_argument("--json", action="store_true")
+    take["explain"].add_argument("name")
+    for name in ("doctor", "verify", "log", "explain", "export", "report"):
+        take[name].set_defaults(reads=True)
+
+
+def read(words):
+    """The words, and in `work` what they ask for."""
+    expect_known(words)
+    parser = Parser(prog="git gittuf")
+    all_words = parser.add_subparsers(dest="word", required=True, metavar="a word")
+    take = {}
+    for name in WORDS:
+        take[name] = all_words.add_parser(name)
+        take[name].set_defaults(work=getattr(commands, name, None))
+    for add in (words_of_begin, words_of_signing, words_of_judging):
+        add(take)
     return parser.parse_args(words)

@@ -1,0 +1,35 @@
+# Completion of fish for git gittuf. It goes into a folder of fish's completions under the name git-gittuf.fish, or is
+# sourced.
+
+set -l all_words setup key policy record approve verify recover push sync skip note log explain report export doctor
+set -l steps init person rotate rule show sign discard apply
+
+function __git_gittuf_is
+    set -l words (commandline -opc)
+    set -l at (contains -i gittuf $words; or contains -i git-gittuf $words)
+    test -n "$at"; and test (count $words) -gt $at; and contains -- $words[(math $at + 1)] $argv
+end
+
+function __git_gittuf_begins
+    set -l words (commandline -opc)
+    set -l at (contains -i gittuf $words; or contains -i git-gittuf $words)
+    test -n "$at"; and test (count $words) -eq $at
+end
+
+function __git_gittuf_names
+    git for-each-ref --format='%(refname:short)' $argv 2>/dev/null
+end
+
+for it in git git-gittuf
+    complete -c $it -n __git_gittuf_begins -f -a "$all_words"
+    complete -c $it -n '__git_gittuf_is setup doctor' -f -a '(git remote 2>/dev/null)'
+    complete -c $it -n '__git_gittuf_is setup' -l anew -l root
+    complete -c $it -n '__git_gittuf_is doctor' -l take
+    complete -c $it -n '__git_gittuf_is key' -l file -l height -l width -l bottom -l id -l public
+    complete -c $it -n '__git_gittuf_is record recover push approve' -f -a '(__git_gittuf_names refs/heads refs/tags)'
+    complete -c $it -n '__git_gittuf_is approve' -l delete
+    complete -c $it -n '__git_gittuf_is verify' -f -a '(__git_gittuf_names refs/heads refs/tags refs/remotes)' -l root -l pinned
+    complete -c $it -n '__git_gittuf_is push sync' -l remote
+    complete -c $it -n '__git_gittuf_is record recover push sync approve skip note doctor' -l anyway
+    complete -c $it -n '__git_gittuf_is policy' -f -a "$steps"
+end

@@ -1,0 +1,75 @@
+"""The log for a person and for a machine: beside the program's line who signed an entry, when, and what it says."""
+
+import datetime
+import json
+import re
+
+from git_gittuf import epochs, history, policies, signers
+from git_gittuf.shown import plain
+from git_gittuf.telling import show
+
+TIME = re.compile(rb"\ncommitter [^\n]* (\d+) \+0000\n")
+
+
+def time_of(body):
+    """When who signed says that it was, or nothing where that is no time."""
+    found = TIME.search(body)
+    try:
+        when = datetime.datetime.fromtimestamp(int(found[1]), datetime.timezone.utc) if found else None
+        return when and when.strftime("%Y-%m-%dT%H:%M:%SZ")
+    except (OverflowError, ValueError, OSError):
+        return None
+
+
+class Listing:
+    """The entries of a log with what their commits say of them."""
+
+    def __init__(self, work, printed):
+        self.work, self.entries = work, history.entries(printed)
+        self.bodies = {it: body or b"" for it, _, body in work.repository.bodies([it[1] for it in self.entries])}
+        self.numbers = {it[1]: it[0] for it in self.entries}
+        self.epochs = [(number, signers.People(policies.Policy(work.repository, it))) for number, it in epochs.of_entries(work.repository, self.entries)]
+
+    def people_at(self, number):
+        """The persons of the policy by which an entry is judged, and for the first policy its own."""
+        found = [it for at, it in self.epochs if at < number] or [it for at, it in self.epochs if at == number]
+        return found[-1] if found else signers.People()
+
+    def of(self, entry):
+        """All that is told of an entry, by name."""
+        number, entry_id, kind, rest = entry
+        body, people = self.bodies[entry_id], self.people_at(number)
+        key = people.keys_of(self.work.repository, [entry])[entry_id]
+        found = {"number": number, "id": entry_id.decode(), "kind": kind.decode()}
+        if kind == b"ref":
+            found.update(ref=rest[0].decode(errors="surrogateescape"), target=rest[1].decode())
+        else:
+            ids = history.ANNOTATED.findall(body.partition(b"\n\n")[2])
+            found.update(entries=[self.numbers.get(it, it.decode()) for it in ids], message=history.message_of(body))
+        found.update(key=key, person=people.persons.get(key), time=time_of(body))
+        return found
+
+
+def in_words(told, line, people):
+    """The program's line, and below it who signed, when, and what is said."""
+    lines = [line, f"  by {people.shown(told['key'])}, {told['time'] or 'at no time'}"]
+    if "entries" in told:
+        what = ", ".join(f"entry {it}" if isinstance(it, int) else str(it)[:12] for it in told["entries"])
+        lines.append(f"  of {what}{': ' + plain(told['message']) if told['message'] else ''}")
+    return lines
+
+
+def log(work, words):
+    work.bring()
+    status, printed = work.run("log")
+    if status or not (words.verbose or words.json):
+        show(printed)
+        return status
+    found, lines = Listing(work, printed), printed.decode(errors="surrogateescape").splitlines()
+    for entry, line in zip(found.entries, lines):
+        told = found.of(entry)
+        if words.json:
+            print(json.dumps(told, sort_keys=True))
+        else:
+            print("\n".join(map(plain, in_words(told, line, found.people_at(entry[0])))))
+    return 0

@@ -1,0 +1,162 @@
+"""What an entry would be before it is signed, and before what was signed goes into Git.
+
+Today the program judges an entry without a signature on top of the log, which is looked at and taken away again: where
+more than one signature is missing, or the key here is nobody's, no leaf is used. Else the entry is signed in the store,
+judged there, and given to Git only where it is lawful. This is the one place that decides so, and asks the program for
+more once it can tell what a key's entry would be.
+"""
+
+import os
+import re
+import urllib.parse
+
+from git_gittuf import epochs, history, keys, leaves, policies, sentences, settings, signers
+from git_gittuf.names import short
+from git_gittuf.program import Ended
+from git_gittuf.repository import ATTESTATIONS, LOG, ZEROS, Stopped
+from git_gittuf.shown import plain, quoted
+
+FAULT = re.compile(r"violation (\S+) (\d+) (\S+)(?: (.*))?")
+COUNTS = re.compile(r"(?:(\S+) )?(\S+) (\d+) of (\d+)")
+
+
+def root_words(work):
+    root = settings.held_to(work.repository)
+    return ("--root", root) if root else ()
+
+
+def verdict(work, name):
+    """The program's line on a reference as it stands in the store."""
+    words = ("verify-ref", os.fsdecode(name), *root_words(work))
+    status, printed = work.run(*words)
+    if status not in (0, 1):
+        # What nobody judged is not recorded.
+        raise Ended(words, status, printed)
+    return os.fsdecode(printed).strip()
+
+
+def unsigned(work, name, value):
+    """The number that an entry of this value would have, and the verdict with one that nobody signed."""
+    tip = work.kept.references().get(LOG)
+    listed = history.entries(work.asked("log")) if tip else []
+    number = len(listed) + 1
+    entry_id, body = epochs.entry(number, tip, value or ZEROS, name)
+    is_new = not work.kept.has(entry_id)
+    work.kept.put(entry_id, b"commit", body)
+    try:
+        with work.standing_at(LOG, entry_id):
+            return number, verdict(work, name), listed
+    finally:
+        if is_new:
+            os.remove(os.path.join(work.kept.objects, entry_id.decode()))
+
+
+def approvers(work, policy, name, value):
+    """The ids of the policy's keys by which this change is approved."""
+    repository, last = work.repository, last_counted(work, name) or ZEROS
+    tree = repository.git("rev-parse", "--verify", "--quiet", f"{value.decode()}^{{tree}}")[1].strip() if value else ZEROS
+    path = f"{ATTESTATIONS.decode()}:reference-authorizations/{os.fsdecode(name)}/{last.decode()}-{tree.decode()}"
+    status, text, _ = repository.git("cat-file", "blob", path)
+    return [] if status else [key for key, public in policy.publics().items() if leaves.is_signed(text, key, public)]
+
+
+def last_counted(work, name):
+    """The target of the last entry of a reference that is not skipped, or nothing."""
+    listed = history.entries(work.asked("log")) if LOG in work.kept.references() else []
+    gone = history.skipped(work.repository, listed)
+    targets = [rest[1] for _, it, kind, rest in listed if kind == b"ref" and rest[0] == name and it not in gone]
+    return targets[-1] if targets else None
+
+
+def rule_of(policy, name):
+    """A rule of the policy by its name, from whichever of its files."""
+    files = [policy.files["targets"].says] if "targets" in policy.files else []
+    files += [it.says for it in policy.delegated().values()]
+    return next((it for says in files for it in says["rules"] if it["name"] == name), None)
+
+
+def who_is_missing(policy, rule, signed):
+    """The persons of a rule, and those of them of whom nothing is signed."""
+    found = rule_of(policy, rule) or {}
+    persons = found.get("persons") or []
+    of_keys = signers.persons_of(policy)
+    have = {of_keys.get(key) for key in signed}
+    return persons, [it for it in persons if it not in have]
+
+
+def reason(work, name, value, line, key):
+    """Why an entry is refused, in words with the next line to type, from the program's line on it."""
+    found = FAULT.fullmatch(line)
+    fault, rest = found[3], found[4] or ""
+    word, counts = quoted(short(name)), COUNTS.fullmatch(rest)
+    if fault not in ("ref-rule", "path-rule") or not counts:
+        return f"it would be a violation: {plain(sentences.of_line(line))}"
+    policy = policies.in_force(work)
+    wanted, missing = who_is_missing(policy, counts[2], [*approvers(work, policy, name, value), key])
+    what = f"a change of {plain(counts[1])}" if fault == "path-rule" else "it"
+    said = f"it would be a violation: rule {plain(counts[2])} wants {counts[4]} of {', '.join(map(plain, wanted)) or 'its keys'} for {what}"
+    if key not in policy.publics():
+        return f"{said}, and your key is that of none of the policy's persons"
+    to = "--delete " + word if value is None else f"{word} {value.decode()[:12]}"
+    return f"{said}; missing is {' or '.join(map(plain, missing)) or 'one more'}, who approves it by git gittuf approve {to}"
+
+
+def keys_for(work, what):
+    """The keys of those whom the rules of a branch or a path ask, as the program names these rules."""
+    policy = policies.in_force(work)
+    named = {it.split(b" ")[1] for it in work.asked("explain", what).splitlines() if it.startswith(b"rule ")}
+    rules = [it for _, it in policy.rules() if os.fsencode(it["name"]) in named]
+    asked = {name for it in rules for name in it.get("persons", [])}
+    persons = [it for file in policy.all_files().values() for it in file.says.get("persons", []) if it["name"] in asked]
+    return {key for it in (*rules, *persons) for key in it.get("keyids", [])}
+
+
+def is_sure(line, number, listed, work, name, key):
+    """Whether a line on an entry without a signature holds for each signature by this key too."""
+    found = FAULT.fullmatch(line)
+    if not found:
+        return False
+    if int(found[2]) < number:
+        entry = next((it[1] for it in listed if it[0] == int(found[2])), None)
+        # A recovery takes in only what is skipped.
+        return entry not in history.skipped(work.repository, listed)
+    counts = COUNTS.fullmatch(found[4] or "")
+    if found[3] not in ("ref-rule", "path-rule") or not counts:
+        return True
+    what = "file:" + os.fsdecode(urllib.parse.unquote_to_bytes(counts[1])) if found[3] == "path-rule" else f"git:{os.fsdecode(name)}"
+    return int(counts[4]) - int(counts[3]) > 1 or key not in keys_for(work, what)
+
+
+def refuse(work, name, value, line, number, key):
+    """Refuses an entry of which the program has this line."""
+    since, word = int(FAULT.fullmatch(line)[2]), quoted(short(name))
+    if since < number:
+        said = f"{plain(short(name))} stands in violation since entry {since}, and this would not end it: git gittuf recover {word} leads out"
+    else:
+        said = reason(work, name, value, line, key)
+    raise Stopped(f"nothing is recorded, as {said}; --anyway records it all the same", 3)
+
+
+def expect_lawful(work, name, value, key):
+    """Refuses what no signature by this key makes lawful, before a leaf of it is used."""
+    number, line, listed = unsigned(work, name, value)
+    if is_sure(line, number, listed, work, name, key):
+        refuse(work, name, value, line, number, key)
+
+
+def expect_accepted(work, name, value, number, key):
+    """Refuses an entry that was signed in the store, before Git has it."""
+    line = verdict(work, name)
+    if line.startswith("violation "):
+        refuse(work, name, value, line, number, key)
+
+
+def expect_person(work, key, what):
+    """Refuses to sign what counts only by a person of the policy with a key that is nobody's."""
+    policy = policies.in_force(work)
+    if policy.files and key not in policy.publics():
+        raise Stopped(f"your key is that of none of the policy's persons, so {what} counts for nothing; --anyway signs it all the same", 3)
+
+
+def key_id(path):
+    return keys.id_and_public(path)[0]

@@ -1,0 +1,207 @@
+"""The words of `git gittuf policy` that edit: each changes what the files say, and lets the program keep them."""
+
+import hashlib
+import re
+
+from git_gittuf import keys, policies
+from git_gittuf.policy_commands import draft_and_force, keep, print_changes
+from git_gittuf.repository import Stopped
+from git_gittuf.shown import plain, quoted
+from git_gittuf.telling import tell
+
+NAME = re.compile(r"[A-Za-z0-9._-]{1,64}")
+PUBLIC = re.compile(r"(?:[0-9a-f]{112}|[0-9a-f]{120})")
+
+
+def expect_name(name):
+    if not NAME.fullmatch(name):
+        raise Stopped(f"{name!r} is no name: 1 to 64 letters, digits, dots, underscores and hyphens", 2)
+
+
+def edit(work, change):
+    """Lets a change of what the files say stand at the reference of what is edited."""
+    draft, force = draft_and_force(work)
+    old, there = force.all_files(), draft.all_files()
+    says = {name: draft.says(name) for name in there}
+    if any(it.get("schema", 1) != 2 for it in says.values()):
+        raise Stopped("this policy's files are of schema 1, and this edits those of schema 2: see docs/FORMATS.md", 3)
+    change(says)
+    for name in there.keys() - says.keys():
+        del draft.others[policies.path_of(name)]
+    for name, it in says.items():
+        file = policies.settled(it, old.get(name), there.get(name))
+        # What is not edited stays byte for byte.
+        if name in policies.FILES or name not in there or file.payload != there[name].payload:
+            draft.set_file(name, file)
+    kept = keep(work, draft)
+    print_changes(force, draft)
+    if not kept:
+        print("nothing is other than it was")
+
+
+def init(work, words):
+    """Begins a policy of one person, whose key is the one of this repository."""
+    expect_name(words.name)
+    work.bring()
+    force = policies.in_force(work)
+    policies.expect_recorded(work, force)
+    if policies.staged(work, force).files:
+        raise Stopped("there is a policy already: git gittuf policy show prints it", 3)
+    draft = policies.Policy(work.repository)
+    draft.files = policies.begin(words.name, *keys.id_and_public(keys.needed(work.repository)))
+    keep(work, draft)
+    print_changes(force, draft)
+
+
+def person(work, words):
+    """Adds a person, gives one other keys, or removes one."""
+    expect_name(words.name)
+    work.bring()
+
+    def change(says):
+        if words.remove:
+            remove_person(says, words.name)
+            return
+        given = [it for it in words.public if it != "key" and not re.fullmatch("[0-9a-f]{64}", it)]
+        if not given or not all(PUBLIC.fullmatch(it) for it in given):
+            raise Stopped("a person has at least one key: the line of git gittuf key, or its last word", 2)
+        give_keys(says, words.name, given)
+
+    edit(work, change)
+
+
+def give_keys(says, name, publics):
+    """Gives a person these public keys in each file that has the person, and in the one of the rules."""
+    them = [policies.key_of(it, hashlib.sha256(bytes.fromhex(it)).hexdigest()) for it in publics]
+    for file, it in says.items():
+        if file == "targets" or policies.has_person(it, name):
+            policies.add_person(it, name, them)
+
+
+def rotate(work, words):
+    """Gives a person another key in place of the older ones, and says who signs that."""
+    expect_name(words.name)
+    work.bring()
+    given = [it for it in words.public if it != "key" and not re.fullmatch("[0-9a-f]{64}", it)]
+    given = given or [keys.id_and_public(keys.needed(work.repository))[1]]
+    if len(given) != 1 or not PUBLIC.fullmatch(given[0]):
+        raise Stopped("one key takes the place of the older ones: the line of git gittuf key, or its last word", 2)
+
+    def change(says):
+        if not any(policies.has_person(it, words.name) for it in says.values()):
+            raise Stopped(f"there is no person {words.name}: git gittuf policy show lists them", 3)
+        give_keys(says, words.name, given)
+
+    edit(work, change)
+    draft, force = draft_and_force(work)
+    if words.name in force.role("root").get("persons", []):
+        tell(
+            f"{words.name} is of those who sign the policy, and signs this by both keys: git gittuf policy sign with the old one,"
+            " and once git gittuf key --file <the new one> has set it, again with the new one"
+        )
+
+
+def remove_person(says, name):
+    if not any(policies.has_person(it, name) for it in says.values()):
+        raise Stopped(f"there is no person {name}: git gittuf policy show lists them", 3)
+    rules = {it["name"]: it for file in says.values() for it in file.get("rules", [])}
+    for where, it in {**says["root"]["roles"], **rules}.items():
+        if name in it["persons"]:
+            named = f"git gittuf policy rule {quoted(where)} --persons .. names others first"
+            raise Stopped(f"{name} is wanted for {plain(where)}: {named}", 3)
+    for it in says.values():
+        policies.drop_person(it, name)
+
+
+def pattern_of(word):
+    if word.startswith(("git:", "file:")):
+        return word
+    if word.startswith("refs/"):
+        return f"git:{word}"
+    raise Stopped(f"{plain(word)} says not what it is: a branch begins with refs/heads/, and a path with file:", 2)
+
+
+def rule(work, words):
+    """Adds or changes a rule, or who signs policies, which are the rules `root` and `targets`."""
+    work.bring()
+
+    def change(says):
+        if words.name in policies.ROLES:
+            change_role(says, words)
+        else:
+            change_rule(file_to_edit(says, words), words)
+            # A file whose rule is gone would be of no rule.
+            if words.remove and words.name in says:
+                del says[words.name]
+
+    edit(work, change)
+
+
+def file_to_edit(says, words):
+    """What the file says in which a rule stands, or is to stand; it is begun where a rule of its name delegates to it."""
+    name = words.file or next((it for it in says if any(rule["name"] == words.name for rule in says[it].get("rules", []))), "targets")
+    if name == "root" or name not in says and not any(it["name"] == name for file in says.values() for it in file.get("rules", [])):
+        raise Stopped(f"there is no rule {plain(name)}, of which the file {plain(name)} would go on: git gittuf policy show lists them", 3)
+    file = says.setdefault(name, policies.begin_file(name))
+    listed = {it["name"]: it["keyids"] for it in says["targets"]["persons"]}
+    for person in (words.persons or "").split(",") if name != "targets" else []:
+        if person in listed and not policies.has_person(file, person):
+            policies.add_person(file, person, [it for it in says["targets"]["keys"] if it["keyid"] in listed[person]])
+    return file
+
+
+def settle(it, words, known):
+    """Sets the persons and the threshold of a rule or a role as far as the words say them."""
+    if words.persons:
+        it["persons"] = words.persons.split(",")
+    unknown = [name for name in it["persons"] if name not in known]
+    if unknown:
+        adds = f"git gittuf policy person {quoted(unknown[0])} <key> adds one"
+        raise Stopped(f"there is no person {plain(unknown[0])}: {adds}", 3)
+    it["threshold"] = it.get("threshold", 1) if words.threshold is None else words.threshold
+    if not 1 <= it["threshold"] <= len(set(it["persons"])):
+        raise Stopped(f"{it['threshold']} of {len(set(it['persons']))} persons can never sign: --threshold says how many are to", 3)
+
+
+def change_role(says, words):
+    if words.patterns or words.remove or words.terminating is not None or words.before or words.file:
+        raise Stopped(f"{words.name} says who signs policies, and takes --persons and --threshold alone", 2)
+    targets, root = says["targets"], says["root"]
+    listed = {it["name"]: it["keyids"] for it in [*root["persons"], *targets["persons"]]}
+    settle(root["roles"][words.name], words, listed)
+    for name in root["roles"][words.name]["persons"]:
+        if not policies.has_person(root, name):
+            policies.add_person(root, name, [it for it in targets["keys"] if it["keyid"] in listed[name]])
+    used = {name for it in root["roles"].values() for name in it["persons"]}
+    for name in [it["name"] for it in root["persons"] if it["name"] not in used]:
+        policies.drop_person(root, name)
+
+
+def change_rule(targets, words):
+    expect_name(words.name)
+    found = [it for it in targets["rules"] if it["name"] == words.name]
+    if words.remove:
+        if not found:
+            raise Stopped(f"there is no rule {words.name}: git gittuf policy show lists them", 3)
+        targets["rules"].remove(found[0])
+        return
+    if not found:
+        if not words.patterns or not words.persons:
+            raise Stopped("a new rule says what it protects, and by whom: rule main refs/heads/main --persons alice,bob", 2)
+        found = [{"name": words.name, "terminating": False}]
+        targets["rules"].append(found[0])
+    if words.patterns:
+        found[0]["paths"] = [pattern_of(it) for it in words.patterns]
+    if words.terminating is not None:
+        found[0]["terminating"] = words.terminating
+    if words.before:
+        put_before(targets["rules"], found[0], words.before)
+    settle(found[0], words, {it["name"] for it in targets["persons"]})
+
+
+def put_before(rules, rule, name):
+    """Lets a rule stand before another one of its file, which so counts later."""
+    if name not in [it["name"] for it in rules] or name == rule["name"]:
+        raise Stopped(f"there is no other rule {plain(name)} in that file: git gittuf policy show lists them", 3)
+    rules.remove(rule)
+    rules.insert([it["name"] for it in rules].index(name), rule)

@@ -1,0 +1,106 @@
+"""`git gittuf push` and `git gittuf sync`: branches go with the log that records them, or not at all."""
+
+import os
+
+from git_gittuf import history, names, remotes, seen, syncing, verifying
+from git_gittuf.repository import ATTESTATIONS, LOG, POLICY, STAGED, TARGETS, ZEROS, Stopped
+from git_gittuf.shown import plain, quoted
+from git_gittuf.telling import say
+
+# Another may be faster so often.
+TRIES = 8
+OWN_NAMES = (LOG, POLICY, ATTESTATIONS, STAGED)
+
+
+def remote_of(work, words):
+    remote = remotes.remote_named(work.repository, words.remote)
+    if not remote:
+        raise Stopped("there is no remote: git remote add origin <where> && git gittuf setup", 3)
+    return remote
+
+
+def named(work, words):
+    """The references that are to go, with where they stand, or nothing where they are gone."""
+    repository = work.repository
+    given = words.branches or ["HEAD"]
+    references, found = repository.references(), {}
+    for word in given:
+        name = names.own_name(repository, word)
+        found[name] = references.get(name)
+        if found[name] is None and name not in history.recorded_names(work):
+            raise names.no_such(repository, word, history.recorded_names(work))
+    return found
+
+
+def expect_recorded(work, found):
+    """Refuses to push what a rule protects or the log speaks of where that has it elsewhere."""
+    listed = history.entries(work.asked("log")) if LOG in work.repository.references() else []
+    gone = history.skipped(work.repository, listed)
+    last = {rest[0]: rest[1] for _, it, kind, rest in listed if kind == b"ref" and it not in gone}
+    for name, value in found.items():
+        if name in last and last[name] == (value or ZEROS) or name not in last and not (listed and verifying.is_protected(work, name)):
+            continue
+        word = quoted(names.short(name))
+        said = f"{plain(names.short(name))} stands where no entry of the log has it: git gittuf record {word} comes first"
+        raise Stopped(f"{said}; --anyway pushes it all the same", 3)
+
+
+def specs(work, remote, found, anyway):
+    """What git push is given: each branch, forced only over what was seen there, and the own references."""
+    references, words = work.repository.references(), []
+    for name, value in found.items():
+        whole = os.fsdecode(name)
+        # What was looked at goes, also where another moves it meanwhile.
+        words.append(f":{whole}" if value is None else f"{value.decode()}:{whole}")
+        seen_there = references.get(names.remote_branch(name, remote)) if name.startswith(names.HEADS) else None
+        if anyway and seen_there:
+            words.insert(0, f"--force-with-lease={whole}:{seen_there.decode()}")
+    own = [name for name in references if name in OWN_NAMES or name.startswith(TARGETS)]
+    words += [f"{references[name].decode()}:{os.fsdecode(name)}" for name in own if references.get(remotes.beside(remote, name)) != references[name]]
+    return [it for it in words if it.startswith("--")], [it for it in words if not it.startswith("--")]
+
+
+def pushed(work, remote, found, anyway):
+    """Pushes at once, or nothing; returns whether that was done, and what git said of why not."""
+    options, words = specs(work, remote, found, anyway)
+    with work.unlocked():
+        status, output, said = work.repository.git("push", "--porcelain", "--atomic", *options, "--", remote, *words)
+    if not status:
+        return True, ""
+    refused = [os.fsdecode(it) for it in output.splitlines() if it.startswith(b"!")]
+    if not refused:
+        raise Stopped(f"git does not push to {plain(remote)}: {plain(said)}")
+    # The others are refused for these alone.
+    refused = [it for it in refused if "(atomic push failed)" not in it] or refused
+    return False, "; ".join(it.rpartition("\t")[2] + " " + it.split("\t")[1].rpartition(":")[2] for it in refused)
+
+
+def push(work, words):
+    work.bring()
+    remote, anyway = remote_of(work, words), words.anyway
+    how = syncing.how_log_stands(work, remote)
+    if how in ("broken", "odd") or how in ("back", "dropped") and not anyway:
+        raise Stopped(f"the log of {plain(remote)} does not fit, and nothing is pushed: git gittuf doctor says more", 3)
+    for _ in range(TRIES):
+        found = named(work, words)
+        if not anyway:
+            expect_recorded(work, found)
+        done, why = pushed(work, remote, found, anyway)
+        if done:
+            seen.pushed(work.repository, remote)
+            for name, value in found.items():
+                print(f"pushed {plain(os.fsdecode(name))} {(value or ZEROS).decode()}")
+            return 0
+        before = work.repository.own_references()
+        if not syncing.sync(work, remote, anyway):
+            raise Stopped("nothing is pushed: what is said above comes first", 3)
+        if before == work.repository.own_references():
+            way = "git gittuf doctor says more" if "refs/gittuf/" in why else "git pull brings what is there"
+            raise Stopped(f"{plain(remote)} does not take it: {plain(why)}; {way}", 3)
+        say("Another was faster: what is here was recorded anew after that, and is pushed again.")
+    raise Stopped(f"others were faster {TRIES} times: git gittuf push tries again", 3)
+
+
+def sync(work, words):
+    work.bring()
+    return 0 if syncing.sync(work, remote_of(work, words), words.anyway) else 3

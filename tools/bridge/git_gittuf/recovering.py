@@ -1,0 +1,84 @@
+"""The way out of a violation: what is to be skipped, which files are wanted, and the entry that completes it."""
+
+import os
+
+from git_gittuf import commands, history, leaves, looking, names
+from git_gittuf.repository import ZEROS, Stopped
+from git_gittuf.shown import plain, quoted
+from git_gittuf.telling import show, tell
+
+# An annotation names so many entries at most.
+MOST = 256
+
+
+def violation_of(work, name):
+    """The number at which a reference stands in violation, or nothing, with the program's line."""
+    line = looking.verdict(work, name)
+    found = looking.FAULT.fullmatch(line)
+    return (int(found[2]), found[3], line) if found else (None, None, line)
+
+
+def of_name(entries, name):
+    return [(number, it, rest[1]) for number, it, kind, rest in entries if kind == b"ref" and rest[0] == name]
+
+
+def plan(work, name, number):
+    """The entries that are still to be skipped, and the target whose files are wanted, or zeros for none."""
+    entries = history.entries(work.asked("log"))
+    gone, own = history.skipped(work.repository, entries), of_name(entries, name)
+    before = [target for at, it, target in own if at < number and it not in gone]
+    to_skip = [it for at, it, _ in own if at >= number and it not in gone]
+    return to_skip, before[-1] if before else ZEROS
+
+
+def tree_of(repository, commit):
+    return repository.git("rev-parse", "--verify", "--quiet", f"{commit.decode()}^{{tree}}")[1].strip()
+
+
+def way_to(work, name, wanted):
+    """The line that brings a branch to the files that are wanted, or nothing where it has them."""
+    repository, word = work.repository, quoted(names.short(name))
+    value = repository.references().get(name)
+    again = f"git gittuf recover {word}"
+    if wanted == ZEROS:
+        if value is None:
+            return None
+        return f"before it there was none, so it is to go: git update-ref -d {quoted(os.fsdecode(name))} && {again}"
+    if not repository.there([wanted]):
+        raise Stopped(f"the files of {wanted.decode()} are wanted, and are not here: git fetch, or ask who has them", 3)
+    if value is not None and tree_of(repository, value) == tree_of(repository, wanted):
+        return None
+    restore = f"git restore --source={wanted.decode()[:12]} --staged --worktree :/ && git commit -m 'Take back'"
+    if repository.head() != name:
+        restore = f"git switch {word} && {restore}"
+    if not name.startswith(b"refs/heads/") or value is None:
+        restore = f"git update-ref {quoted(os.fsdecode(name))} {wanted.decode()}"
+    return f"the files of {wanted.decode()[:12]} are wanted: {restore} && {again}"
+
+
+def recover(work, words):
+    work.bring()
+    repository, name = work.repository, names.own_name(work.repository, words.branch)
+    shown = plain(names.short(name))
+    number, fault, line = violation_of(work, name)
+    if number is None:
+        raise Stopped(f"nothing is to be recovered of {shown}: {plain(line) or 'no verdict is to be had'}", 3)
+    if fault == "no-policy":
+        raise Stopped(f"entry {number} was recorded before a policy was in force, and no recovery takes that in", 3)
+    path = leaves.signing_key(repository)
+    if not words.anyway:
+        looking.expect_person(work, looking.key_id(path), "a recovery by it")
+    to_skip, wanted = plan(work, name, number)
+    if to_skip:
+        numbers = {it[1]: str(it[0]) for it in history.entries(work.asked("log"))}
+        tell(f"{shown} stands in violation since entry {number}, and these entries of it are skipped: {', '.join(numbers[it] for it in to_skip)}")
+    for at in range(0, len(to_skip), MOST):
+        ids = b",".join(to_skip[at : at + MOST]).decode()
+        show(work.change(lambda ids=ids: work.asked("annotate", "skip", ids, key=path)))
+    way = way_to(work, name, wanted)
+    if way:
+        tell(f"{shown} is to be recovered from entry {number} on; {way}")
+        return 1
+    show(commands.recorded_by(work, name, repository.references().get(name), path, words.anyway))
+    show(f"{looking.verdict(work, name)}\n".encode())
+    return 0

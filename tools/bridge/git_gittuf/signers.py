@@ -1,0 +1,74 @@
+"""Who signed the entries of a log, to be shown. Whether that suffices is the program's to say, and nobody is named unproved."""
+
+import re
+
+from git_gittuf import keys, leaves, policies, signatures
+from git_gittuf.repository import Stopped
+from git_gittuf.shown import plain
+
+SIGNED = re.compile(rb"\nlmssig ([0-9a-f]{64}) [A-Za-z0-9+/=]+\n")
+
+
+def key_in(body):
+    """The id of the key that an entry names, or nothing."""
+    found = SIGNED.search((body or b"").partition(b"\n\n")[0] + b"\n")
+    return found[1] if found else None
+
+
+def of_entries(repository, ids, publics=None):
+    """The id of the key that each of these entries names, or None where it names none, or one of these by which it is not good."""
+    found = {}
+    for object_id, _, body in repository.bodies(ids):
+        key = key_in(body)
+        public = (publics or {}).get(key.decode()) if key else None
+        signed = leaves.of_entry(body, key) if public else ()
+        is_forged = public and not any(signatures.is_good(public, text, it) for text, it in signed)
+        found[object_id] = None if key is None or is_forged else key.decode()
+    return found
+
+
+def own_key(repository):
+    """The id of the key that signs here, or nothing."""
+    try:
+        path = keys.path_of(repository)
+        return keys.id_and_public(path)[0] if keys.is_there(path) else None
+    except (Stopped, OSError):
+        return None
+
+
+def persons_of(policy):
+    """The persons of a policy by their keys."""
+    return {key: name for name, them in policy.persons().items() for key in them}
+
+
+class People:
+    """The persons of a policy, by whose keys entries are signed."""
+
+    def __init__(self, policy=None):
+        self.persons, self.publics = (persons_of(policy), policy.publics()) if policy else ({}, {})
+
+    def keys_of(self, repository, entries):
+        return of_entries(repository, [it[1] for it in entries], self.publics)
+
+    def shown(self, key):
+        """How the holder of a key is named: as the policy does, or by the front of the key's id."""
+        if key is None:
+            return "nobody"
+        return plain(self.persons[key]) if key in self.persons else f"the key {key[:12]}"
+
+    def who_signed(self, repository, entries):
+        return ", ".join(dict.fromkeys(map(self.shown, self.keys_of(repository, entries).values())))
+
+
+def in_force(work):
+    """The persons of the policy in force, and nobody where it cannot be read."""
+    try:
+        return People(policies.in_force(work))
+    except Stopped:
+        return People()
+
+
+def numbers(entries):
+    """The numbers of entries, as a sentence has them."""
+    first, last = entries[0][0], entries[-1][0]
+    return f"entry {first}" if first == last else f"entries {first} to {last}"

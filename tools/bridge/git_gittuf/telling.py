@@ -1,0 +1,22 @@
+"""How a call speaks: the program's lines for whoever reads them, and sentences for a person at a terminal."""
+
+import os
+import sys
+
+from git_gittuf.shown import plain_lines
+
+
+def say(sentence):
+    """Tells a person at a terminal what a line means, and nobody else."""
+    if sentence and os.isatty(2):
+        print(sentence, file=sys.stderr, flush=True)
+
+
+def show(printed):
+    """Prints lines of the program."""
+    print(plain_lines(printed), end="", flush=True)
+
+
+def tell(sentence):
+    """Tells whoever called, on standard error, also where nobody sits at a terminal."""
+    print(f"git-gittuf: {sentence}", file=sys.stderr, flush=True)
