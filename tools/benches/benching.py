@@ -9,6 +9,8 @@ import time
 
 TOOLS = os.path.dirname(os.path.dirname(os.path.realpath(__file__)))
 sys.path[1:1] = [os.path.join(TOOLS, it) for it in ("tests", "bridge")]
+# What is measured is built here, for the processor that is asked for, and is not the released program.
+os.environ["GITTUF_BUILD"] = "1"
 
 from checking import EMPTY_STREAM, LAUNCHER, TOP, VERIFY
 

@@ -1,9 +1,10 @@
-"""The checks of tools/check that documents name what exists: crates, links, definitions, laws, rows and edits."""
+"""The checks of tools/test that documents name what exists: crates, links, definitions, laws, rows and edits."""
 
 import functools
 import os
 import re
 
+import twin_files
 from checking import TOP, Failure
 
 README_BYTES = 10_000
@@ -192,4 +193,30 @@ def rows_exist(repositories):
     return f"{count} rows are named"
 
 
-CHECKS = (readme_is_one_page, lists_each_crate, crates_have_pages, links_lead_somewhere, definitions_exist, rows_exist)
+def wrong_with(name):
+    """What keeps a twin from being tried."""
+    try:
+        twin = twin_files.Twin(name)
+        twin_files.texts_of([twin])
+    except twin_files.BadTwin as why:
+        return f"{name}: {why}"
+    found = is_call(twin.by) if twin.crate() else twin.by in rows()
+    return None if found else f"{name}: {twin.by} is no row and no test"
+
+
+def twins_can_be_tried(repositories):
+    """each twin changes texts that stand once in their files, and names a row or a test"""
+    names = twin_files.names()
+    refuse([it for it in map(wrong_with, names) if it])
+    return f"{len(names)} twins"
+
+
+CHECKS = (
+    readme_is_one_page,
+    lists_each_crate,
+    crates_have_pages,
+    links_lead_somewhere,
+    definitions_exist,
+    rows_exist,
+    twins_can_be_tried,
+)

@@ -1,4 +1,4 @@
-"""The checks of tools/check on a store that is kept in a folder, over a large Git repository."""
+"""The checks of tools/test on a store that is kept in a folder, over a large Git repository."""
 
 import hashlib
 import os

@@ -1,4 +1,4 @@
-"""The check of tools/check on the examples of docs/FORMATS.md: what a reader copies is read."""
+"""The check of tools/test on the examples of docs/FORMATS.md: what a reader copies is read."""
 
 import json
 import os

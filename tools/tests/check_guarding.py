@@ -1,10 +1,11 @@
-"""The checks of tools/check on git gittuf in the clones of two maintainers."""
+"""The checks of tools/test on git gittuf in the clones of two maintainers."""
 
 import os
 import re
+import shlex
 
 from checking import TOP, Failure, at_terminal, run, want
-from guarded_clones import MAIN, SMALL, another
+from guarded_clones import MAIN, SIGNATURES, SMALL, another
 
 ENTRY_LINE = re.compile(r"entry (\d+) ([0-9a-f]{64})\n")
 
@@ -39,7 +40,8 @@ def finds_a_forced_push(repositories):
     clones.git("fetch", "--quiet", who="bob")
     clones.git("reset", "--quiet", "--hard", "origin/main", who="bob")
     clones.verdict("bob", f"tip-differs {MAIN} kept {forced} recorded {recorded}")
-    clones.gittuf("stranger", "record", "main")
+    clones.refused("stranger", "record", "main", status=3, part="your key is that of none of the policy's persons")
+    clones.gittuf("stranger", "record", "main", "--anyway")
     clones.git("push", "--quiet", who="stranger")
     clones.git("fetch", "--quiet", who="bob")
     clones.verdict("bob", f"violation {MAIN} 3 ref-rule main 0 of 1")
@@ -68,9 +70,9 @@ def judges_what_no_branch_reaches(repositories):
     clones.sound("alice", "auditor")
 
 
-def records(clones, who, name):
+def records(clones, who, name, *words):
     """Records a reference, and returns the number of the entry."""
-    printed = clones.gittuf(who, "record", name).decode()
+    printed = clones.gittuf(who, "record", name, *words).decode()
     found = ENTRY_LINE.fullmatch(printed)
     if not found:
         raise Failure(f"record printed {printed!r}")
@@ -100,7 +102,7 @@ def judges_what_git_has(repositories):
     clones.git("tag", "--annotate", "--message", "one", "v1", who=alice)
     clones.git("tag", "of-a-file", "main:README", who=alice)
     clones.git("tag", "--annotate", "--message", "of a tree", "of-a-tree", "main^{tree}", who=alice)
-    numbers = {name: records(clones, alice, f"refs/tags/{name}") for name in ("v1", "of-a-file", "of-a-tree")}
+    numbers = {name: records(clones, alice, f"refs/tags/{name}", "--anyway") for name in ("v1", "of-a-file", "of-a-tree")}
     clones.verdict(alice, f"accepted {MAIN} {count} entries")
     clones.verdict(alice, "accepted refs/heads/c\u00f4t\u00e9 1 entries", name="refs/heads/c\u00f4t\u00e9")
     clones.verdict(alice, "accepted refs/tags/v1 1 entries", name="refs/tags/v1")
@@ -208,11 +210,11 @@ def tells_a_used_key(repositories):
     clones.gittuf("bob", "key", "--file", clones.path("used.key"), *SMALL)
     with open(clones.path("used.key"), "r+b") as file:
         file.seek(64)
-        file.write(b"\1" * 1024)
+        file.write(b"\1" * SIGNATURES)
     # Each call first goes on to where the server's log is.
     clones.gittuf("bob", "log")
     before = clones.git("for-each-ref", who="bob")
-    found = run("git", "-C", clones.path("bob"), "gittuf", "record", "main")
+    found = run("git", "-C", clones.path("bob"), "gittuf", "record", "--anyway", "main")
     want(found, (6, b"", b"exhausted\n"), "the status, output and errors of record")
     want(clones.git("for-each-ref", who="bob"), before, "the references afterwards")
     clones.verdict("bob", f"accepted {MAIN} 1 entries")
@@ -236,7 +238,10 @@ def approves_for_two(repositories):
     clones.verdict("alice", f"accepted {MAIN} 2 entries")
     clones.commit("alice")
     clones.git("push", "--quiet", who="alice")
-    records(clones, "alice", "main")
+    part = f"rule main wants 2 of alice, bob for it; missing is bob, who approves it by git gittuf approve main {clones.tip('alice')[:12]}"
+    clones.refused("alice", "record", "main", status=3, part=part)
+    clones.verdict("alice", f"tip-differs {MAIN} kept {clones.tip('alice')} recorded {clones.tip('alice', 'main~1')}")
+    records(clones, "alice", "main", "--anyway")
     clones.verdict("alice", f"violation {MAIN} {number + 1} ref-rule main 1 of 2")
     want(clones.gittuf("alice", "explain", "README"), b"unprotected\n", "the rules of a path")
     clones.sound("alice", "bob")
@@ -250,7 +255,8 @@ def begins_as_the_readme_says(repositories):
     want([it.split()[0] for it in lines[:2]], ["ln", "cd"], "how the lines begin")
     clones = another(repositories, "reader's")
     clones.git("clone", "--quiet", repositories.needed(), "project", who="")
-    home = clones.path("home")
+    # The name of the folder has a sign that a shell reads, and no key goes into the caller's own home.
+    home = shlex.quote(clones.path("home"))
     folder = clones.path("project")
     shell = f"set -e; export XDG_DATA_HOME={home} HOME={home}\n"
     status, told = at_terminal(shell + "\n".join(lines[2:]), folder)
@@ -264,6 +270,8 @@ def begins_as_the_readme_says(repositories):
 
 
 def verdicts_of(told):
+    # What is written over while a verdict takes long stands before it.
+    told = re.sub(r"\r\x1b\[K[^\r\n]*(?=\r\x1b\[K)|\r\x1b\[K", "", told)
     return [it for it in told.splitlines() if it.startswith(("accepted ", "violation ", "tip-differs "))]
 
 

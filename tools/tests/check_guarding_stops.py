@@ -1,14 +1,13 @@
-"""The checks of tools/check on git gittuf where it is stopped, kept waiting, or has much to do."""
+"""The checks of tools/test on git gittuf where it is stopped, kept waiting, or has much to do."""
 
 import os
-import pty
 import signal
 import subprocess
 import sys
 import time
 
-from checking import BRIDGE, LAUNCHER, Failure, run, want
-from guarded_clones import MAIN, SMALL, TOOL, another
+from checking import BRIDGE, LAUNCHER, Failure, on_terminal, run, want
+from guarded_clones import LARGER, MAIN, SMALL, TOOL, another, guarded
 
 STOPS = 20
 COMMITS, FILES, FOLDERS = 2_000, 20_000, 200
@@ -35,7 +34,7 @@ def stopped(clones, seconds, with_what_it_started):
 
 def is_mended_after_stops(repositories):
     """a record that is killed at any of twenty moments is as if not begun or done once the next call ran"""
-    clones = another(repositories, "stopped")
+    clones = guarded(repositories, "stopped", LARGER)
     count, start = 1, time.monotonic()
     clones.gittuf("alice", "record", "main")
     whole, count = time.monotonic() - start, count + 1
@@ -114,16 +113,33 @@ def is_quick_after_one_commit(repositories):
 
 
 def one_at_a_time(repositories):
-    """while one git gittuf is at work another ends at once, and names the process"""
+    """while one git gittuf is at work another waits as long as gittuf.wait says, and names the process; readers work side by side"""
     clones = another(repositories, "waiting")
-    script = "import sys, time; sys.path.insert(0, sys.argv[1]); from git_gittuf.work import Work; Work(); print(1, flush=True); time.sleep(60)"
-    words = (sys.executable, "-B", "-c", script, BRIDGE)
+    clones.gittuf("bob", "verify", "main")
+    clones.git("config", "gittuf.wait", "0", who="bob")
+    line = f"accepted {MAIN} 1 entries\n".encode()
+    script = (
+        "import sys, time; sys.path.insert(0, sys.argv[1]); from git_gittuf.work import Work;"
+        " Work(sys.argv[2] == 'r'); print(1, flush=True); time.sleep(60)"
+    )
+    for how in "wr":
+        words = (sys.executable, "-B", "-c", script, BRIDGE, how)
+        with subprocess.Popen(words, cwd=clones.path("bob"), stdout=subprocess.PIPE) as first:
+            try:
+                first.stdout.read(1)
+                if how == "w":
+                    clones.refused("bob", "verify", "main", status=4, part=f"process {first.pid} ")
+                else:
+                    want(clones.gittuf("bob", "verify", "main"), line, "the verdict beside another reader")
+                    clones.refused("bob", "note", "1", status=4, part="another git gittuf works in this repository")
+            finally:
+                first.kill()
+    clones.git("config", "--unset", "gittuf.wait", who="bob")
+    words = (sys.executable, "-B", "-c", script.replace("60", "10"), BRIDGE, "w")
     with subprocess.Popen(words, cwd=clones.path("bob"), stdout=subprocess.PIPE) as first:
-        try:
-            first.stdout.read(1)
-            clones.refused("bob", "verify", "main", status=4, part=f"process {first.pid} ")
-        finally:
-            first.kill()
+        first.stdout.read(1)
+        status, output, errors = run("git", "-C", clones.path("bob"), "gittuf", "verify", "main")
+    want((status, output, b"waiting for it, up to 30 s" in errors), (0, line, True), f"what a call says that waits: {errors}")
     clones.verdict("bob", f"accepted {MAIN} 1 entries")
 
 
@@ -150,7 +166,7 @@ def leaves_what_git_has(repositories):
     log = "refs/gittuf/reference-state-log"
     clones.gittuf("alice", "record", "main")
     before = clones.tip("alice", f"{log}~1")
-    words = (sys.executable, "-B", "-c", MOVED, BRIDGE, repositories.first_guarded.path("alice.key"), before)
+    words = (sys.executable, "-B", "-c", MOVED, BRIDGE, clones.path("alice.key"), before)
     status, output, errors = run(*words, folder=clones.path("alice"))
     want((status, errors, b"was moved meanwhile" in output), (0, b"", True), "the status, the errors, and whether it is told")
     want(clones.tip("alice", log), before, "where the log stands")
@@ -175,20 +191,10 @@ def mends_marks(repositories):
     clones.verdict("bob", f"accepted {MAIN} 1 entries")
 
 
-def on_terminal(script, folder):
-    """What a script prints where its standard error is a terminal."""
-    near, far = pty.openpty()
-    ran = subprocess.run(("sh", "-c", script), cwd=folder, stdin=subprocess.DEVNULL, stdout=subprocess.PIPE, stderr=far)
-    os.close(far)
-    told = os.read(near, 1 << 16) if ran.returncode >= 0 else b""
-    os.close(near)
-    return ran.stdout, told
-
-
 def speaks_to_a_person(repositories):
     """on a terminal a sentence follows a verdict on standard error, and a line says how far long work is"""
     clones = another(repositories, "a person's")
-    output, told = on_terminal("git gittuf verify main", clones.path("bob"))
+    _, output, told = on_terminal("git", "gittuf", "verify", "main", folder=clones.path("bob"))
     want(output, f"accepted {MAIN} 1 entries\n".encode(), "the output on a terminal")
     want(b"was lawful" in told, True, "whether the sentence is there")
     script = (
@@ -198,9 +204,8 @@ def speaks_to_a_person(repositories):
         "it.tell('5 objects copied, of 9')\n"
         "it.end()\n"
     )
-    words = f"'{sys.executable}' -B -c \"{script}\" '{BRIDGE}'; echo >&2"
-    _, told = on_terminal(words, clones.path("bob"))
-    want(told, b"\r\x1b[K5 objects copied, of 9\r\x1b[K\r\n", "what is told of long work")
+    _, _, told = on_terminal(sys.executable, "-B", "-c", script, BRIDGE)
+    want(told, b"\r\x1b[K5 objects copied, of 9\r\x1b[K", "what is told of long work")
 
 
 CHECKS = (

@@ -1,4 +1,4 @@
-"""The checks of tools/check on verdicts, in kept folders with policies that the commands make."""
+"""The checks of tools/test on verdicts, in kept folders with policies that the commands make."""
 
 import json
 import os

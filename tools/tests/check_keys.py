@@ -1,4 +1,4 @@
-"""The checks of tools/check on key files, and on a log that the commands write."""
+"""The checks of tools/test on key files, and on a log that the commands write."""
 
 import fcntl
 import os

@@ -1,15 +1,18 @@
-"""The checks of tools/check on the launcher."""
+"""The checks of tools/test on the launcher."""
 
 import os
-import pty
 import shutil
 import subprocess
 import time
 
-from checking import ACCEPTED, EMPTY_STREAM, LAUNCHER, PROGRAM, TOP, VERIFY, Failure, run, want, want_run
+from checking import ACCEPTED, EMPTY_STREAM, LAUNCHER, PROGRAM, SMALL_PROGRAM, TOP, VERIFY, Failure
+from checking import on_terminal, run, want, want_run
 
-SMALL_PROGRAM = os.path.join(TOP, "crates", "source_check", "out", "source_check")
-LIST, SOURCES = f"{PROGRAM}.files", f"{PROGRAM}.sources"
+# Where a built program and the small one stand in a checkout, and what stands beside a program.
+BUILT, SMALL_BUILT = "crates/gittuf/out/gittuf", "crates/source_check/out/source_check"
+LIST, SOURCES = (os.path.join(os.path.dirname(PROGRAM), f"gittuf.{it}") for it in ("files", "sources"))
+# What the launcher and the build call where nothing is built.
+SYSTEM = ("bash", "sh", "cat", "mkdir", "mktemp", "mv", "rm", "sha256sum", "tar", "gzip", "touch", "readlink", "nproc", "tail")
 # The launcher adds about 2.5 ms on a busy machine. A busier one is allowed more, and the figure is printed.
 MOST_MS = 20
 RUNS = 31
@@ -34,15 +37,17 @@ def works_from_elsewhere(repositories):
 def stand_in(repositories, name, text):
     """A copy of the launcher whose program is a script that counts as built from the sources."""
     top = repositories.path(name)
-    program = os.path.join(top, "crates", "gittuf", "out", "gittuf")
+    program = os.path.join(top, BUILT)
     os.makedirs(os.path.dirname(program))
+    os.makedirs(os.path.join(top, "tools", "build"))
     shutil.copy2(LAUNCHER, top)
+    shutil.copy2(os.path.join(TOP, "tools", "build", "which"), os.path.join(top, "tools", "build"))
     with open(os.path.join(top, "crates.txt"), "w", encoding="utf-8") as file:
         file.write("gittuf:\n")
     with open(program, "w", encoding="utf-8") as file:
         file.write(text)
     os.chmod(program, 0o755)
-    check = os.path.join(top, os.path.relpath(SMALL_PROGRAM, TOP))
+    check = os.path.join(top, SMALL_BUILT)
     os.makedirs(os.path.dirname(check))
     shutil.copy2(SMALL_PROGRAM, check)
     for suffix, line in (("files", "crates.txt"), ("sources", "sum=0")):
@@ -74,27 +79,17 @@ def answers_alone(repositories):
             want(it in output, True, f"that --help speaks of {it.decode()}")
         want(max(map(len, output.splitlines())) <= 120, True, "that the lines of --help are short")
         status, output, errors = run(launcher, "--version")
-        want((status, output[:8], output.count(b"\n"), errors), (0, b"gittuf, ", 1, b""), "what --version answers")
+        want((status, output[:13], output.count(b"\n"), errors), (0, b"gittuf 0.1.0;", 1, b""), "what --version answers")
         want(b"not built" in output, launcher != LAUNCHER, "that --version says whether the program is built")
-
-
-def on_terminal(*words):
-    """The status of the launcher where standard error is a terminal, and what stood there."""
-    near, far = pty.openpty()
-    ran = subprocess.run((LAUNCHER, *words), stdin=subprocess.DEVNULL, stdout=subprocess.PIPE, stderr=far, check=False)
-    os.close(far)
-    told = os.read(near, 1 << 16)
-    os.close(near)
-    return ran.returncode, ran.stdout, told.replace(b"\r\n", b"\n")
 
 
 def names_the_page(repositories):
     """where standard error is a terminal a line names --help after refused words, and after nothing else"""
-    status, output, told = on_terminal()
+    status, output, told = on_terminal(LAUNCHER)
     want((status, output), (2, b""), "the status and output on a terminal")
     first, second = told.split(b"\n", 1)
     want((first, b"--help" in second, second.count(b"\n")), (b"words refused", True, 1), "the lines on a terminal")
-    status, _, told = on_terminal("-", "-", "import")
+    status, _, told = on_terminal(LAUNCHER, "-", "-", "import")
     want((status, told), (3, b"stream 5\n"), "the status and lines of a refused import on a terminal")
 
 
@@ -103,19 +98,23 @@ def copy_of_the_product(repositories, name):
     top = repositories.path(name)
     with open(LIST, encoding="utf-8") as file:
         paths = file.read().splitlines()
-    beside = [os.path.relpath(it, TOP) for it in (PROGRAM, SMALL_PROGRAM, LIST, SOURCES, f"{PROGRAM}.cpu")]
+    copied = {PROGRAM: BUILT, SMALL_PROGRAM: SMALL_BUILT, LIST: f"{BUILT}.files", SOURCES: f"{BUILT}.sources"}
+    tools = [os.path.join("tools", "build", it) for it in os.listdir(os.path.join(TOP, "tools", "build"))]
+    copied |= {os.path.join(TOP, it): it for it in ("gittuf", *tools, *paths)}
     # The program comes first, so that every source is newer.
-    for path in (*beside, "gittuf", "tools/build/build-program", "tools/build/cpu", *paths):
-        os.makedirs(os.path.dirname(os.path.join(top, path)), exist_ok=True)
-        shutil.copy(os.path.join(TOP, path), os.path.join(top, path))
-    # Nothing can be built there.
-    tools = repositories.path(f"{name} tools")
-    os.mkdir(tools)
-    for tool in ("bash", "sh", "cat", "mv", "rm", "sha256sum", "touch", "readlink"):
-        os.symlink(shutil.which(tool), os.path.join(tools, tool))
-    environment = {**os.environ, "PATH": tools}
-    environment.pop("GITTUF_PROVED_SINCE", None)
-    return top, environment
+    for path, to in copied.items():
+        os.makedirs(os.path.dirname(os.path.join(top, to)), exist_ok=True)
+        shutil.copy(path, os.path.join(top, to))
+    return top, bare_environment(repositories, f"{name} tools")
+
+
+def bare_environment(repositories, name, *more):
+    """An environment whose PATH has what a system has, and no toolchain."""
+    folder = repositories.path(name)
+    os.mkdir(folder)
+    for tool in (*SYSTEM, *more):
+        os.symlink(shutil.which(tool), os.path.join(folder, tool))
+    return {**{it: value for it, value in os.environ.items() if not it.startswith("GITTUF_")}, "PATH": folder}
 
 
 def judged_in(top, environment):
@@ -162,8 +161,8 @@ def takes_what_was_proved(repositories):
     with open(os.path.join(environment["PATH"], "rt"), "w", encoding="utf-8") as file:
         file.write("#!/bin/sh\necho a kit\n")
     os.chmod(file.name, 0o755)
-    programs = [os.path.join(top, os.path.relpath(it, TOP)) for it in (PROGRAM, SMALL_PROGRAM)]
-    listed, sources, cpu = (os.path.join(top, os.path.relpath(it, TOP)) for it in (LIST, SOURCES, f"{PROGRAM}.cpu"))
+    programs = [os.path.join(top, it) for it in (BUILT, SMALL_BUILT)]
+    listed, sources, cpu = (os.path.join(top, f"{BUILT}.{it}") for it in ("files", "sources", "cpu"))
 
     def want_taken(is_taken, since=None, **more):
         for path in (listed, sources, cpu):
@@ -196,13 +195,12 @@ def builds_where_a_part_is_missing(repositories):
     """where the program, the small one, the list of the sources or their sum is missing the launcher has it built"""
     launcher = stand_in(repositories, "a copy in parts", "#!/bin/sh\necho ran\n")
     top = os.path.dirname(launcher)
-    os.makedirs(os.path.join(top, "tools", "build"))
     with open(os.path.join(top, "tools", "build", "build-program"), "w", encoding="utf-8") as file:
         file.write("#!/bin/sh\necho built \"$@\"\n")
     os.chmod(file.name, 0o755)
     want_run((launcher, "-"), 0, b"ran\n")
-    for part in (PROGRAM, SMALL_PROGRAM, LIST, SOURCES, os.path.join(TOP, "crates.txt")):
-        path = os.path.join(top, os.path.relpath(part, TOP))
+    for part in (BUILT, SMALL_BUILT, f"{BUILT}.files", f"{BUILT}.sources", "crates.txt"):
+        path = os.path.join(top, part)
         os.rename(path, f"{path}.away")
         want_run((launcher, "-"), 0, b"built -\n")
         os.rename(f"{path}.away", path)

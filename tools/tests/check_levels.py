@@ -1,4 +1,4 @@
-"""The checks of tools/check on keys of two levels, whose signatures are judged here by RFC 8554 alone."""
+"""The checks of tools/test on keys of two levels, whose signatures are judged here by RFC 8554 alone."""
 
 import base64
 import json

@@ -1,4 +1,4 @@
-"""The checks of tools/check on folders that two calls want, that a call was stopped in, or that are hostile."""
+"""The checks of tools/test on folders that two calls want, that a call was stopped in, or that are hostile."""
 
 import os
 import re

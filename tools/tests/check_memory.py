@@ -1,4 +1,4 @@
-"""The check of tools/check on a command that signs where memory is refused: nothing is lost but a leaf."""
+"""The check of tools/test on a command that signs where memory is refused: nothing is lost but a leaf."""
 
 import os
 import shutil

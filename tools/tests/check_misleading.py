@@ -1,4 +1,4 @@
-"""The checks of tools/check that git gittuf leads nobody astray: what is edited and signed, and what is judged."""
+"""The checks of tools/test that git gittuf leads nobody astray: what is edited and signed, and what is judged."""
 
 import base64
 import json
@@ -71,7 +71,7 @@ def bears_on_the_log(repositories):
     clones.git("push", "--quiet", who="alice")
     clones.commit("mallory")
     clones.git("fetch", "--quiet", who="mallory")
-    clones.gittuf("mallory", "record", "main")
+    clones.gittuf("mallory", "record", "main", "--anyway")
     clones.git("push", "--quiet", who="mallory")
     clones.clone("auditor", key=False)
     root = clones.gittuf("alice", "key", "--id").decode().strip()
@@ -83,7 +83,7 @@ def follows_no_vain_policy(repositories):
     clones, forged = with_mallory(repositories, "vain policy")
     before = clones.tip("alice", POLICY)
     clones.git("update-ref", POLICY, forged, who="mallory")
-    clones.gittuf("mallory", "record", POLICY)
+    clones.gittuf("mallory", "record", POLICY, "--anyway")
     clones.git("push", "--quiet", who="mallory")
     clones.git("fetch", "--quiet", who="alice")
     clones.gittuf("alice", "verify", POLICY, status=1)

@@ -1,19 +1,20 @@
-"""The checks of tools/check on the package, the manual pages and the completion."""
+"""The checks of tools/test on the package, the manual pages and the completion."""
 
 import os
 import re
 import shutil
 import subprocess
 import sys
+import tarfile
 
 from checking import TOP, Failure, Skip, run, want
 from guarded_clones import MAIN, SMALL
 
 PACKAGE = os.path.join(TOP, "tools", "package")
-WORDS = ("setup", "key", "policy", "record", "approve", "verify", "skip", "note", "log", "explain", "export", "doctor")
+WORDS = ("setup", "key", "policy", "record", "approve", "verify", "recover", "push", "sync", "skip", "note", "log", "explain", "report", "export", "doctor")
 # What git gittuf and the launcher call, and no toolchain among it.
 NEEDED = ("sh", "cat", "env", "git", "readlink", "sync")
-PAGES = ("gittuf.1", "git-gittuf.1")
+PAGES = ("gittuf-program.1", "git-gittuf.1")
 
 
 def text_of(*path):
@@ -35,8 +36,9 @@ def installed(repositories):
         want(fields, b"Package: gittuf\nArchitecture: amd64\n", "what the package says of itself")
     else:
         os.mkdir(root)
-        want(run("ar", "x", deb, "data.tar.gz", folder=folder)[0], 0, "the status of ar")
-        want(run("tar", "-xzf", "data.tar.gz", "-C", root, folder=folder)[0], 0, "the status of tar")
+        want(run("ar", "x", deb, "data.tar.xz", folder=folder)[0], 0, "the status of ar")
+        with tarfile.open(os.path.join(folder, "data.tar.xz")) as packed:
+            packed.extractall(root)
     unpacked = os.path.join(folder, "unpacked")
     os.mkdir(unpacked)
     want(run("tar", "-xzf", archive, "-C", unpacked)[0], 0, "the status of tar")
@@ -77,7 +79,7 @@ def runs_where_it_is_installed(repositories):
             raise Failure(f"--version says {version!r}")
         answer("git", "gittuf", "setup")
         answer("git", "gittuf", "key", *SMALL)
-        answer("git", "gittuf", "record", "main")
+        answer("git", "gittuf", "record", "main", "--anyway")
         found = answer("git", "gittuf", "verify", "main", status=1)
         want(found, f"violation {MAIN} 1 no-policy\n", "the verdict")
         answer("git", "fsck", "--strict")
@@ -100,6 +102,8 @@ def has_pages(repositories):
             raise Skip("neither mandoc nor groff is here")
         found = run(*words)
         want(found, (0, b"", b""), f"what {words[0]} says of {it}")
+    # Git takes gittuf, which begins with its own name, for the page's name.
+    want(text_of("man", "gittuf.1"), ".so man1/git-gittuf.1\n", "what git help gittuf shows")
     page, use = text_of("man", "git-gittuf.1"), text_of("tools", "bridge", "git_gittuf", "words.py")
     for it in WORDS:
         want(bool(re.search(rf"\.(It )?Cm .*\b{it}\b", page)), True, f"whether the page has the word {it}")
@@ -108,7 +112,7 @@ def has_pages(repositories):
     commands = re.findall(r"^  ([a-z-]+) ", listed, re.MULTILINE)
     want(len(set(commands)), 13, "how many commands --help lists")
     for it in commands:
-        want(bool(re.search(rf"^\.It Cm {it}\b", text_of("man", "gittuf.1"), re.MULTILINE)), True, f"whether the page has {it}")
+        want(bool(re.search(rf"^\.It Cm {it}\b", text_of("man", "gittuf-program.1"), re.MULTILINE)), True, f"whether the page has {it}")
     return "by mandoc" if shutil.which("mandoc") else "by groff"
 
 

@@ -1,4 +1,4 @@
-"""The checks of tools/check on what others put beside the log: commits that are none, keys that were put back, odd names."""
+"""The checks of tools/test on what others put beside the log: commits that are none, keys that were put back, odd names."""
 
 import base64
 import os

@@ -1,4 +1,4 @@
-"""The Git repositories that tools/check works on."""
+"""The Git repositories that tools/test works on."""
 
 import os
 import random

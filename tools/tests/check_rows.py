@@ -1,4 +1,4 @@
-"""The check of tools/check on the rows that crates/tests_rows runs."""
+"""The check of tools/test on the rows that crates/tests_rows runs."""
 
 import os
 

@@ -1,4 +1,4 @@
-"""The checks of tools/check on snapshots and on sealed envelopes."""
+"""The checks of tools/test on snapshots and on sealed envelopes."""
 
 import base64
 import hashlib

@@ -1,4 +1,4 @@
-"""The check of tools/check that docs/TUTORIAL.md says what happens: each of its lines is run, on a terminal.
+"""The check of tools/test that docs/TUTORIAL.md says what happens: each of its lines is run, on a terminal.
 
 Called by itself with --write it writes what happened into the page.
 """

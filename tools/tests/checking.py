@@ -1,4 +1,4 @@
-"""What the checks of tools/check share: running programs, and holding what they do to what is wanted."""
+"""What the checks of tools/test share: running programs, and holding what they do to what is wanted."""
 
 import os
 import pty
@@ -13,7 +13,7 @@ BRIDGE = os.path.join(TOP, "tools", "bridge")
 # Some checks ask modules of git gittuf itself.
 sys.path.insert(1, BRIDGE)
 LAUNCHER = os.path.join(TOP, "gittuf")
-PROGRAM = os.path.join(TOP, "crates", "gittuf", "out", "gittuf")
+BUILD_PROGRAM = os.path.join(TOP, "tools", "build", "build-program")
 GIT_TO_STREAM = os.path.join(TOP, "tools", "git-to-stream")
 STREAM_TO_GIT = os.path.join(TOP, "tools", "stream-to-git")
 EMPTY_STREAM = os.path.join(TOP, "examples", "empty.stream")
@@ -27,6 +27,17 @@ QUESTION = b"[y/N] "
 SECONDS = 120
 # A script has many lines.
 SCRIPT_SECONDS = 600
+
+
+def programs():
+    """The program that the launcher runs, and the small one that it asks: those that are built here, or the released ones."""
+    told = subprocess.run((BUILD_PROGRAM, "--programs"), stdin=subprocess.DEVNULL, capture_output=True, check=True).stdout.decode()
+    found = dict(line.split(" ", 1) for line in told.splitlines())
+    built = (os.path.join(TOP, "crates", it, "out", it) for it in ("gittuf", "source_check"))
+    return [found.get(word, path) for word, path in zip(("program", "small"), built)]
+
+
+PROGRAM, SMALL_PROGRAM = programs()
 
 
 class Failure(Exception):
@@ -66,6 +77,20 @@ def at_terminal(script, folder, answer="y"):
         ran.wait()
         raise Failure(f"a script did not end in {SCRIPT_SECONDS} seconds, after {short(told[-400:])}")
     return ran.wait(), told.decode().replace("\r\n", "\n")
+
+
+def on_terminal(*words, folder=None):
+    """Runs a program of which standard error alone is a terminal.
+
+    Returns its status, its output, and all that stands on the terminal once nobody can write there any more.
+    """
+    near, far = pty.openpty()
+    ran = subprocess.run(words, cwd=folder, stdin=subprocess.DEVNULL, stdout=subprocess.PIPE, stderr=far, check=False)
+    os.close(far)
+    end = time.monotonic() + SCRIPT_SECONDS
+    told = b"".join(iter(lambda: read_until(near, end), b""))
+    os.close(near)
+    return ran.returncode, ran.stdout, told.replace(b"\r\n", b"\n")
 
 
 def read_until(terminal, end):

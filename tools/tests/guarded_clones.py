@@ -1,4 +1,4 @@
-"""Clones of one server that tools/check guards by git gittuf: two maintainers, and whoever else comes."""
+"""Clones of one server that tools/test guards by git gittuf: two maintainers, and whoever else comes."""
 
 import os
 import shutil
@@ -8,8 +8,9 @@ from checking import GIT_TO_STREAM, LAUNCHER, TOP, Failure, run, want
 
 TOOL = os.path.join(TOP, "tools", "git-gittuf")
 MAIN = "refs/heads/main"
-# A key that is made at once, and signs more than all checks together want.
-SMALL = ("--height", "10", "--width", "1")
+# A key that is made at once and signs at once, and how often it signs: no check but one wants more.
+SMALL, SIGNATURES = ("--height", "5", "--width", "1"), 32
+LARGER = ("--height", "10", "--width", "1")
 
 
 class Clones:
@@ -88,6 +89,11 @@ class Clones:
     def public(self, who):
         return self.gittuf(who, "key", "--public").decode().strip()
 
+    def used(self, who):
+        """How many leaves of a key are used."""
+        with open(self.path(f"{who}.key"), "rb") as file:
+            return file.read()[64:].count(b"\1")
+
     def shown_id(self, who):
         """The id of what is edited, as policy show prints it."""
         return self.gittuf(who, "policy", "show").decode().splitlines()[-1].removeprefix("id ")
@@ -127,13 +133,13 @@ class Clones:
             want((found[0], found[1]), (0, b""), f"what git fsck says of {who}")
 
 
-def guarded(repositories, name):
-    """A server and the clones of alice and bob, of whom either may change main, with one recorded commit."""
+def guarded(repositories, name, size=SMALL):
+    """A server and the clones of alice, with a key of this size, and bob, of whom either may change main, with one recorded commit."""
     clones = Clones(repositories, name)
     clones.git("init", "--quiet", "-b", "main", "--object-format=sha256", "alice", who="")
     clones.git("remote", "add", "origin", "../server.git", who="alice")
     clones.gittuf("alice", "setup")
-    clones.gittuf("alice", "key", "--file", clones.path("alice.key"), *SMALL)
+    clones.gittuf("alice", "key", "--file", clones.path("alice.key"), *size)
     clones.commit("alice")
     clones.git("push", "--quiet", "--set-upstream", "origin", "main", who="alice")
     clones.clone("bob")
@@ -145,15 +151,24 @@ def guarded(repositories, name):
     clones.gittuf("alice", "record", "main")
     clones.git("push", "--quiet", who="alice")
     clones.git("pull", "--quiet", who="bob")
+    # Whose the first policy is that is seen is told once.
+    clones.git("config", "gittuf.firstRoot", clones.gittuf("alice", "key", "--id").decode().strip(), who="alice")
+    clones.git("config", "gittuf.firstRoot", clones.gittuf("alice", "key", "--id").decode().strip(), who="bob")
     return clones
 
 
+def first(repositories):
+    """The clones that all others are copies of, which are made at the first call."""
+    if getattr(repositories, "first_guarded", None) is None:
+        repositories.first_guarded = guarded(repositories, "guarded")
+    return repositories.first_guarded
+
+
 def another(repositories, name):
-    """Such clones once more. They are made at the first call, and copied then; the keys stay where they were made."""
-    first = getattr(repositories, "first_guarded", None)
-    if first is None:
-        first = repositories.first_guarded = guarded(repositories, "guarded")
+    """Such clones once more, which are copies, keys and all: what one of them signs no other ever sees."""
     copy = Clones.__new__(Clones)
     copy.repositories, copy.folder = repositories, repositories.path(name)
-    shutil.copytree(first.folder, copy.folder, symlinks=True)
+    shutil.copytree(first(repositories).folder, copy.folder, symlinks=True)
+    for who in ("alice", "bob"):
+        copy.git("config", "gittuf.key", copy.path(f"{who}.key"), who=who)
     return copy

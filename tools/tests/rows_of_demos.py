@@ -95,13 +95,14 @@ def numbers_of_changes_refused():
 
 
 def nothing_made_beside_an_object():
-    """The store holds one blob and no reference."""
+    """The store holds one blob and no reference, and as many changes as may be are asked for too."""
     history = History()
     history.repository.blob(b"")
     return (
         history,
         done("import", "imported"),
         refused("demo 200", 3, "not empty"),
+        refused("demo 500", 3, "not empty"),
         Run("export", (0, history.repository.stream(), "")),
     )
 

@@ -6,7 +6,7 @@ from rows_histories import top_file
 from rows_objects import ZEROS
 from rows_policies import approval, rule, rule_file
 from rows_runs import Run
-from rows_signing import TwoLevels
+from rows_signing import OneLeaf, TwoLevels
 
 
 def no_policy():
@@ -43,6 +43,16 @@ def approved_by_a_key_of_two_levels():
     history.approve(target, two_levels)
     history.record(MAIN, target, MAINTAINER)
     return history, asked(0, "accepted refs/heads/main 1 entries")
+
+
+def signed_by_keys_of_each_type():
+    """Keys of 5 to 25 levels, of each width, sign an entry each, by the last leaf, the first or one between."""
+    types = ((5, 1, 31), (10, 2, 0), (15, 4, 2**15 - 1), (20, 8, 54321), (25, 4, 2**25 - 1))
+    keys = [OneLeaf(*it) for it in types]
+    history = guarded(top_file(keys, [main_rule(*keys)]))
+    for key in keys:
+        history.record(MAIN, history.commit(BEFORE), key)
+    return history, asked(0, f"accepted refs/heads/main {len(keys)} entries")
 
 
 def approved_by_the_same_key_twice():
@@ -241,6 +251,7 @@ ROWS = (
     approved_by_another_key,
     approved_without_key_id,
     approved_by_a_key_of_two_levels,
+    signed_by_keys_of_each_type,
     approved_by_the_same_key_twice,
     approved_for_another_tree,
     approval_says_another_tree,

@@ -8,8 +8,8 @@ from rows_runs import Anew, Held, Run, done, given, refused
 from rows_signing import LEAVES
 
 NOWHERE = "e" * 64
-# Rules stand in a chain so long at most, and a policy file has so many bytes.
-DEEPEST, LARGEST = 8, 1_048_576
+# Rules stand in a chain so long at most, a policy file has so many bytes, and a file so many rules.
+DEEPEST, LARGEST, MOST_RULES = 8, 1_048_576, 1_024
 
 
 def verdicts(rows):
@@ -93,16 +93,31 @@ def forms_of_a_policy_file():
     return verdicts(rows)
 
 
-def chain(length):
-    """Rule files in one another, each with one rule, of which the top file has the first: so many rules."""
+def chain(length, rules=None, **more):
+    """Rule files in one another, each with one rule, of which the top file has the first: so many rules; or these rules in
+    the top file, of the person `p`, and more files."""
     names = [f"r{number}" for number in range(1, length + 1)]
-    files = {name: owners(below(name, [rule(later, "git:*", [OWNER])])) for name, later in zip(names, names[1:])}
-    return lambda it: sealed(it, root=owners(base_root()), targets=owners(top("r1")), **files)
+    files = {name: owners(below(name, [rule(later, "git:*", [OWNER])])) for name, later in zip(names, names[1:])} | more
+    first = top_file([OWNER], rules, people={"p": [OWNER]}) if rules else top("r1")
+    return lambda it: sealed(it, root=owners(base_root()), targets=owners(first), **files)
 
 
 def numbers_of_rules():
     """A chain of eight rules and of nine."""
     return verdicts(((chain(DEEPEST), None), (chain(DEEPEST + 1), f"too-deep r{DEEPEST + 1}")))
+
+
+def faults_of_rules_in_order():
+    """Of what keeps rules from being a policy's the first is told: a name of two rules before a file that hangs on no rule,
+    this before a chain of nine rules, and this before too many rules."""
+    first, *more = [rule(name, "git:*", ["p"]) for name in ("r1", *(f"m{number}" for number in range(1, MOST_RULES)))]
+    off = {"off": owners(below("off"))}
+    rows = (
+        (chain(DEEPEST + 1, [first, more[0], more[0]], **off), "duplicate-name m1"),
+        (chain(DEEPEST + 1, [first], **off), "unreachable off"),
+        (chain(DEEPEST + 1, [first, *more]), f"too-deep r{DEEPEST + 1}"),
+    )
+    return verdicts(rows)
 
 
 def policy_gone():
@@ -138,4 +153,11 @@ def root_that_does_not_succeed():
     )
 
 
-ROWS = (files_of_a_policy, forms_of_a_policy_file, numbers_of_rules, policy_gone, root_that_does_not_succeed)
+ROWS = (
+    files_of_a_policy,
+    forms_of_a_policy_file,
+    numbers_of_rules,
+    faults_of_rules_in_order,
+    policy_gone,
+    root_that_does_not_succeed,
+)

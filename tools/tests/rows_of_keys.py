@@ -67,6 +67,9 @@ def keys_made():
         runs.append(Held(key_file(height, width)))
     for words in ("4 8", "6 8", "20 8", "25 8", "5 0", "5 3", "5 16", "05 8"):
         runs.append(refused(f"key-gen {words}", 2, "words refused", over=[random(DRAWN)]))
+    # What is too dear to be made here is asked for where the key file holds something.
+    for words in ("10 2", "10 4", "10 8", "15 1", "15 2", "15 4", "15 8"):
+        runs.append(refused(f"key-gen {words}", 3, "not empty", key=b"x", over=[random(DRAWN)]))
     return History(), *runs
 
 
@@ -81,7 +84,8 @@ def two_level_file(height, width, bottom):
 
 
 def keys_of_two_levels_made():
-    """The key on top is that of one level, and the heights of both add up to 15 at most."""
+    """The key on top is that of one level, and the heights of both add up to 15 at most. What may be made and is dear is
+    asked for where the key file holds something."""
     runs = []
     for width in (8, 1):
         over = [random(DRAWN), room("disk", 72 + 2**10)]
@@ -91,6 +95,8 @@ def keys_of_two_levels_made():
     runs += [Anew(), refused("key-gen 5 8 --bottom 5", 4, "fault", over=over)]
     for words in ("5 8 --bottom 4", "5 8 --bottom 15", "10 8 --bottom 10", "15 8 --bottom 5", "5 8 --bottom"):
         runs.append(refused(f"key-gen {words}", 2, "words refused", over=[random(DRAWN)]))
+    for words in ("5 8 --bottom 10", "10 1 --bottom 5"):
+        runs.append(refused(f"key-gen {words}", 3, "not empty", key=b"x", over=[random(DRAWN)]))
     return History(), *runs
 
 
@@ -139,6 +145,12 @@ def no_files_of_two_levels():
     for at, byte in ((7, b"3"), (11, b"\7"), (15, b"\0"), (67, b"\x08"), (67, b"\6"), (71, b"\0"), (71, b"\5")):
         none.append(file[:at] + byte + file[at + 1 :])
     return History(), *(refused("seal", 3, "key file", source=b"{}", key=key) for key in none)
+
+
+def file_of_15_levels():
+    """A file of two levels whose heights add up to 15 is a key file, and here each of its leaves is used."""
+    used = two_level_file(5, 1, 10)[: -(2**15)] + b"\1" * 2**15
+    return History(), refused("seal", 6, "exhausted", source=b"{}", key=used)
 
 
 def with_first_used(key):
@@ -248,6 +260,7 @@ ROWS = (
     no_key_made,
     marks_that_a_stop_left,
     no_files_of_two_levels,
+    file_of_15_levels,
     recorded_by_a_disk_that_fails,
     recorded_by_a_store_that_fails,
     not_recorded,

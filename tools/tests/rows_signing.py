@@ -73,6 +73,58 @@ class Key:
         return b"LMSKEY01" + LMS_TYPE + OTS_TYPE + self.identifier + self.seed + marks
 
 
+class OneLeaf:
+    """A key of any height and width with one leaf: what stands beside the way from it to the root is drawn, and the root is
+    worked out from that, so that no tree is made."""
+
+    kind = "lms"
+    types = {5: 5, 10: 6, 15: 7, 20: 8, 25: 9}
+    # The code of the one-time keys of a width, and by how many bits their checksum is moved to the left.
+    one_time_types = {1: (1, 7), 2: (2, 6), 4: (3, 4), 8: (4, 0)}
+
+    def __init__(self, height, width, leaf):
+        drawn = b"one leaf of %d levels" % height
+        self.identifier, self.seed, self.width, self.leaf = sha256(b"identifier", drawn)[:16], sha256(b"seed", drawn), width, leaf
+        self.path = [sha256(drawn, long(level)) for level in range(height)]
+        code, self.moved = self.one_time_types[width]
+        self.lms_type, self.ots_type = long(self.types[height]), long(code)
+        last = 2**width - 1
+        ends = [self.walked(chain, last) for chain in range(len(self.digits(bytes(32))))]
+        node, front = 2**height + leaf, self.identifier
+        value = sha256(front, long(node), short(LEAF), sha256(front, long(leaf), short(PUBLIC), *ends))
+        for beside in self.path:
+            pair = (beside, value) if node % 2 else (value, beside)
+            node //= 2
+            value = sha256(front, long(node), short(INNER), *pair)
+        self.public = self.lms_type + self.ots_type + front + value
+        self.id = sha256(self.public).hex()
+
+    def digits(self, digest):
+        """The digest and its checksum in digits of the width."""
+
+        def cut(body):
+            return [byte >> at & 2**self.width - 1 for byte in body for at in range(8 - self.width, -1, -self.width)]
+
+        first = cut(digest)
+        checksum = sum(2**self.width - 1 - digit for digit in first) << self.moved
+        # As many digits of the checksum count as are not moved in from the right.
+        return first + cut(short(checksum))[: (16 - self.moved) // self.width]
+
+    def walked(self, chain, steps):
+        front = self.identifier + long(self.leaf) + short(chain)
+        value = sha256(front, b"\xff", self.seed)
+        for step in range(steps):
+            value = hashlib.sha256(front + bytes((step,)) + value).digest()
+        return value
+
+    def sign(self, _leaf, message):
+        """The signature by the one leaf."""
+        randomizer = sha256(self.seed, message)
+        digest = sha256(self.identifier, long(self.leaf), short(MESSAGE), randomizer, message)
+        values = [self.walked(chain, digit) for chain, digit in enumerate(self.digits(digest))]
+        return b"".join((long(self.leaf), self.ots_type, randomizer, *values, self.lms_type, *self.path))
+
+
 class TwoLevels:
     """A key of two levels (HSS): the first leaf of one key signs another key, whose leaves sign messages."""
 

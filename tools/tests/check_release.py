@@ -1,0 +1,330 @@
+"""The checks of tools/test on the release: that it runs at once, and never where another program is to run."""
+
+import hashlib
+import io
+import os
+import re
+import shutil
+import stat
+import subprocess
+import sys
+import tarfile
+import time
+
+from check_launcher import BUILT, SMALL_BUILT, bare_environment
+from checking import TOP, VERIFY, Failure, Skip, want
+from made_releases import ARCHIVE, KIT, RELEASED, Checkout, packages, programs_here, releases, stand_ins
+from rows_histories import BEFORE, MAIN, MAINTAINER, guarded
+from rows_runs import Anew, Run
+from stream_format import Refused
+
+PLAIN, NEWER = packages.PLAIN, packages.NEWER
+OCTETS = "crates/octets/src/lib.rt"
+ACCEPTED = b"accepted refs/heads/main 4 entries\n"
+NOBODY = 65534
+# What the first start may take. A machine with much other work is allowed more, and the figure is printed.
+MOST_MS = 1000
+# A stand-in for the toolchain, which notes how it was called. What it builds prints for which processor it was built.
+TOOLCHAIN = """#!/bin/sh
+[ "$1" = version ] && echo a kit && exit
+echo "${PWD##*/} $*" >> "$NOTES"
+[ -z "${REFUSES-}" ] || exit 1
+case $1 in
+    all) printf '== %s\\n' octets text_reader gittuf summary ;;
+    run)
+        mkdir -p out
+        printf '#!/bin/sh\\n[ "$1" = "%s" ] || echo built by "%s"\\n' "${PWD%/crates/*}" "$2" > "out/${PWD##*/}"
+        chmod +x "out/${PWD##*/}"
+        ;;
+esac
+"""
+
+
+def own_processor(environment):
+    return subprocess.run((os.path.join(TOP, "tools/build/cpu"),), capture_output=True, env=environment).stdout.decode().strip()
+
+
+def with_toolchain(repositories, name):
+    """A bare environment with the stand-in, and what reads its notes and begins them anew."""
+    environment = bare_environment(repositories, name, "flock", "chmod")
+    notes, tool = repositories.path(f"{name} notes"), os.path.join(environment["PATH"], "rt")
+    with open(tool, "w", encoding="utf-8") as file:
+        file.write(TOOLCHAIN)
+    os.chmod(tool, 0o755)
+
+    def noted():
+        found = []
+        if os.path.exists(notes):
+            with open(notes, encoding="utf-8") as file:
+                found = file.read().splitlines()
+            os.remove(notes)
+        return found
+
+    return {**environment, "NOTES": notes}, noted
+
+
+def runs_without_a_toolchain(repositories):
+    """a fresh checkout with a release prints the example's verdict and passes tests, with git and Python alone"""
+    repositories.needed()
+    checkout = Checkout(repositories, "a fresh checkout", programs_here())
+    environment = bare_environment(repositories, "git and python", "git", "env", "sync", "sed")
+    os.symlink(os.path.realpath(sys.executable), os.path.join(environment["PATH"], "python3"))
+    with open(checkout.path("examples/guarded.stream"), "rb") as file:
+        stream = file.read()
+    began = time.perf_counter()
+    want(checkout.call(*VERIFY, environment=environment, input=stream), (0, ACCEPTED, b""), "the first verdict")
+    taken = 1000 * (time.perf_counter() - began)
+    want(taken <= MOST_MS, True, f"that {taken:.0f} ms are at most {MOST_MS}")
+    ran = subprocess.run((checkout.path("tools/test"), "levels"), capture_output=True, env=environment, timeout=300)
+    closing = re.search(rb"^\d+ passed, 0 failed(, \d+ skipped)?\n\Z", ran.stdout, re.MULTILINE)
+    want((ran.returncode, bool(closing)), (0, True), f"what tools/test answers, {ran.stdout[-300:]!r}")
+    return f"the first verdict after {taken:.0f} ms"
+
+
+def runs_the_one_for_the_processor(repositories):
+    """the released program for the processor runs, or the one that GITTUF_CPU names, and the second start unpacks nothing"""
+    checkout, environment = Checkout(repositories, "by processor", stand_ins()), bare_environment(repositories, "by processor tools")
+    named = {None: own_processor(environment), PLAIN: PLAIN, NEWER: NEWER}
+    for cpu, taken in named.items():
+        words = {**environment, **({"GITTUF_CPU": cpu} if cpu else {})}
+        for _ in range(2):
+            want(checkout.call("hello", environment=words), (0, f"gittuf-{taken} hello\n".encode(), b""), f"the program for {cpu}")
+        checkout.forget()
+    want(checkout.call("hello", environment=environment)[0], 0, "the status of the first start")
+    # In a package each start chooses too.
+    place = repositories.path("by processor package")
+    with tarfile.open(checkout.path("release", ARCHIVE)) as packed:
+        packed.extractall(place)
+    program = os.path.join(place, ARCHIVE.removesuffix(".tar.gz"), "bin", "gittuf")
+    for cpu, taken in named.items():
+        words = {**environment, **({"GITTUF_CPU": cpu} if cpu else {})}
+        ran = subprocess.run((program, "hello"), capture_output=True, env=words)
+        want((ran.stdout, ran.stderr), (f"gittuf-{taken} hello\n".encode(), b""), f"the packaged program for {cpu}")
+    told = subprocess.run((program, "--version"), capture_output=True, env=environment).stdout.decode()
+    want(told.startswith(f"gittuf {packages.version()}; commit ") and told.endswith(f"built for {PLAIN} and {NEWER} by {KIT}\n"), True, told)
+    # What unpacks is gone.
+    os.rename(checkout.path("release"), checkout.path("away"))
+    os.rename(checkout.path("tools/build/build-program"), checkout.path("away.build"))
+    for cpu, taken in named.items():
+        words = {**environment, **({"GITTUF_CPU": cpu} if cpu else {})}
+        want(checkout.call("again", environment=words), (0, f"gittuf-{taken} again\n".encode(), b""), f"the program for {cpu}")
+
+
+def unpacks_at_once(repositories):
+    """many first starts at once run the released program each"""
+    checkout, environment = Checkout(repositories, "at once", stand_ins()), bare_environment(repositories, "at once tools")
+    words, how = (checkout.path("gittuf"), "hello"), {"stdout": subprocess.PIPE, "stderr": subprocess.PIPE, "env": environment}
+    started = [subprocess.Popen(words, **how) for _ in range(8)]
+    wanted = f"gittuf-{own_processor(environment)} hello\n".encode()
+    for it in started:
+        want((*it.communicate(timeout=60), it.returncode), (wanted, b"", 0), "what one of them prints")
+    want(sorted(os.listdir(checkout.path("crates/gittuf/out"))), ["released"], "what is left")
+
+
+def refuses_a_damaged_one(repositories):
+    """a release that is damaged by one byte, or lacks a file, is refused by name, and built where GITTUF_BUILD asks"""
+    checkout, environment = Checkout(repositories, "damaged", stand_ins()), bare_environment(repositories, "damaged tools")
+    body = checkout.files[ARCHIVE]
+    for at in (0, 5, len(body) // 3, len(body) // 2, len(body) - 1):
+        checkout.change(f"release/{ARCHIVE}", body[:at] + bytes((body[at] ^ 1,)) + body[at + 1 :])
+        checkout.want_refused(ARCHIVE, environment)
+    checkout.change(f"release/{ARCHIVE}", body[:-1])
+    checkout.want_refused(ARCHIVE, environment)
+    os.remove(checkout.path("release", ARCHIVE))
+    checkout.want_refused(ARCHIVE, environment)
+    checkout.change(f"release/{ARCHIVE}", body)
+    says = checkout.files["RELEASE"]
+    checkout.change("release/RELEASE", says.replace(b"kit a", b"kit b"))
+    checkout.want_refused("RELEASE", environment)
+    # Where a program is another than RELEASE tells, the sums of the files do not help.
+    other = says.replace(releases.sum_of(stand_ins()[f"gittuf-{PLAIN}"]).encode(), b"0" * 64)
+    checkout.change("release/RELEASE", other)
+    sums = checkout.files["SHA256SUMS"].replace(releases.sum_of(says).encode(), releases.sum_of(other).encode())
+    checkout.change("release/SHA256SUMS", sums)
+    checkout.want_refused(ARCHIVE, environment)
+    status, _, errors = checkout.call("-", environment={**environment, "GITTUF_BUILD": "1"})
+    want((status, b"GITTUF_BUILD asks for it" in errors), (4, True), "what GITTUF_BUILD=1 does beside a damaged release")
+
+
+def builds_what_is_of_other_sources(repositories):
+    """where a source changed, or GITTUF_BUILD asks, the program is built, and the first line says why and for how long"""
+    checkout = Checkout(repositories, "other sources", stand_ins())
+    environment, noted = with_toolchain(repositories, "other sources tools")
+    text = {}
+    for path in (OCTETS, "HANDLES", "crates.txt"):
+        with open(checkout.path(path), "rb") as file:
+            text[path] = file.read()
+    changed = {OCTETS: text[OCTETS] + b"\n", "HANDLES": b"Handles allowed: none.\n", "crates.txt": text["crates.txt"].replace(b"octets:", b"octets: hex", 1)}
+    commit = packages.asked("rev-parse", "HEAD")[:12]
+    others = f"the sources are others than those of commit {commit}, whose program release/ has".encode()
+
+    def want_built(why, *lines, **more):
+        status, output, errors = checkout.call("hello", environment={**environment, "REFUSES": "1", **more})
+        first = errors.split(b"\n")[0]
+        want((status, output, noted()), (4, b"", ["source_check check"]), "what the launcher does")
+        want((why in first, b" min where nothing is proved yet" in first), (True, True), f"what {first!r} says")
+
+    for path, body in changed.items():
+        for unpacked in (False, True):
+            checkout.forget()
+            if unpacked:
+                want(checkout.call("hello", environment=environment)[::2], (0, b""), "the start before the change")
+            checkout.change(path, body)
+            want_built(others)
+            checkout.change(path, text[path])
+            want(checkout.call("hello", environment=environment)[::2], (0, b""), "the start after it was taken back")
+    want_built(b"GITTUF_BUILD asks for it", GITTUF_BUILD="1")
+    want_built(b"release/ has none for x86-64-v4", GITTUF_CPU="x86-64-v4")
+    # A document, a proof and a crate that the program does not stand on are no sources of it.
+    for path in ("README.md", "crates/bench/src/main.rt", "crates/octets/specs/Lib.antt"):
+        with open(checkout.path(path), "ab") as file:
+            file.write(b"\n")
+    with open(checkout.path("crates.txt"), "ab") as file:
+        file.write(b"\n# nothing\nanother_crate: octets\n")
+    want(checkout.call("hello", environment=environment)[::2], (0, b""), "the start where no source changed")
+    shutil.rmtree(checkout.path("release"))
+    checkout.forget()
+    want_built(b"there is no release/")
+
+
+def keeps_what_is_built(repositories):
+    """nothing is unpacked over a built program, one that is of the sources runs, and for another processor it is compiled alone"""
+    checkout = Checkout(repositories, "built", stand_ins())
+    environment, noted = with_toolchain(repositories, "built tools")
+    status, output, errors = checkout.call("hello", environment={**environment, "GITTUF_BUILD": "1", "GITTUF_CPU": NEWER})
+    want((status, output), (0, f"built by --cpu={NEWER}\n".encode()), f"what a built program prints, beside {errors!r}")
+    lines = [it for it in errors.decode().splitlines() if " crates: " in it]
+    want(len(lines), 3, f"how many lines say how far the build is in {errors!r}")
+    for number, line in enumerate(lines, 1):
+        want((f"gittuf: {number} of 4" in line, line.endswith(" min left")), (True, True), f"what {line!r} says")
+    builds = [f"{it} run --cpu={NEWER}" for it in ("source_check", "gittuf")]
+    called = noted()
+    want((called[0], called[1].split(" --jobs")[0], called[2:]), ("source_check check", "gittuf all check", builds), "what was called")
+    built = checkout.path(BUILT)
+    with open(built, "rb") as file:
+        body = file.read()
+    want(checkout.call("hello", environment=environment), (0, output, b""), "what runs then")
+    # A processor that the release has is taken from there, and the built program stays.
+    want(checkout.call("hello", environment={**environment, "GITTUF_CPU": PLAIN})[:2], (0, f"gittuf-{PLAIN} hello\n".encode()), "the plain one")
+    more = {"GITTUF_BUILD": "1", "GITTUF_CPU": PLAIN}
+    with open(built, "rb") as file:
+        want((file.read(), noted()), (body, []), "the built program, and what was called")
+    status, output, errors = checkout.call("hello", environment={**environment, **more})
+    want((status, output), (0, f"built by --cpu={PLAIN}\n".encode()), "what is built for another processor")
+    want(noted(), [it.replace(NEWER, PLAIN) for it in builds], "what was called for it")
+    # An older program stays where it is, and the released one runs.
+    with open(f"{built}.sources", "w", encoding="utf-8") as file:
+        file.write("sum=0\n")
+    with open(checkout.path(SMALL_BUILT), "w", encoding="utf-8") as file:
+        file.write("#!/bin/sh\nexit 1\n")
+    own = f"gittuf-{own_processor(environment)} hello\n".encode()
+    want(checkout.call("hello", environment=environment), (0, own, b""), "what runs beside an older program")
+    want((os.path.exists(built), os.path.exists(checkout.path(SMALL_BUILT)), noted()), (True, True, []), "what is left of it")
+
+
+def runs_where_nothing_can_be_written(repositories):
+    """in a checkout that cannot be written the release runs from the user's cache or a temporary place, and says nothing"""
+    checkout, environment = Checkout(repositories, "read only", stand_ins()), bare_environment(repositories, "read only tools")
+    own = f"gittuf-{own_processor(environment)} hello\n".encode()
+    places = {it: repositories.path(f"read only {it}") for it in ("cache", "temporary")}
+    how = {}
+    for path in places.values():
+        os.mkdir(path)
+    if os.geteuid() == 0:
+        how = {"user": NOBODY, "group": NOBODY, "extra_groups": []}
+        # The folder of the checks is passed through alone.
+        os.chmod(repositories.folder, 0o711)
+        for path in places.values():
+            os.chown(path, NOBODY, NOBODY)
+    else:
+        for at, folders, _ in os.walk(checkout.top):
+            os.chmod(at, 0o555)
+    try:
+        with_cache = {**environment, "XDG_CACHE_HOME": places["cache"], "TMPDIR": places["temporary"]}
+        for _ in range(2):
+            want(checkout.call("hello", environment=with_cache, **how), (0, own, b""), "what runs from the cache")
+            want(os.listdir(places["temporary"]), [], "what is left in the temporary place")
+        want(os.path.exists(os.path.join(places["cache"], "gittuf", checkout.top[1:], f"gittuf-{PLAIN}")), True, "that it stands in the cache")
+        nowhere = {**with_cache, "XDG_CACHE_HOME": "/proc/nowhere"}
+        want(checkout.call("hello", environment=nowhere, **how), (0, own, b""), "what runs from a temporary place")
+        want(os.listdir(places["temporary"]), [], "what is left in the temporary place")
+        want(os.path.exists(checkout.path(RELEASED)), False, "that nothing is unpacked into the checkout")
+    finally:
+        for at, folders, _ in os.walk(checkout.top):
+            os.chmod(at, stat.S_IRWXU)
+
+
+def compares_programs(repositories):
+    """a program that is another byte for byte is found, and so is one that prints otherwise on a row"""
+    programs = stand_ins()
+    releases.hold_bytes(programs, dict(programs))
+    one = programs[f"gittuf-{NEWER}"]
+    want_refused(f"gittuf-{NEWER}", releases.hold_bytes, programs, {**programs, f"gittuf-{NEWER}": one[:-1]})
+    history = guarded()
+    history.record(MAIN, history.commit(BEFORE), MAINTAINER)
+    runs = (Run(f"verify-ref {MAIN} --stdin"), Run("log"), Run("record refs/heads/main"), Run("export"), Anew(), Run("explain git:x --stdin"))
+    rows = [("a_row", history, *runs), ("another", guarded(), Run("log --never"))]
+    path, here = repositories.path("the program here"), programs_here()[f"gittuf-{PLAIN}"]
+    with open(path, "wb") as file:
+        file.write(here)
+    os.chmod(path, 0o755)
+    want(releases.hold_rows(path, here, rows), 4, "how many runs are compared")
+    other = f'#!/bin/sh\n[ "$3" != explain ] || exit 7\nexec "{path}" "$@"\n'.encode()
+    want_refused("a_row", releases.hold_rows, path, other, rows)
+
+
+def want_refused(part, call, *words):
+    try:
+        call(*words)
+    except Refused as why:
+        want(part in str(why), True, f"that {str(why)!r} names {part}")
+        return
+    raise Failure(f"nothing is refused, and {part} is wanted")
+
+
+def is_whole(repositories):
+    """what release/ holds has the sums that it tells, its package has the files of its archive, and the version is this one"""
+    kept = releases.kept()
+    if not kept:
+        raise Skip("there is no release")
+    sums = dict(reversed(line.split("  ")) for line in kept["SHA256SUMS"].decode().splitlines())
+    want({it: hashlib.sha256(body).hexdigest() for it, body in kept.items() if it != "SHA256SUMS"}, sums, "the sums")
+    told = packages.released()
+    want(told["version"], packages.version(), "the version")
+    archive = files_of_tar(kept[ARCHIVE], f"gittuf-{told['version']}/")
+    for name in releases.PROGRAMS:
+        want(hashlib.sha256(archive[f"lib/gittuf/{name}"]).hexdigest(), told[name], f"the sum of {name}")
+    (deb,) = (it for it in kept if it.endswith(".deb"))
+    want(files_of_tar(member_of(kept[deb], b"data.tar.xz"), "./usr/"), archive, "the files of the package")
+    size = sum(map(len, kept.values()))
+    want(size <= 1_500_000, True, f"that {size} bytes are at most 1500000")
+    return f"{size} bytes"
+
+
+def files_of_tar(body, front):
+    with tarfile.open(fileobj=io.BytesIO(body)) as tar:
+        return {it.name.removeprefix(front): tar.extractfile(it).read() for it in tar if it.isfile()}
+
+
+def member_of(body, name):
+    """A member of an ar archive."""
+    at = 8
+    while at < len(body):
+        size = int(body[at + 48 : at + 58])
+        if body[at : at + 16].strip() == name:
+            return body[at + 60 : at + 60 + size]
+        at += 60 + size + size % 2
+    raise Failure(f"the package has no {name.decode()}")
+
+
+CHECKS = (
+    runs_without_a_toolchain,
+    runs_the_one_for_the_processor,
+    unpacks_at_once,
+    refuses_a_damaged_one,
+    builds_what_is_of_other_sources,
+    keeps_what_is_built,
+    runs_where_nothing_can_be_written,
+    compares_programs,
+    is_whole,
+)

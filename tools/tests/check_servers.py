@@ -1,0 +1,118 @@
+"""The checks of tools/test on servers that go back, drop, fork or invent, and on what a clone then says."""
+
+from checking import run, want
+from guarded_clones import MAIN, another
+
+LOG, POLICY = "refs/gittuf/reference-state-log", "refs/gittuf/policy"
+ACCEPTED = "accepted refs/heads/main 2 entries\n"
+
+
+def further(repositories, name):
+    """Clones in which bob has recorded once more, and alice has that too."""
+    clones = another(repositories, name)
+    clones.gittuf("bob", "verify", "main")
+    clones.commit("bob")
+    clones.gittuf("bob", "record", "main")
+    clones.git("push", "--quiet", who="bob")
+    clones.git("pull", "--quiet", who="alice")
+    clones.gittuf("alice", "verify", "main")
+    return clones
+
+
+def told(clones, who, part):
+    """Holds a verdict to one over the own log that ends with 3, and says this of the server's."""
+    status, output, errors = run("git", "-C", clones.path(who), "gittuf", "verify", "main")
+    want((status, output.decode(), part in errors.decode()), (3, ACCEPTED, True), f"what verify of {who} says: {errors}")
+
+
+def tells_a_rollback(repositories):
+    """a server whose log went back is told with numbers and signers, ends verify with 3, and is followed only anyway"""
+    clones = further(repositories, "rolled back")
+    whole = clones.tip("alice", LOG)
+    older = clones.tip("alice", f"{LOG}~1")
+    clones.git("update-ref", LOG, older, who="server.git")
+    clones.git("fetch", "--quiet", who="alice")
+    told(clones, "alice", f"{LOG} of origin went back from entry 3 to entry 2")
+    found = clones.gittuf("alice", "doctor", status=1).decode()
+    want("origin no longer has entry 3, signed by bob: ask who may write to origin" in found, True, f"what doctor says: {found}")
+    want("git push origin" in found, False, f"whether doctor says git push: {found}")
+    part = "entry 3 would be given up, of which 1 are not of your key but of bob"
+    clones.refused_after("alice", "doctor", "--take", "origin", status=3, part=part)
+    want(clones.tip("alice", LOG), whole, "where the own log stands")
+    clones.gittuf("alice", "doctor", "--take", "origin", "--anyway")
+    want(clones.tip("alice", LOG), older, "where it stands once that is given up")
+    want(run("git", "-C", clones.path("alice"), "gittuf", "verify")[0], 1, "the status of verify then")
+
+
+def tells_a_dropped_log(repositories):
+    """a server that dropped what is below refs/gittuf/ is told, by a fetch that prunes, by one of all, and by doctor, which asks it"""
+    clones = further(repositories, "dropped")
+    clones.git("push", "--quiet", "origin", "main:topic", who="alice")
+    names = clones.git("for-each-ref", "--format=delete %(refname)", "refs/gittuf/", who="server.git")
+    clones.git("update-ref", "--stdin", who="server.git", input=names)
+    found = clones.gittuf("alice", "doctor", status=1).decode()
+    want("the log of origin no longer has entries 1 to 3, signed by alice, bob: ask" in found, True, f"what doctor says: {found}")
+    for words in (("fetch", "--quiet"), ("fetch", "--quiet", "--prune")):
+        clones.git(*words, who="bob")
+        told(clones, "bob", f"origin has no {LOG} any more")
+
+
+def tells_a_fork(repositories):
+    """a server that shows two persons two logs is told with what is here, and entries of others are not given up for it"""
+    clones = further(repositories, "forked")
+    clones.git("update-ref", LOG, clones.tip("alice", f"{LOG}~1"), who="server.git")
+    clones.git("update-ref", MAIN, clones.tip("alice", f"{MAIN}~1"), who="server.git")
+    clones.clone("mallory")
+    clones.gittuf("mallory", "note", "1")
+    clones.git("push", "--quiet", who="mallory")
+    clones.git("fetch", "--quiet", who="alice")
+    told(clones, "alice", "went apart, and neither is taken back")
+    found = clones.gittuf("alice", "doctor", status=1).decode()
+    want("went apart: here is entry 3, signed by bob: git gittuf doctor --take origin" in found, True, f"what doctor says: {found}")
+    clones.refused_after("alice", "doctor", "--take", "origin", status=3, part="not of your key but of bob")
+
+
+def signs_nothing_of_others(repositories):
+    """sync goes over to no log that lacks what the server had, and signs nothing anew that only names the own key"""
+    clones = another(repositories, "rewritten")
+    clones.clone("mallory")
+    clones.gittuf("mallory", "note", "1", "-m", "as if by alice")
+    common = clones.tip("mallory", f"{LOG}~1")
+    names = [clones.gittuf(who, "key", "--id").strip() for who in ("mallory", "alice")]
+    text = clones.git("cat-file", "commit", LOG, who="mallory").replace(*names)
+    forged = clones.git("hash-object", "-w", "-t", "commit", "--stdin", who="mallory", input=text).decode().strip()
+    clones.git("push", "--quiet", "origin", f"{forged}:{LOG}", who="mallory")
+    clones.git("fetch", "--quiet", who="alice")
+    clones.gittuf("alice", "verify", "main")
+    want(clones.tip("alice", LOG), forged, "where the log of alice stands")
+    clones.git("update-ref", LOG, common, who="server.git")
+    clones.git("push", "--quiet", "origin", f"{LOG}:{LOG}", who="mallory")
+    before = clones.used("alice")
+    part = "origin had entry 3 of the log here, and has another log now"
+    clones.refused_after("alice", "sync", status=3, part=part)
+    clones.gittuf("alice", "sync", "--anyway")
+    want(clones.tip("alice", LOG), clones.tip("server.git", LOG), "where the log of alice stands once that is gone over to")
+    want(clones.used("alice"), before, "how many leaves of alice are used")
+
+
+def follows_nothing_invented(repositories):
+    """what a server invents below refs/gittuf/ becomes no remote and no own reference, and goes on nowhere"""
+    clones = another(repositories, "invented")
+    junk = clones.tip("server.git")
+    for name in ("x/reference-state-log", f"targets/{junk}", "targets/x", "anything"):
+        clones.git("update-ref", f"refs/gittuf/{name}", junk, who="server.git")
+    clones.git("fetch", "--quiet", who="bob")
+    status, output, errors = run("git", "-C", clones.path("bob"), "gittuf", "verify", "main")
+    want((status, output, errors), (0, f"accepted {MAIN} 1 entries\n".encode(), b""), "what verify says")
+    want("origin/x" in clones.gittuf("bob", "doctor").decode(), False, "whether doctor names a remote that is none")
+    own = set(clones.git("for-each-ref", "--format=%(refname)", "refs/gittuf/", who="bob").decode().split())
+    want(own & {"refs/gittuf/anything", "refs/gittuf/targets/x", "refs/gittuf/x/reference-state-log"}, set(), "what became own")
+
+
+CHECKS = (
+    tells_a_rollback,
+    tells_a_dropped_log,
+    tells_a_fork,
+    signs_nothing_of_others,
+    follows_nothing_invented,
+)

@@ -1,0 +1,202 @@
+"""The checks of tools/test that each way of git gittuf leads out: recoveries, pushes, races, and what is refused before."""
+
+import os
+import re
+
+from checking import at_terminal, run, want
+from guarded_clones import MAIN, SMALL, another
+
+LOG, ATTESTATIONS = "refs/gittuf/reference-state-log", "refs/gittuf/attestations"
+
+
+def with_mallory(repositories, name):
+    clones = another(repositories, name)
+    clones.clone("mallory")
+    clones.gittuf("mallory", "verify", "main")
+    return clones
+
+
+def told(clones, who, *words, status):
+    found, _, errors = run("git", "-C", clones.path(who), "gittuf", *words)
+    want(found, status, f"the status of git gittuf {' '.join(words)}: {errors}")
+    return errors.decode()
+
+
+def leads_out_of_a_violation(repositories):
+    """recover leads out of a stranger's entry with lawful ones after it, and of a branch's first entry, by the lines that it prints"""
+    clones = with_mallory(repositories, "recovered")
+    clones.commit("mallory", "evil")
+    part = "--anyway records it all the same"
+    clones.refused("mallory", "record", "main", status=3, part=part)
+    clones.gittuf("mallory", "record", "main", "--anyway")
+    clones.git("push", "--quiet", who="mallory")
+    clones.git("pull", "--quiet", who="bob")
+    clones.commit("bob", "lawful")
+    part = "main stands in violation since entry 3, and this would not end it: git gittuf recover main leads out"
+    clones.refused("bob", "record", "main", status=3, part=part)
+    clones.gittuf("bob", "record", "main", "--anyway")
+    clones.git("push", "--quiet", who="bob")
+    clones.git("pull", "--quiet", who="alice")
+    said = told(clones, "alice", "recover", "main", status=1)
+    clones.copied("alice", said.partition(" are wanted: ")[2].strip())
+    clones.verdict("alice", f"accepted {MAIN} 4 entries")
+    want(os.path.exists(os.path.join(clones.path("alice"), "evil")), False, "whether the stranger's file is there")
+    clones.refused("alice", "recover", "main", status=3, part="nothing is to be recovered of main")
+    clones.gittuf("alice", "policy", "rule", "releases", "refs/heads/release-*", "--persons", "alice")
+    clones.sign("alice")
+    clones.gittuf("alice", "policy", "apply")
+    clones.gittuf("alice", "push")
+    clones.git("fetch", "--quiet", who="mallory")
+    clones.git("branch", "release-1", who="mallory")
+    clones.gittuf("mallory", "record", "release-1", "--anyway")
+    clones.git("push", "--quiet", "origin", "release-1", f"{LOG}:{LOG}", who="mallory")
+    clones.git("fetch", "--quiet", who="alice")
+    clones.git("branch", "--quiet", "release-1", "origin/release-1", who="alice")
+    said = told(clones, "alice", "recover", "release-1", status=1)
+    clones.copied("alice", said.partition(" so it is to go: ")[2].strip())
+    clones.gittuf("alice", "push", "release-1")
+    want(clones.gittuf("alice", "verify", "refs/heads/release-1"), b"accepted refs/heads/release-1 2 entries\n", "the verdict on the other")
+
+
+def looks_before_it_signs(repositories):
+    """what no signature of the key here makes lawful is refused with the rule and who is missing, and no leaf is used for that"""
+    clones = with_mallory(repositories, "looked")
+    clones.commit("mallory")
+    before = clones.used("mallory")
+    for words in (("record", "main"), ("approve", "main"), ("skip", "1")):
+        clones.refused("mallory", *words, status=3, part="none of the policy's persons")
+    want(clones.used("mallory"), before, "how many leaves of mallory are used")
+    clones.clone("carol")
+    clones.gittuf("alice", "policy", "person", "carol", clones.public("carol"))
+    clones.gittuf("alice", "policy", "rule", "main", "--persons", "alice,bob,carol", "--threshold", "3")
+    clones.sign("alice")
+    clones.gittuf("alice", "policy", "apply")
+    clones.commit("alice")
+    before = clones.used("alice")
+    missing = "rule main wants 3 of alice, bob, carol for it; missing is bob or carol, who approves it by git gittuf approve main"
+    clones.refused("alice", "record", "main", status=3, part=missing)
+    want(clones.used("alice"), before, "how many leaves of alice are used")
+    clones.gittuf("alice", "policy", "rule", "docs", "file:docs/*", "--persons", "bob")
+    clones.gittuf("alice", "policy", "rule", "main", "--persons", "alice,bob", "--threshold", "1")
+    clones.sign("alice")
+    clones.gittuf("alice", "policy", "apply")
+    clones.commit("alice", "docs/page")
+    part = "rule docs wants 1 of bob for a change of docs/page; missing is bob"
+    clones.refused("alice", "record", "main", status=3, part=part)
+    clones.git("push", "--quiet", "origin", "main:topic", "refs/gittuf/*:refs/gittuf/*", who="alice")
+    clones.git("fetch", "--quiet", who="carol")
+    clones.commit("carol")
+    part = "rule main wants 1 of alice, bob for it; missing is alice or bob, who approves it by git gittuf approve main"
+    before = clones.used("carol")
+    clones.refused("carol", "record", "main", status=3, part=part)
+    want(clones.used("carol"), before, "how many leaves of carol, whom that rule does not ask, are used")
+    clones.git("fetch", "--quiet", who="bob")
+    clones.gittuf("bob", "approve", "main", "origin/topic")
+    clones.gittuf("bob", "push", "--anyway")
+    clones.git("fetch", "--quiet", who="alice")
+    clones.gittuf("alice", "record", "main")
+    clones.verdict("alice", f"accepted {MAIN} 2 entries")
+    # What goes is approved as well.
+    clones.gittuf("bob", "approve", "--delete", "main")
+    clones.refused("bob", "approve", "--delete", "main", "HEAD", status=2, part="takes no commit")
+
+
+def begins_no_second_log(repositories):
+    """a clone without setup is told to set up, and begins no log beside the remote's, unless it is to"""
+    clones = another(repositories, "no setup")
+    clones.git("clone", "--quiet", "server.git", "plain", who="")
+    clones.gittuf("plain", "key", "--file", clones.path("plain.key"), *SMALL)
+    for words in (("record", "main"), ("approve", "main")):
+        clones.refused("plain", *words, status=3, part="and origin has one, beside which none is begun: git gittuf setup origin && git fetch origin")
+    status, said = at_terminal("git gittuf verify main", clones.path("plain"))
+    want((status, "git gittuf setup && git fetch brings the remote's" in said), (1, True), f"what is told: {said}")
+    clones.git("remote", "set-url", "origin", "../nowhere.git", who="plain")
+    clones.refused("plain", "record", "main", status=3, part="origin does not answer whether it has one")
+    clones.gittuf("plain", "record", "main", "--anyway")
+
+
+def tells_what_is_behind(repositories):
+    """a branch that was fetched and not merged is told to be behind, and not recorded as if it went back"""
+    clones = another(repositories, "behind")
+    clones.gittuf("bob", "verify", "main")
+    clones.commit("alice")
+    clones.gittuf("alice", "record", "main")
+    clones.gittuf("alice", "push")
+    clones.git("fetch", "--quiet", who="bob")
+    status, said = at_terminal("git gittuf verify main", clones.path("bob"))
+    way = "git merge --ff-only origin/main"
+    want((status, f"main is behind the log, which has it at {clones.tip('alice')[:12]}: {way}" in said), (1, True), f"what is told: {said}")
+    clones.refused("bob", "record", "main", status=3, part=way)
+    clones.copied("bob", way)
+    clones.verdict("bob", f"accepted {MAIN} 2 entries")
+
+
+def pushes_all_or_nothing(repositories):
+    """push takes branches and tags with the log that records them, and nothing that no entry records"""
+    clones = another(repositories, "pushed")
+    clones.commit("alice")
+    clones.refused("alice", "push", status=3, part="main stands where no entry of the log has it: git gittuf record main comes first")
+    clones.gittuf("alice", "record", "main")
+    clones.git("tag", "v1", who="alice")
+    clones.gittuf("alice", "record", "v1")
+    tip = clones.tip("alice")
+    want(clones.gittuf("alice", "push", "main", "v1").decode(), f"pushed {MAIN} {tip}\npushed refs/tags/v1 {tip}\n", "what push prints")
+    for name in (MAIN, "refs/tags/v1", LOG):
+        want(clones.tip("server.git", name), clones.tip("alice", name), f"where the server has {name}")
+    clones.git("pull", "--quiet", who="bob")
+    clones.gittuf("bob", "verify")
+    clones.commit("bob")
+    clones.git("push", "--quiet", "origin", "main", who="bob")
+    clones.commit("alice")
+    clones.gittuf("alice", "record", "main")
+    before = clones.git("for-each-ref", who="server.git")
+    clones.refused("alice", "push", status=3, part="git pull brings what is there")
+    want(clones.git("for-each-ref", who="server.git"), before, "what the server has after a push that failed")
+
+
+def records_anew_after_a_race(repositories):
+    """of two who record at once the second records anew after the first by push or sync, as far as that is lawful, and an approval too"""
+    clones = another(repositories, "raced")
+    clones.git("branch", "topic", who="bob")
+    clones.gittuf("bob", "record", "topic")
+    clones.commit("alice")
+    clones.git("push", "--quiet", "origin", "main:idea", who="alice")
+    clones.git("fetch", "--quiet", who="bob")
+    clones.gittuf("bob", "approve", "main", "origin/idea")
+    clones.gittuf("bob", "note", "1", "-m", "seen\nby bob")
+    approved = clones.git("ls-tree", "-r", "--name-only", ATTESTATIONS, who="bob")
+    clones.git("tag", "v1", who="alice")
+    clones.gittuf("alice", "record", "v1")
+    clones.gittuf("alice", "push", "v1")
+    clones.gittuf("bob", "push", "topic")
+    want(clones.tip("server.git", LOG), clones.tip("bob", LOG), "where the log of the server stands")
+    want(clones.git("ls-tree", "-r", "--name-only", ATTESTATIONS, who="bob"), approved, "the approvals")
+    kinds = [it.split()[3:5] for it in clones.gittuf("bob", "log").decode().splitlines()]
+    wanted = [["ref", "refs/tags/v1"], ["ref", "refs/heads/topic"], ["ref", ATTESTATIONS], ["note", "1"]]
+    want(kinds[2:], wanted, "what is recorded then")
+    clones.gittuf("bob", "verify")
+    # Both on one branch: the second one merges first.
+    clones.git("pull", "--quiet", who="alice")
+    clones.gittuf("alice", "record", "main")
+    clones.gittuf("alice", "push")
+    clones.commit("bob", "other")
+    clones.gittuf("bob", "record", "main")
+    said = told(clones, "bob", "push", status=3)
+    way = re.search(r": (git merge [0-9a-f]{12} && git gittuf record main)", said)
+    want(way is not None, True, f"what is told: {said}")
+    clones.copied("bob", way[1].replace("merge", "merge --quiet --no-edit"))
+    clones.gittuf("bob", "push")
+    clones.git("pull", "--quiet", who="alice")
+    for who in ("alice", "bob"):
+        clones.verdict(who, f"accepted {MAIN} 3 entries")
+    want(clones.gittuf("bob", "sync"), b"", "what sync prints where there is nothing to do")
+
+
+CHECKS = (
+    looks_before_it_signs,
+    leads_out_of_a_violation,
+    begins_no_second_log,
+    tells_what_is_behind,
+    pushes_all_or_nothing,
+    records_anew_after_a_race,
+)

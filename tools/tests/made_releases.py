@@ -1,0 +1,83 @@
+"""Checkouts with a release, for tools/test: of the program that is here, or of stand-ins."""
+
+import os
+import shutil
+import subprocess
+import sys
+
+from checking import PROGRAM, SMALL_PROGRAM, TOP, run, want
+
+sys.path.insert(1, os.path.join(TOP, "tools", "build"))
+
+import packages
+import releases
+
+VERSION = packages.version()
+ARCHIVE = f"gittuf-{VERSION}.tar.gz"
+RELEASED = "crates/gittuf/out/released"
+KIT = "a kit that is none"
+
+
+def paths_of_the_checkout():
+    """What a clone would have once all that is here was committed, but for the release."""
+    told = run("git", "-C", TOP, "ls-files", "-z", "--cached", "--others", "--exclude-standard")[1].decode().split("\0")
+    return [it for it in told if it and not it.startswith("release/") and os.path.lexists(os.path.join(TOP, it))]
+
+
+def programs_here():
+    """The program that is here, under the name of each processor, and the small one."""
+    bodies = []
+    for path in (SMALL_PROGRAM, PROGRAM):
+        with open(path, "rb") as file:
+            bodies.append(packages.stripped(file.read()))
+    return dict(zip(releases.PROGRAMS, (*bodies, bodies[1])))
+
+
+def stand_ins(text="$1"):
+    """Scripts that print their processor and a text, and the small program that is here."""
+    found = programs_here()
+    for name in releases.PROGRAMS[1:]:
+        found[name] = f"#!/bin/sh\necho {name} \"{text}\"\n".encode()
+    return found
+
+
+class Checkout:
+    """A fresh checkout of what is here, in a folder of its own, with a release of these programs."""
+
+    def __init__(self, repositories, name, programs):
+        self.top = repositories.path(name)
+        for path in paths_of_the_checkout():
+            os.makedirs(os.path.dirname(os.path.join(self.top, path)), exist_ok=True)
+            shutil.copy2(os.path.join(TOP, path), os.path.join(self.top, path), follow_symlinks=False)
+        commit = packages.asked("rev-parse", "HEAD")
+        told = {"kit": KIT, "sources": self.told()["sources"]}
+        os.mkdir(self.path("release"))
+        self.files = releases.files_of(programs, VERSION, commit, told)
+        packages.write(self.path("release"), self.files)
+
+    def path(self, *names):
+        return os.path.join(self.top, *names)
+
+    def told(self):
+        told = run(self.path("tools/build/build-program"), "--programs")[1].decode()
+        return dict(line.split(" ", 1) for line in told.splitlines())
+
+    def call(self, *words, environment, input=b"", **how):
+        """What the launcher answers: its status, output and errors."""
+        ran = subprocess.run((self.path("gittuf"), *words), input=input, capture_output=True, env=environment, timeout=60, **how)
+        return ran.returncode, ran.stdout, ran.stderr
+
+    def forget(self):
+        """Takes away what was unpacked."""
+        shutil.rmtree(self.path("crates/gittuf/out"), ignore_errors=True)
+
+    def change(self, path, text):
+        with open(self.path(path), "wb") as file:
+            file.write(text)
+
+    def want_refused(self, name, environment):
+        """Wants a refusal that names a file of the release."""
+        self.forget()
+        status, output, errors = self.call("-", environment=environment)
+        want((status, output, errors.count(b"\n")), (4, b"", 1), f"what is answered where {name} is damaged, beside {errors!r}")
+        want(f"gittuf: release/{name} is missing or damaged".encode() in errors, True, f"that {errors!r} names {name}")
