@@ -3,10 +3,10 @@
 import json
 import os
 
-from check_folders import command
 from check_keys import ENTRY_LINE, KEY_LINE, line_of
 from check_snapshots import listing_of, seal, take_snapshot
 from checking import LAUNCHER, TOP, Failure, want, want_run
+from made_folders import command
 
 POLICY = "refs/gittuf/policy"
 PERSONS = ("alice", "bob")

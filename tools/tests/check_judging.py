@@ -3,11 +3,11 @@
 import json
 import os
 
-from check_folders import command, object_file
 from check_keys import ENTRY_LINE, KEY_LINE, line_of
 from check_snapshots import listing_of, seal, take_snapshot
 from checking import LAUNCHER, TOP, ZEROS
 from checking import Failure, run, want, want_run
+from made_folders import command, object_file
 
 MAIN = "refs/heads/main"
 TWO = "refs/heads/two"

@@ -6,9 +6,9 @@ import re
 import shutil
 import stat
 
-from check_folders import IMPORTED, command
 from checking import ACCEPTED, LAUNCHER, ZEROS
 from checking import Failure, run, want, want_run
+from made_folders import IMPORTED, command
 
 KEY_LINE = re.compile(rb"key [0-9a-f]{64} [0-9a-f]{112}\n")
 ENTRY_LINE = re.compile(rb"entry ([0-9]+) ([0-9a-f]{64})\n")

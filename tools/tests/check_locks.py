@@ -7,9 +7,9 @@ import socket
 import subprocess
 import time
 
-from check_folders import END, HEADER, IMPORTED, command, expect_same, files_below, is_no_store, small_store
-from check_folders import stream_of, write
 from checking import PROGRAM, Failure, Skip, run, want, want_run
+from made_folders import END, HEADER, IMPORTED, command, expect_same, files_below, is_no_store, small_store
+from made_folders import object_file, stream_of, write
 
 TURNS = 30
 # Calls that change what is in the file system, and those that read the stream and write the answer.
@@ -152,8 +152,6 @@ def tells_no_room(repositories):
     """a file that cannot grow is a fault, and the half made store stays locked"""
     place = repositories.path("no room")
     big = b"x" * 100_000
-    from check_folders import object_file
-
     text, object_id = object_file(b"blob", big)
     words = ("sh", "-c", "trap '' XFSZ; ulimit -f 16; exec \"$@\"", "sh", *command(place, "import"))
     want_run(words, 4, b"", b"fault\n", input=stream_of([(object_id, text)], []))
@@ -166,8 +164,6 @@ def tells_full_disk(repositories):
     place = repositories.path("a small disk")
     os.mkdir(place)
     _, objects = small_store(repositories, "of the full")
-    from check_folders import object_file
-
     more = sorted(object_file(b"blob", b"%d" % it + b"x" * 5000)[::-1] for it in range(40))
     given = repositories.path("stream for the full")
     write(repositories.folder, os.path.basename(given), stream_of(more, []))

@@ -4,10 +4,10 @@ import os
 import shutil
 import subprocess
 
-from check_folders import expect_same, files_below
 from check_keys import ENTRY_LINE, KEY_LINE, bytes_of, line_of
 from check_snapshots import listing_of, take_snapshot
 from checking import LAUNCHER, PROGRAM, Failure, Skip, want
+from made_folders import expect_same, files_below
 
 MAIN = "refs/heads/main"
 # Where a key file's bytes for its leaves begin.

@@ -1,7 +1,7 @@
 """Rows on `approve`: what it makes, from where and to where, and what it refuses; and on which file is an approval."""
 
-from rows_histories import ATTESTATIONS, BEFORE, KEEPER, MAIN, MAINTAINER, OWNER, REVIEWER
-from rows_histories import History, asked, base_files, base_top, guarded
+from rows_histories import ATTESTATIONS, BEFORE, KEEPER, MAIN, MAINTAINER, REVIEWER
+from rows_histories import History, base_files, base_top, guarded
 from rows_objects import EXECUTABLE, FILE, LINK, PROGRAM, ZEROS
 from rows_of_streams import END, HEAD, ref_line
 from rows_policies import approval, encoded, envelope, text_of

@@ -1,7 +1,7 @@
 """Rows on demonstrations, whose repositories are made here from the formats alone."""
 
 import made_keys
-from rows_histories import LOG, MAIN, POLICY, History, asked_again
+from rows_histories import MAIN, POLICY, History, asked_again
 from rows_objects import FILE
 from rows_policies import root, rule, rule_file
 from rows_runs import Run, done, refused

@@ -8,7 +8,7 @@ from rows_histories import History, asked, asked_again, top_file
 from rows_objects import ZEROS
 from rows_policies import encoded, envelope, root, rule
 from slow_verdicts import FIRST, KEYS, LOST, OTHER, ROOT_KEYS, SAME, Move, Note, Policy
-from slow_verdicts import fault, is_back, left_behind, may_skip, numbers_of, policy_at, recorded, rescued, skipped, verdict
+from slow_verdicts import fault, is_back, left_behind, may_skip, numbers_of, policy_at, recorded, rescued, verdict
 
 SEEDS, LENGTH = range(660, 720), 14
 # Each of these comes of the logs at least so often.

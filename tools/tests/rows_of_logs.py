@@ -2,7 +2,6 @@
 
 from rows_histories import LOG, MAIN, MAINTAINER, POLICY, History, lines_of
 from rows_objects import EMPTY_TREE, PROGRAM, ZEROS, object_id
-from rows_policies import base64_of
 from rows_runs import Anew, Asked, Run, digest, done, failing, refused, room
 from rows_signing import LEAVES
 
