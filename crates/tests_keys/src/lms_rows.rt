@@ -1,8 +1,8 @@
 use lmots::OtsType;
 use lms_keys::*;
+use octets::Memory;
 use sha2::{Digest, Sha256};
 use std::alloc::Global;
-use std::process::Abort;
 use std::test::Fail;
 
 const I: [u8; 16] = *b"0123456789abcdef";
@@ -72,73 +72,102 @@ const MADE_ELSEWHERE: [(OtsType, u32, [u8; 32], [u8; 32]); 4] = [
     ),
 ];
 
-// Signs with H5 and this one-time type as Bouncy Castle does, and then changes each part of the
-// signature in turn, after which it is good no more.
-fn agrees(
-    rt: &impl Abort,
-    alloc: Global,
-    kind: OtsType,
-    q: u32,
-    root: [u8; 32],
-    digest: [u8; 32],
-) -> Result<(), Fail> {
+// Signs with a leaf of the key of 5 levels and this one-time type.
+fn signed(alloc: Global, kind: OtsType, q: u32) -> Result<(PublicKey, Vec<u8>), Fail> {
     let secret = SecretKey::of(alloc, LmsType::H5, kind, I, SEED)?;
-    let public = secret.public();
-    assert_eq!(rt; secret.leaves(), 32);
-    assert!(rt; q < secret.leaves());
-    assert_eq!(rt;
-        public,
-        PublicKey {
-            lms: LmsType::H5,
-            ots: kind,
-            i: I,
-            root
-        }
-    );
     let mut signature = vec![in alloc; 0u8; secret.signature_len()]?;
+    if secret.leaves() != 32 || q >= secret.leaves() {
+        return Err(Fail::from("a leaf"));
+    }
     secret.sign_at(q, MESSAGE, &mut signature);
-    assert_eq!(rt;
-        Sha256::digest(signature.as_slice()),
-        digest,
-        "the signature of {kind:?}"
-    );
-    assert!(rt; verify(&public, MESSAGE, &signature));
-    assert!(rt; !verify(&public, b"another message", &signature));
-    let len = signature.len();
-    assert!(rt; !verify(&public, MESSAGE, &signature[..len - 1]));
-    // The leaf's number, the leaf 32 that is none, the two type codes, and the last byte.
+    Ok((secret.public(), signature))
+}
+
+fn has_root(public: &PublicKey, kind: OtsType, root: [u8; 32]) -> bool {
+    let key = PublicKey {
+        lms: LmsType::H5,
+        ots: kind,
+        i: I,
+        root,
+    };
+    *public == key
+}
+
+// A signature is good for its message, its key and its length, and for no other.
+fn is_good_alone(public: &PublicKey, signature: &[u8], longer: &[u8]) -> bool {
+    let other = PublicKey {
+        lms: LmsType::H10,
+        ..*public
+    };
+    verify(public, MESSAGE, signature)
+        && verify_any(&public.write(), MESSAGE, signature)
+        && !verify(public, b"another message", signature)
+        && !verify(&other, MESSAGE, signature)
+        && !verify(public, MESSAGE, longer)
+}
+
+fn is_good_shortened(public: &PublicKey, signature: &[u8]) -> bool {
+    match signature.split_last() {
+        Some((_, front)) => verify(public, MESSAGE, front),
+        None => true,
+    }
+}
+
+// Turns bits of a byte where there is one.
+fn turn(signature: &mut [u8], at: usize, bits: u8) {
+    if let Some(byte) = signature.get_mut(at) {
+        *byte ^= bits;
+    }
+}
+
+// A changed signature is good no more, and is good once it is as before.
+fn is_refused_changed(public: &PublicKey, signature: &mut [u8], at: usize, bits: u8) -> bool {
+    turn(signature, at, bits);
+    let refused = !verify(public, MESSAGE, signature);
+    turn(signature, at, bits);
+    refused && at < signature.len() && verify(public, MESSAGE, signature)
+}
+
+// The places of the leaf's number, where it is another and where it is 32, which is none, of the two type codes, and of the
+// last byte, each with the bits to turn.
+fn changes_of(kind: OtsType, q: u32) -> [(usize, u8); 5] {
     let one_time_len = kind.signature_len();
-    for (at, bits) in [
+    let last = LmsType::H5.signature_len(kind) - 1;
+    [
         (3, 1),
         (3, q as u8 ^ 32),
         (7, 7),
         (7 + one_time_len, 3),
-        (len - 1, 1),
-    ] {
-        assert!(rt; at < signature.len());
-        signature[at] ^= bits;
-        assert!(rt;
-            !verify(&public, MESSAGE, &signature),
-            "byte {at} of {kind:?}"
-        );
-        signature[at] ^= bits;
+        (last, 1),
+    ]
+}
+
+// Each changed part of a signature is refused.
+fn are_refused_changed(
+    public: &PublicKey,
+    signature: &mut [u8],
+    changes: &[(usize, u8)],
+) -> bool {
+    for (at, bits) in changes {
+        if !is_refused_changed(public, signature, *at, *bits) {
+            return false;
+        }
     }
-    assert!(rt; verify(&public, MESSAGE, &signature));
-    assert!(rt; verify_any(&public.write(), MESSAGE, &signature));
-    let other = PublicKey {
-        lms: LmsType::H10,
-        ..public
-    };
-    assert!(rt; !verify(&other, MESSAGE, &signature));
-    signature.push(0)?;
-    assert!(rt; !verify(&public, MESSAGE, &signature));
-    Ok(())
+    true
 }
 
 #[test]
 fn agrees_with_another_implementation(rt: HostRuntime) -> Result<(), Fail> {
     for (kind, q, root, digest) in MADE_ELSEWHERE {
-        agrees(&rt, rt.alloc(), kind, q, root, digest)?;
+        let (public, mut signature) = signed(rt.alloc(), kind, q)?;
+        assert!(rt; has_root(&public, kind, root), "the key of {kind:?}");
+        assert!(rt; Sha256::digest(signature.as_slice()) == digest, "the signature of {kind:?}");
+        let changes = changes_of(kind, q);
+        assert!(rt; are_refused_changed(&public, &mut signature, &changes), "a change of {kind:?}");
+        let mut longer = Vec::from_slice(rt.alloc(), signature.as_slice())?;
+        longer.push(0)?;
+        assert!(rt; is_good_alone(&public, &signature, &longer), "{kind:?} by itself");
+        assert!(rt; !is_good_shortened(&public, &signature), "a short one of {kind:?}");
     }
     Ok(())
 }
@@ -160,15 +189,19 @@ const STANDARD_ROOT: [u8; 32] = [
 
 #[test]
 fn agrees_with_the_standard(rt: HostRuntime) -> Result<(), Fail> {
-    let secret = SecretKey::of(
-        rt.alloc(),
-        LmsType::H5,
-        OtsType::W8,
-        STANDARD_I,
-        STANDARD_SEED,
-    )?;
-    assert_eq!(rt; secret.public().root, STANDARD_ROOT);
+    let (lms, ots) = (LmsType::H5, OtsType::W8);
+    let secret = SecretKey::of(rt.alloc(), lms, ots, STANDARD_I, STANDARD_SEED)?;
+    assert!(rt; secret.public().root == STANDARD_ROOT);
     Ok(())
+}
+
+// A key with another byte in the place of a type code is none.
+fn is_refused_as_key(bytes: [u8; 56], at: usize, code: u8) -> bool {
+    let mut other = bytes;
+    if let Some(byte) = other.get_mut(at) {
+        *byte = code;
+    }
+    PublicKey::read(&other) == Err(KeyFault::BadType)
 }
 
 #[test]
@@ -180,18 +213,12 @@ fn reads_what_is_written(rt: HostRuntime) {
         root: SEED,
     };
     let bytes = public.write();
-    assert_eq!(rt; &bytes[..8], [0, 0, 0, 9, 0, 0, 0, 2].as_slice());
-    assert_eq!(rt; PublicKey::read(&bytes), Ok(public));
-    assert_eq!(rt; PublicKey::read(&bytes[..55]), Err(KeyFault::BadLength));
-    assert_eq!(rt; PublicKey::read(b""), Err(KeyFault::BadLength));
-    for (at, code) in [(3, 4), (3, 10), (7, 0), (7, 5), (0, 1)] {
-        let mut other = bytes;
-        other[at] = code;
-        assert_eq!(rt;
-            PublicKey::read(&other),
-            Err(KeyFault::BadType),
-            "byte {at}"
-        );
+    assert!(rt; bytes.starts_with(&[0, 0, 0, 9, 0, 0, 0, 2]));
+    assert!(rt; PublicKey::read(&bytes) == Ok(public));
+    assert!(rt; PublicKey::read(&bytes[..55]) == Err(KeyFault::BadLength));
+    assert!(rt; PublicKey::read(b"") == Err(KeyFault::BadLength));
+    for (at, code) in [(3usize, 4u8), (3, 10), (7, 0), (7, 5), (0, 1)] {
+        assert!(rt; is_refused_as_key(bytes, at, code), "byte {at}");
     }
 }
 
@@ -205,60 +232,80 @@ const CODES: [(LmsType, u32, u32, usize); 5] = [
     (LmsType::H25, 9, 25, 1932),
 ];
 
+fn has_numbers(lms: LmsType, code: u32, height: u32, len: usize) -> bool {
+    lms.code() == code
+        && LmsType::of_code(code) == Some(lms)
+        && lms.height() == height
+        && lms.leaves().count_ones() == 1
+        && lms.leaves().trailing_zeros() == height
+        && lms.signature_len(OtsType::W8) == len
+}
+
 #[test]
 fn numbers_are_those_of_the_standard(rt: HostRuntime) {
     for (lms, code, height, len) in CODES {
-        assert_eq!(rt; lms.code(), code);
-        assert_eq!(rt; LmsType::of_code(code), Some(lms));
-        assert_eq!(rt; lms.height(), height);
-        assert_eq!(rt; lms.leaves(), 1 << height);
-        assert_eq!(rt; lms.signature_len(OtsType::W8), len);
+        assert!(rt; has_numbers(lms, code, height, len), "{lms:?}");
     }
-    assert_eq!(rt; LmsType::of_code(4), None);
-    assert_eq!(rt; LmsType::of_code(10), None);
+    assert!(rt; LmsType::of_code(4).is_none() && LmsType::of_code(10).is_none());
 }
 
-// The key that signs itself seven times, and then the message: u32str(7), seven signed keys and a
-// signature. With u32str(0) and one level it is the signature alone.
+// A key of so many levels, of which this is the first.
+fn key_of(alloc: Global, levels: u8, public: &[u8]) -> Result<Vec<u8>, Memory> {
+    let mut key = vec![in alloc; 0, 0, 0, levels]?;
+    key.extend_from_slice(public)?;
+    Ok(key)
+}
+
+// A number of signed keys, each a link and the key behind it, and a signature.
+fn text_of(
+    alloc: Global,
+    links: u8,
+    link: &[u8],
+    public: &[u8],
+    last: &[u8],
+) -> Result<Vec<u8>, Memory> {
+    let mut text = vec![in alloc; 0, 0, 0, links]?;
+    for _ in 0..links {
+        text.extend_from_slice(link)?;
+        text.extend_from_slice(public)?;
+    }
+    text.extend_from_slice(last)?;
+    Ok(text)
+}
+
+// The key that signs itself so often, and then the message: u32str of the number of signed keys, these, and a signature.
+// With none and one level it is the signature alone.
+fn is_good_at(alloc: Global, secret: &SecretKey, levels: u8, links: u8) -> Result<bool, Fail> {
+    if secret.leaves() < 2 {
+        return Ok(false);
+    }
+    let public = secret.public().write();
+    let mut link = vec![in alloc; 0u8; secret.signature_len()]?;
+    secret.sign_at(0, &public, &mut link);
+    let mut last = vec![in alloc; 0u8; secret.signature_len()]?;
+    secret.sign_at(1, MESSAGE, &mut last);
+    let key = key_of(alloc, levels, &public)?;
+    let mut text = text_of(alloc, links, &link, &public, &last)?;
+    let is_good = verify_any(&key, MESSAGE, &text);
+    // A byte of the fifth link, where there is one.
+    turn(&mut text, 20000, 1);
+    Ok(is_good && (links < 5 || !verify_any(&key, MESSAGE, &text)))
+}
+
+// The levels of a key, the signed keys of a signature, and whether it is good.
+const LEVELS: [(u8, u8, bool); 5] = [
+    (8, 7, true),
+    (8, 0, false),
+    (1, 0, true),
+    (1, 7, false),
+    (9, 8, false),
+];
+
 #[test]
 fn takes_eight_levels_and_one(rt: HostRuntime) -> Result<(), Fail> {
     let secret = SecretKey::of(rt.alloc(), LmsType::H5, OtsType::W2, I, SEED)?;
-    let public = secret.public().write();
-    let mut link = vec![in rt.alloc(); 0u8; secret.signature_len()]?;
-    secret.sign_at(0, &public, &mut link);
-    let mut text = Vec::new(rt.alloc());
-    text.extend_from_slice(&[0, 0, 0, 7])?;
-    for _ in 0..7 {
-        text.extend_from_slice(&link)?;
-        text.extend_from_slice(&public)?;
+    for (levels, links, is_good) in LEVELS {
+        assert!(rt; is_good_at(rt.alloc(), &secret, levels, links)? == is_good, "{levels} levels");
     }
-    secret.sign_at(1, MESSAGE, &mut link);
-    text.extend_from_slice(&link)?;
-    let mut key = Vec::new(rt.alloc());
-    key.extend_from_slice(&[0, 0, 0, 8])?;
-    key.extend_from_slice(&public)?;
-    assert!(rt; verify_any(&key, MESSAGE, &text));
-    // A byte of the fifth link.
-    assert!(rt; text.len() > 20000);
-    text[20000] ^= 1;
-    assert!(rt; !verify_any(&key, MESSAGE, &text));
-    text[20000] ^= 1;
-    let mut one = Vec::new(rt.alloc());
-    one.extend_from_slice(&[0, 0, 0, 0])?;
-    one.extend_from_slice(&link)?;
-    assert!(rt; key.len() > 3);
-    assert!(rt; !verify_any(&key, MESSAGE, &one));
-    key[3] = 1;
-    assert!(rt; verify_any(&key, MESSAGE, &one));
-    assert!(rt; !verify_any(&key, MESSAGE, &text));
-    // Nine levels: eight signed keys and a signature.
-    let mut nine = Vec::new(rt.alloc());
-    nine.extend_from_slice(&[0, 0, 0, 8])?;
-    secret.sign_at(0, &public, &mut link);
-    nine.extend_from_slice(&link)?;
-    nine.extend_from_slice(&public)?;
-    nine.extend_from_slice(&text[4..])?;
-    key[3] = 9;
-    assert!(rt; !verify_any(&key, MESSAGE, &nine));
     Ok(())
 }

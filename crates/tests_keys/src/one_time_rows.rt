@@ -76,15 +76,37 @@ const STANDARD: [(OtsType, u32, usize); 4] = [
     (OtsType::W8, 4, 1124),
 ];
 
+fn has_numbers(kind: OtsType, code: u32, len: usize) -> bool {
+    kind.code() == code && OtsType::of_code(code) == Some(kind) && kind.signature_len() == len
+}
+
 #[test]
 fn numbers_are_those_of_the_standard(rt: HostRuntime) {
     for (kind, code, len) in STANDARD {
-        assert_eq!(rt; kind.code(), code);
-        assert_eq!(rt; OtsType::of_code(code), Some(kind));
-        assert_eq!(rt; kind.signature_len(), len);
+        assert!(rt; has_numbers(kind, code, len), "{kind:?}");
     }
-    assert_eq!(rt; OtsType::of_code(0), None);
-    assert_eq!(rt; OtsType::of_code(5), None);
+    assert!(rt; OtsType::of_code(0).is_none() && OtsType::of_code(5).is_none());
+}
+
+// Whether a text leads to this key, or is refused for this.
+fn leads_to(kind: OtsType, q: u32, text: &[u8], wanted: Result<[u8; 32], OtsFault>) -> bool {
+    candidate_key(kind, I, q, MESSAGE, text) == wanted
+}
+
+// A text of another length or type is refused.
+fn are_refused(kind: OtsType, q: u32, signature: &[u8]) -> bool {
+    let front = match signature.split_last() {
+        Some((_, front)) => front,
+        None => signature,
+    };
+    leads_to(kind, q, front, Err(OtsFault::BadLength))
+        && leads_to(kind, q, b"\0\0\0\x09", Err(OtsFault::BadType))
+}
+
+// The first three bytes of a text are too few.
+fn is_refused_short(kind: OtsType, q: u32, signature: &[u8]) -> bool {
+    let front = signature.get(..3).unwrap_or(signature);
+    leads_to(kind, q, front, Err(OtsFault::BadLength))
 }
 
 #[test]
@@ -95,33 +117,12 @@ fn agrees_with_another_implementation(rt: HostRuntime) {
         assert!(rt; len <= 8516);
         let signature = &mut out[..len];
         sign_ots(kind, I, q, SEED, MESSAGE, signature);
-        assert_eq!(rt;
-            Sha256::digest(&*signature),
-            digest,
-            "the signature of {kind:?}"
-        );
-        assert_eq!(rt; public_of(kind, I, q, SEED), key, "the key of {kind:?}");
-        assert_eq!(rt;
-            candidate_key(kind, I, q, MESSAGE, signature),
-            Ok(key),
-            "{kind:?}"
-        );
-        assert_eq!(rt;
-            candidate_key(kind, I, q, MESSAGE, &signature[..len - 1]),
-            Err(OtsFault::BadLength)
-        );
-        assert_eq!(rt;
-            candidate_key(kind, I, q, MESSAGE, &signature[..3]),
-            Err(OtsFault::BadLength)
-        );
-        assert_eq!(rt;
-            candidate_key(kind, I, q, MESSAGE, b"\0\0\0\x09"),
-            Err(OtsFault::BadType)
-        );
+        assert!(rt; Sha256::digest(&*signature) == digest, "the signature of {kind:?}");
+        assert!(rt; public_of(kind, I, q, SEED) == key, "the key of {kind:?}");
+        assert!(rt; leads_to(kind, q, signature, Ok(key)), "{kind:?}");
+        assert!(rt; are_refused(kind, q, signature), "another text of {kind:?}");
+        assert!(rt; is_refused_short(kind, q, signature), "three bytes of {kind:?}");
         signature[3] ^= 8;
-        assert_eq!(rt;
-            candidate_key(kind, I, q, MESSAGE, signature),
-            Err(OtsFault::BadType)
-        );
+        assert!(rt; leads_to(kind, q, signature, Err(OtsFault::BadType)), "a type of {kind:?}");
     }
 }

@@ -190,44 +190,56 @@ const PLACES: [usize; 20] = [
     2484, 2643,
 ];
 
+// The places and bits of a key: the number of levels, the types, the identifier and the root.
+const KEY_PLACES: [(usize, u8); 7] = [(3, 1), (3, 2), (3, 11), (7, 3), (11, 7), (12, 1), (59, 1)];
+
+// The first bytes of a text.
+fn front(bytes: &[u8], len: usize) -> &[u8] {
+    bytes.get(..len).unwrap_or(bytes)
+}
+
+fn is_good_changed_at(at: usize) -> bool {
+    let mut signature = SIGNATURE;
+    if let Some(byte) = signature.get_mut(at) {
+        *byte ^= 1;
+    }
+    verify_any(&KEY, MESSAGE, &signature)
+}
+
+fn is_good_for_changed_key(at: usize, bits: u8) -> bool {
+    let mut key = KEY;
+    if let Some(byte) = key.get_mut(at) {
+        *byte ^= bits;
+    }
+    verify_any(&key, MESSAGE, &SIGNATURE)
+}
+
+// The first key signs the second by itself, and the second the message.
+fn each_signs_alone() -> bool {
+    let (_, first) = KEY.split_at(4);
+    let (link, last) = SIGNATURE.split_at(1296);
+    let (_, link) = link.split_at(4);
+    let (second, last) = last.split_at(56);
+    verify_any(first, second, link)
+        && verify_any(second, MESSAGE, last)
+        && !verify_any(first, MESSAGE, last)
+}
+
 #[test]
 fn takes_the_signature_of_the_standard(rt: HostRuntime) {
-    let mut key = KEY;
-    let mut signature = SIGNATURE;
-    assert!(rt; verify_any(&key, MESSAGE, &signature));
-    assert!(rt; !verify_any(&key, b"another message", &signature));
+    assert!(rt; verify_any(&KEY, MESSAGE, &SIGNATURE));
+    assert!(rt; !verify_any(&KEY, b"another message", &SIGNATURE));
     for at in PLACES {
-        assert!(rt; at < 2644);
-        signature[at] ^= 1;
-        assert!(rt; !verify_any(&key, MESSAGE, &signature), "byte {at}");
-        signature[at] ^= 1;
+        assert!(rt; !is_good_changed_at(at), "byte {at}");
     }
-    // The number of levels, the types, the identifier and the root.
-    for (at, bits) in [(3, 1), (3, 2), (3, 11), (7, 3), (11, 7), (12, 1), (59, 1)] {
-        assert!(rt; at < 60);
-        key[at] ^= bits;
-        assert!(rt;
-            !verify_any(&key, MESSAGE, &signature),
-            "byte {at} of the key"
-        );
-        key[at] ^= bits;
+    for (at, bits) in KEY_PLACES {
+        assert!(rt; !is_good_for_changed_key(at, bits), "byte {at} of the key");
     }
     for len in [0, 3, 4, 1296, 1352, 2643] {
-        assert!(rt; len <= 2644);
-        assert!(rt;
-            !verify_any(&key, MESSAGE, &signature[..len]),
-            "{len} bytes"
-        );
+        assert!(rt; !verify_any(&KEY, MESSAGE, front(&SIGNATURE, len)), "{len} bytes");
     }
     for len in [0, 3, 56, 59] {
-        assert!(rt; len <= 60);
-        assert!(rt;
-            !verify_any(&key[..len], MESSAGE, &signature),
-            "a key of {len} bytes"
-        );
+        assert!(rt; !verify_any(front(&KEY, len), MESSAGE, &SIGNATURE), "a key of {len} bytes");
     }
-    // The first key signs the second by itself, and the second the message.
-    assert!(rt; verify_any(&key[4..], &signature[1296..1352], &signature[4..1296]));
-    assert!(rt; verify_any(&signature[1296..1352], MESSAGE, &signature[1352..]));
-    assert!(rt; !verify_any(&key[4..], MESSAGE, &signature[1352..]));
+    assert!(rt; each_signs_alone());
 }

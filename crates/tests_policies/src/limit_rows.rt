@@ -44,33 +44,40 @@ fn files_of(alloc: Global, rules: usize, keys: usize) -> Result<RuleFiles, Fail>
     Ok(files)
 }
 
+// How many are said to be too many of a policy's rules or keys.
+fn too_many(alloc: Global, rules: usize, keys: usize) -> Result<Option<usize>, Fail> {
+    match Rules::assemble(alloc, files_of(alloc, rules, keys)?) {
+        Ok(_) => Ok(None),
+        Err(AssembleFault::TooMany { count }) => Ok(Some(count)),
+        Err(_) => Err("another fault".into()),
+    }
+}
+
 // Rules are counted first, and then keys.
 #[test]
 fn rules_and_listed_keys_are_counted(rt: HostRuntime) -> Result<(), Fail> {
     for (rules, keys, many) in [
-        (1024, 1024, None),
-        (1025, 0, Some(1025)),
+        (1024usize, 1024usize, None),
+        (1025, 0, Some(1025usize)),
         (0, 1025, Some(1025)),
         (1026, 1025, Some(1026)),
         (1025, 1026, Some(1025)),
     ] {
-        let counted = match Rules::assemble(rt.alloc(), files_of(rt.alloc(), rules, keys)?) {
-            Ok(_) => None,
-            Err(AssembleFault::TooMany { count }) => Some(count),
-            Err(_) => return Err("another fault".into()),
-        };
-        assert_eq!(rt; counted, many);
+        assert!(rt; too_many(rt.alloc(), rules, keys)? == many, "{rules} rules and {keys} keys");
     }
     Ok(())
 }
 
+// A byte is taken by itself and as a later one, or neither.
+fn stands_in_names(byte: u8, stands: bool) -> bool {
+    is_name(&[b'a', byte]) == stands && is_name(&[byte]) == stands
+}
+
 #[test]
-fn each_byte_stands_in_a_name_or_not(rt: HostRuntime) -> Result<(), Fail> {
+fn each_byte_stands_in_a_name_or_not(rt: HostRuntime) {
     for byte in 0..128u8 {
         let stands = byte.is_ascii_alphanumeric() || byte == b'.' || byte == b'_' || byte == b'-';
-        assert_eq!(rt; is_name(&[b'a', byte]), stands);
-        assert_eq!(rt; is_name(&[byte]), stands);
+        assert!(rt; stands_in_names(byte, stands), "byte {byte}");
     }
     assert!(rt; !is_name(b"a\x80") && !is_name(b"a\xff"));
-    Ok(())
 }

@@ -152,6 +152,39 @@ fn seen(
     Ok(text)
 }
 
+// What the entries of the log say, whose key signed each, and what is seen after it.
+const LOG: [(Says, u8, &[u8]); 19] = [
+    (Says::Moves(b"11"), b'a', b"no policy by - under - without at 11"),
+    (Says::Brings(b'a'), b'-', b"unsigned by - under - without at 11"),
+    (Says::Brings(b'a'), b'b', b"authorised by - under a without at 11"),
+    (Says::Moves(b"22"), b'a', b"authorised by a under a without at 22"),
+    (Says::Moves(b"33"), b'b', b"stranger by - under a without at 33"),
+    (Says::Notes(5), b'a', b"noted by - under a without at 33"),
+    (Says::Skips(&[5]), b'b', b"noted by - under a without at 33"),
+    (Says::Skips(&[5]), b'a', b"noted by - under a without 5 at 22 may rescue"),
+    (Says::Moves(b"29"), b'b', b"stranger by - under a without 5 at 29"),
+    (Says::Skips(&[9]), b'a', b"noted by - under a without 5 9 at 22 may rescue"),
+    (Says::Moves(b"27"), b'a', b"authorised by a under a without 5 9 at 27"),
+    (Says::Skips(&[4, 3]), b'a', b"noted by - under a without 3 4 5 9 at 27"),
+    (Says::Brings(b'd'), b'b', b"stranger by - under a without 3 4 5 9 at 27"),
+    (Says::Brings(b'd'), b'a', b"authorised by - under d without 3 4 5 9 at 27"),
+    (Says::Moves(b"44"), b'a', b"stranger by - under d without 3 4 5 9 at 44"),
+    (Says::Skips(&[15]), b'a', b"noted by - under d without 3 4 5 9 at 44"),
+    (Says::Skips(&[15]), b'd', b"noted by - under d without 3 4 5 9 15 at 27 may rescue"),
+    (Says::Moves(b"55"), b'd', b"authorised by d under d without 3 4 5 9 15 at 55"),
+    (Says::Moves(b"00"), b'd', b"authorised by d under d without 3 4 5 9 15 at 00"),
+];
+
+fn is_first_without_policy(verdict: &Verdict<SmallFault>) -> bool {
+    match verdict {
+        Verdict::Violation {
+            number: 1,
+            fault: SmallFault::NoPolicy,
+        } => true,
+        _ => false,
+    }
+}
+
 #[test]
 fn each_entry_is_answered(rt: HostRuntime) -> Result<(), Fail> {
     let alloc = rt.alloc();
@@ -159,106 +192,14 @@ fn each_entry_is_answered(rt: HostRuntime) -> Result<(), Fail> {
     let mut engine = Engine::new(alloc);
     let mut store = SmallStore::new(alloc);
     let mut number = 0u8;
-    for (says, signer, wanted) in [
-        (
-            Says::Moves(b"11"),
-            b'a',
-            b"no policy by - under - without at 11".as_slice(),
-        ),
-        (
-            Says::Brings(b'a'),
-            b'-',
-            b"unsigned by - under - without at 11",
-        ),
-        (
-            Says::Brings(b'a'),
-            b'b',
-            b"authorised by - under a without at 11",
-        ),
-        (
-            Says::Moves(b"22"),
-            b'a',
-            b"authorised by a under a without at 22",
-        ),
-        (
-            Says::Moves(b"33"),
-            b'b',
-            b"stranger by - under a without at 33",
-        ),
-        (Says::Notes(5), b'a', b"noted by - under a without at 33"),
-        (Says::Skips(&[5]), b'b', b"noted by - under a without at 33"),
-        (
-            Says::Skips(&[5]),
-            b'a',
-            b"noted by - under a without 5 at 22 may rescue",
-        ),
-        (
-            Says::Moves(b"29"),
-            b'b',
-            b"stranger by - under a without 5 at 29",
-        ),
-        (
-            Says::Skips(&[9]),
-            b'a',
-            b"noted by - under a without 5 9 at 22 may rescue",
-        ),
-        (
-            Says::Moves(b"27"),
-            b'a',
-            b"authorised by a under a without 5 9 at 27",
-        ),
-        (
-            Says::Skips(&[4, 3]),
-            b'a',
-            b"noted by - under a without 3 4 5 9 at 27",
-        ),
-        (
-            Says::Brings(b'd'),
-            b'b',
-            b"stranger by - under a without 3 4 5 9 at 27",
-        ),
-        (
-            Says::Brings(b'd'),
-            b'a',
-            b"authorised by - under d without 3 4 5 9 at 27",
-        ),
-        (
-            Says::Moves(b"44"),
-            b'a',
-            b"stranger by - under d without 3 4 5 9 at 44",
-        ),
-        (
-            Says::Skips(&[15]),
-            b'a',
-            b"noted by - under d without 3 4 5 9 at 44",
-        ),
-        (
-            Says::Skips(&[15]),
-            b'd',
-            b"noted by - under d without 3 4 5 9 15 at 27 may rescue",
-        ),
-        (
-            Says::Moves(b"55"),
-            b'd',
-            b"authorised by d under d without 3 4 5 9 15 at 55",
-        ),
-        (
-            Says::Moves(b"00"),
-            b'd',
-            b"authorised by d under d without 3 4 5 9 15 at 00",
-        ),
-    ] {
+    for (says, signer, wanted) in LOG {
         number = number.wrapping_add(1);
         let entry = entry_of(alloc, number, says, signer)?;
         let answer = answer(alloc, &mut engine, &mut store, &entry)?;
         let seen = seen(alloc, answer, &engine, &name)?;
-        assert_eq!(rt; seen.as_slice(), wanted);
+        assert!(rt; seen.as_slice() == wanted, "entry {number}");
     }
-    match engine.verdict(&name, &ObjectId::zeros())? {
-        Verdict::Violation {
-            number: 1,
-            fault: SmallFault::NoPolicy,
-        } => Ok(()),
-        _ => Err("another verdict".into()),
-    }
+    let verdict = engine.verdict(&name, &ObjectId::zeros())?;
+    assert!(rt; is_first_without_policy(&verdict));
+    Ok(())
 }

@@ -18,64 +18,73 @@ fn run_of(alloc: Global, front: &[u8], byte: u8, len: usize) -> Result<Octets, F
     Ok(text)
 }
 
+// A text and the place at which it is no pattern, where it is none.
+const READ: [(&[u8], Option<usize>); 12] = [
+    (b"git:a*", None),
+    (b"a*", Some(0)),
+    (b"", Some(0)),
+    (b"git", Some(0)),
+    (b"Git:a", Some(0)),
+    (b"git:", Some(4)),
+    (b"file:", Some(5)),
+    (b"git:a[b]", Some(5)),
+    (b"git:[", Some(4)),
+    (b"file:a\\b[", Some(6)),
+    (b"file:]", None),
+    (b"file:\xff", None),
+];
+
+// Whether a text is refused at this place, or is a pattern where there is none.
+fn is_read_so(alloc: Global, text: &[u8], place: Option<usize>) -> bool {
+    let wanted = match place {
+        Some(at) => Some(PatternFault::BadPattern { at }),
+        None => None,
+    };
+    fault_of(alloc, text) == wanted && is_pattern(text) == place.is_none()
+}
+
 #[test]
 fn patterns_are_read(rt: HostRuntime) -> Result<(), Fail> {
-    let bad = |at: usize| Some(PatternFault::BadPattern { at });
-    for (text, fault) in [
-        (b"git:a*".as_slice(), None),
-        (b"a*", bad(0)),
-        (b"", bad(0)),
-        (b"git", bad(0)),
-        (b"Git:a", bad(0)),
-        (b"git:", bad(4)),
-        (b"file:", bad(5)),
-        (b"git:a[b]", bad(5)),
-        (b"git:[", bad(4)),
-        (b"file:a\\b[", bad(6)),
-        (b"file:]", None),
-        (b"file:\xff", None),
-    ] {
-        assert_eq!(rt; fault_of(rt.alloc(), text), fault);
-        assert_eq!(rt; is_pattern(text), fault.is_none());
+    for (row, (text, place)) in READ.iter().enumerate() {
+        assert!(rt; is_read_so(rt.alloc(), *text, *place), "row {row}");
     }
     let longest = run_of(rt.alloc(), b"git:", b'a', 512)?;
-    assert_eq!(rt; fault_of(rt.alloc(), longest.as_slice()), None);
+    assert!(rt; is_read_so(rt.alloc(), longest.as_slice(), None));
     let longer = run_of(rt.alloc(), b"git:", b'[', 513)?;
-    assert_eq!(rt; fault_of(rt.alloc(), longer.as_slice()), bad(512));
+    assert!(rt; is_read_so(rt.alloc(), longer.as_slice(), Some(512)));
     Ok(())
+}
+
+// A pattern, a space and a name in it, and whether they match.
+const GLOBS: [(&[u8], Space, &[u8], bool); 18] = [
+    (b"git:refs/heads/*", Space::Git, b"refs/heads/a/b", true),
+    (b"git:refs/heads/*", Space::File, b"refs/heads/a/b", false),
+    (b"file:a?c", Space::File, b"a/c", true),
+    (b"file:keys/*", Space::File, b"keys/", true),
+    (b"file:*", Space::File, b"", true),
+    (b"file:?", Space::File, b"", false),
+    (b"file:a", Space::File, b"a", true),
+    (b"file:a", Space::File, b"ab", false),
+    (b"file:ab", Space::File, b"a", false),
+    (b"file:*a", Space::File, b"ba", true),
+    (b"file:*a", Space::File, b"ab", false),
+    (b"file:*ab*ab", Space::File, b"abab", true),
+    (b"file:*ab*ab", Space::File, b"aab", false),
+    (b"file:a*a", Space::File, b"a", false),
+    (b"file:a**b?", Space::File, b"ab/", true),
+    (b"file:*?*", Space::File, b"", false),
+    (b"file:*?b*c", Space::File, b"bbxc", true),
+    (b"file:**", Space::File, b"x", true),
+];
+
+fn is_match(alloc: Global, text: &[u8], space: Space, name: &[u8]) -> Result<bool, Fail> {
+    Ok(Pattern::read(alloc, text)?.matches(space, name))
 }
 
 #[test]
 fn globs_match(rt: HostRuntime) -> Result<(), Fail> {
-    for (text, space, name, answer) in [
-        (
-            b"git:refs/heads/*".as_slice(),
-            Space::Git,
-            b"refs/heads/a/b".as_slice(),
-            true,
-        ),
-        (b"git:refs/heads/*", Space::File, b"refs/heads/a/b", false),
-        (b"file:a?c", Space::File, b"a/c", true),
-        (b"file:keys/*", Space::File, b"keys/", true),
-        (b"file:*", Space::File, b"", true),
-        (b"file:?", Space::File, b"", false),
-        (b"file:a", Space::File, b"a", true),
-        (b"file:a", Space::File, b"ab", false),
-        (b"file:ab", Space::File, b"a", false),
-        (b"file:*a", Space::File, b"ba", true),
-        (b"file:*a", Space::File, b"ab", false),
-        (b"file:*ab*ab", Space::File, b"abab", true),
-        (b"file:*ab*ab", Space::File, b"aab", false),
-        (b"file:a*a", Space::File, b"a", false),
-        (b"file:a**b?", Space::File, b"ab/", true),
-        (b"file:*?*", Space::File, b"", false),
-        (b"file:*?b*c", Space::File, b"bbxc", true),
-        (b"file:**", Space::File, b"x", true),
-    ] {
-        assert_eq!(rt;
-            Pattern::read(rt.alloc(), text)?.matches(space, name),
-            answer
-        );
+    for (row, (text, space, name, answer)) in GLOBS.iter().enumerate() {
+        assert!(rt; is_match(rt.alloc(), *text, *space, *name)? == *answer, "row {row}");
     }
     Ok(())
 }
@@ -88,6 +97,6 @@ fn many_stars_take_little_time(rt: HostRuntime) -> Result<(), Fail> {
     }
     text.append(b"b")?;
     let name = run_of(rt.alloc(), b"", b'a', 4096)?;
-    assert!(rt; !Pattern::read(rt.alloc(), text.as_slice())?.matches(Space::File, name.as_slice()));
+    assert!(rt; !is_match(rt.alloc(), text.as_slice(), Space::File, name.as_slice())?);
     Ok(())
 }
