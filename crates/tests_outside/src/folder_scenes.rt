@@ -2,132 +2,120 @@
 
 use git_object::{Kind, Object, ObjectId, Objects, Octets, RefName, id_of};
 use keeper_api::{Change, Keeper, KeeperFault, RefChange, RefChanges};
-use keeper_directory::DirKeeper;
+use octets::Memory;
 use std::alloc::Global;
-use std::test::Fail;
 use std::{env, fs, process};
 
-/// An empty folder for one test of this process.
-pub(crate) fn fresh_folder(rt: &HostRuntime, name: &str) -> Result<String, Fail> {
-    let mut path = env::temp_dir(rt)?.into_string();
+/// A path with this text behind it.
+pub(crate) fn path_of(rt: &HostRuntime, folder: &str, end: &str) -> Option<String> {
+    let mut path = String::from_str(rt.alloc(), folder).ok()?;
+    path.push_str(end).ok()?;
+    Some(path)
+}
+
+/// The path of a folder for one test of this process, where nothing stands.
+pub(crate) fn fresh_folder(rt: &HostRuntime, name: &str) -> Option<String> {
     let number = process::id(rt.process());
-    path.push_str(format!(in rt.alloc(); "/folder_rows-{number}-{name}")?.as_str())?;
+    let end = format!(in rt.alloc(); "/tests_outside-{number}-{name}").ok()?;
+    let folder = env::temp_dir(rt).ok()?.into_string();
+    let path = path_of(rt, folder.as_str(), end.as_str())?;
     let _ = fs::remove_dir_all(rt, path.as_str());
-    Ok(path)
+    Some(path)
 }
 
-/// The keeper over a folder, to be changed.
-pub(crate) fn open(rt: &HostRuntime, path: &str) -> Result<DirKeeper, Fail> {
-    match DirKeeper::to_change(rt, rt.alloc(), path) {
-        Ok(keeper) => Ok(keeper),
-        Err(_) => Err(Fail::from("a folder")),
+/// The id of a blob.
+pub(crate) fn id_of_blob(body: &[u8]) -> ObjectId {
+    id_of(Kind::Blob, body)
+}
+
+fn blobs_of(alloc: Global, bodies: &[&[u8]]) -> Result<Objects, Memory> {
+    let mut objects = Objects::new(alloc);
+    for body in bodies {
+        let body = Octets::from_slice(alloc, *body)?;
+        objects.push(Object::new(alloc, Kind::Blob, body)?)?;
     }
+    Ok(objects)
 }
 
-/// The keeper over a folder, to be read.
-pub(crate) fn read(rt: &HostRuntime, path: &str) -> Result<DirKeeper, Fail> {
-    match DirKeeper::to_read(rt, rt.alloc(), path) {
-        Ok(keeper) => Ok(keeper),
-        Err(_) => Err(Fail::from("a folder to be read")),
+/// A reference and the blob to which it is set, or none where it is removed.
+pub(crate) type Goes = (&'static [u8], Option<&'static [u8]>);
+
+fn refs_of(alloc: Global, refs: &[Goes]) -> Option<RefChanges> {
+    let mut changes = RefChanges::new(alloc);
+    for (name, body) in refs {
+        let name = RefName::read(alloc, *name).ok()?;
+        let to = match body {
+            Some(body) => Some(id_of_blob(*body)),
+            None => None,
+        };
+        changes.push(RefChange { name, to }).ok()?;
     }
+    Some(changes)
 }
 
-pub(crate) fn end(rt: &HostRuntime, keeper: DirKeeper) -> Result<(), Fail> {
-    match keeper.end(rt.alloc()) {
-        Ok(()) => Ok(()),
-        Err(_) => Err(Fail::from("an end")),
-    }
-}
-
-pub(crate) fn put(rt: &HostRuntime, folder: &str, name: &str, text: &[u8]) -> Result<(), Fail> {
-    let path = format!(in rt.alloc(); "{folder}/{name}")?;
-    Ok(fs::write(rt, path.as_str(), text)?)
-}
-
-pub(crate) fn name_of(alloc: Global, text: &[u8]) -> Result<RefName, Fail> {
-    Ok(RefName::read(alloc, text)?)
-}
-
-/// Keeps blobs of these bodies, and makes these reference changes.
+/// Commits blobs and changes of references, and answers how that fails.
 pub(crate) fn commit<R: Keeper>(
     alloc: Global,
     keeper: &mut R,
     bodies: &[&[u8]],
-    refs: &[(&[u8], Option<ObjectId>)],
-) -> Result<Option<KeeperFault>, Fail> {
-    let mut change = Change {
-        objects: Objects::new(alloc),
-        refs: RefChanges::new(alloc),
+    refs: &[Goes],
+) -> Option<Result<(), KeeperFault>> {
+    let change = Change {
+        objects: blobs_of(alloc, bodies).ok()?,
+        refs: refs_of(alloc, refs)?,
     };
-    for body in bodies {
-        let body = Octets::from_slice(alloc, *body)?;
-        change.objects.push(Object::new(alloc, Kind::Blob, body)?)?;
-    }
-    for (text, to) in refs {
-        let name = name_of(alloc, *text)?;
-        change.refs.push(RefChange { name, to: *to })?;
-    }
-    Ok(keeper.commit(alloc, &change).err())
+    Some(keeper.commit(alloc, &change))
 }
 
-/// How many objects and references a keeper goes over, each after the one before, and that each is read.
-pub(crate) fn counts<R: Keeper>(alloc: Global, keeper: &mut R) -> Result<(usize, usize), Fail> {
+/// How many objects a keeper goes over, each after the one before, and that each is read.
+pub(crate) fn count_objects<R: Keeper>(alloc: Global, keeper: &mut R) -> Option<usize> {
     let mut last = None;
-    let mut objects = 0usize;
-    for _ in 0..100 {
-        let Some(id) = keeper.next_object_after(alloc, last.as_ref())? else {
-            break;
+    for count in 0..100usize {
+        let Some(id) = keeper.next_object_after(alloc, last.as_ref()).ok()? else {
+            return Some(count);
         };
-        let object = keeper.read_object(alloc, &id)?.ok_or("an object")?;
-        if object.id() == id {
-            objects = objects.saturating_add(1);
+        if last >= Some(id) || keeper.read_object(alloc, &id).ok()??.id() != id {
+            return None;
         }
         last = Some(id);
     }
-    let mut after = None;
-    let mut refs = 0usize;
-    for _ in 0..100 {
-        let Some(value) = keeper.next_ref_after(alloc, after.as_ref())? else {
-            break;
+    None
+}
+
+/// How many references a keeper goes over, each after the one before, and that each is read.
+pub(crate) fn count_refs<R: Keeper>(alloc: Global, keeper: &mut R) -> Option<usize> {
+    let mut last = None;
+    for count in 0..100usize {
+        let Some(value) = keeper.next_ref_after(alloc, last.as_ref()).ok()? else {
+            return Some(count);
         };
-        if keeper.read_ref(alloc, &value.name)? == Some(value.id) {
-            refs = refs.saturating_add(1);
+        if keeper.read_ref(alloc, &value.name).ok()? != Some(value.id) {
+            return None;
         }
-        after = Some(value.name);
+        last = Some(value.name);
     }
-    Ok((objects, refs))
+    None
 }
 
-pub(crate) fn ref_of<R: Keeper>(
+/// Whether a reference stands at a blob, or nowhere.
+pub(crate) fn stands_at<R: Keeper>(
     alloc: Global,
     keeper: &mut R,
-    text: &[u8],
-) -> Result<Option<ObjectId>, Fail> {
-    Ok(keeper.read_ref(alloc, &name_of(alloc, text)?)?)
+    name: &[u8],
+    body: Option<&[u8]>,
+) -> Option<bool> {
+    let name = RefName::read(alloc, name).ok()?;
+    let found = keeper.read_ref(alloc, &name).ok()?;
+    Some(match body {
+        Some(body) => found == Some(id_of_blob(body)),
+        None => found.is_none(),
+    })
 }
 
-pub(crate) const MAIN: &[u8] = b"refs/heads/main";
-
-/// A keeper with two blobs and two references at the first, of which the second blob is long.
-pub(crate) fn filled(rt: &HostRuntime, folder: &str) -> Result<DirKeeper, Fail> {
-    let alloc = rt.alloc();
-    let mut keeper = open(rt, folder)?;
-    let id = id_of(Kind::Blob, b"one");
-    let refs = [(MAIN, Some(id)), (b"refs/tags/a/b".as_slice(), Some(id))];
-    let long = vec![in alloc; b'x'; 10000]?;
-    let bodies = [b"one".as_slice(), long.as_slice()];
-    match commit(alloc, &mut keeper, &bodies, &refs)? {
-        Some(_) => Err(Fail::from("a commit")),
-        None => Ok(keeper),
+/// Whether a blob is read back.
+pub(crate) fn holds<R: Keeper>(alloc: Global, keeper: &mut R, body: &[u8]) -> bool {
+    match keeper.read_object(alloc, &id_of_blob(body)) {
+        Ok(Some(object)) => object.body() == body,
+        _ => false,
     }
-}
-
-/// The body of an object.
-pub(crate) fn body_of<R: Keeper>(
-    alloc: Global,
-    keeper: &mut R,
-    id: &ObjectId,
-) -> Result<Octets, Fail> {
-    let object = keeper.read_object(alloc, id)?.ok_or("an object")?;
-    Ok(Octets::from_slice(alloc, object.body())?)
 }

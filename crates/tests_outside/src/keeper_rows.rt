@@ -1,17 +1,14 @@
-use git_object::{Kind, Object, ObjectId, Objects, Octets, id_of};
+use git_object::{Kind, Object, Objects, Octets, id_of};
 use keeper_api::{Change, Keeper, MemKeeper, RefChanges};
+use octets::Memory;
 use std::alloc::Global;
-use std::test::Fail;
-
-fn blob_of(alloc: Global, body: &[u8]) -> Result<Object, Fail> {
-    Ok(Object::new(alloc, Kind::Blob, Octets::from_slice(alloc, body)?)?)
-}
 
 // Blobs of one byte each, in the order of the bytes and not of their ids, some of which come again.
-fn one_byte_blobs(alloc: Global, bytes: &[u8]) -> Result<Change, Fail> {
+fn one_byte_blobs(alloc: Global, bytes: &[u8]) -> Result<Change, Memory> {
     let mut objects = Objects::new(alloc);
     for byte in bytes {
-        objects.push(blob_of(alloc, [*byte].as_slice())?)?;
+        let body = Octets::from_slice(alloc, [*byte].as_slice())?;
+        objects.push(Object::new(alloc, Kind::Blob, body)?)?;
     }
     Ok(Change {
         objects,
@@ -20,40 +17,55 @@ fn one_byte_blobs(alloc: Global, bytes: &[u8]) -> Result<Change, Fail> {
 }
 
 // How many objects a keeper tells of, each of which is greater than the one before it.
-fn count_objects<R: Keeper>(alloc: Global, keeper: &mut R) -> Result<usize, Fail> {
+fn count_objects<R: Keeper>(alloc: Global, keeper: &mut R) -> Option<usize> {
     let mut last = None;
     for count in 0..100usize {
-        let Some(id) = keeper.next_object_after(alloc, last.as_ref())? else {
-            return Ok(count);
-        };
-        if last >= Some(id) {
-            return Err("objects in their order".into());
+        let next = keeper.next_object_after(alloc, last.as_ref()).ok()?;
+        if next.is_none() {
+            return Some(count);
         }
-        last = Some(id);
+        if last >= next {
+            return None;
+        }
+        last = next;
     }
-    Err("fewer objects".into())
+    None
 }
 
-#[test]
-fn each_object_of_a_commit_is_kept_once(rt: HostRuntime) -> Result<(), Fail> {
-    let alloc = rt.alloc();
-    let all = b"abcdefghijklmnopqrstuvwxyzABCDEFGHIJKLMNOPQRSTUVWXYZ";
-    for (bytes, count) in [
-        (b"".as_slice(), 0),
-        (b"a", 1),
-        (b"aa", 1),
-        (b"aba", 2),
-        (b"abb", 2),
-        (b"abcb", 3),
-        (all, 52),
-    ] {
-        let mut keeper = MemKeeper::new(alloc);
-        assert!(rt; keeper.commit(alloc, &one_byte_blobs(alloc, bytes)?).is_ok());
-        assert_eq!(rt; count_objects(alloc, &mut keeper)?, count);
-        for byte in bytes {
-            let id = id_of(Kind::Blob, [*byte].as_slice());
-            assert!(rt; keeper.read_object(alloc, &id)?.is_some());
+fn has_each<R: Keeper>(alloc: Global, keeper: &mut R, bytes: &[u8]) -> bool {
+    for byte in bytes {
+        let id = id_of(Kind::Blob, [*byte].as_slice());
+        match keeper.read_object(alloc, &id) {
+            Ok(Some(_)) => {}
+            _ => return false,
         }
+    }
+    true
+}
+
+fn keeps(alloc: Global, bytes: &[u8], count: usize) -> Result<bool, Memory> {
+    let mut keeper = MemKeeper::new(alloc);
+    let is_kept = keeper.commit(alloc, &one_byte_blobs(alloc, bytes)?).is_ok();
+    Ok(is_kept
+        && count_objects(alloc, &mut keeper) == Some(count)
+        && has_each(alloc, &mut keeper, bytes))
+}
+
+// Bytes, and how many of them differ.
+const BLOBS: [(&[u8], usize); 7] = [
+    (b"", 0),
+    (b"a", 1),
+    (b"aa", 1),
+    (b"aba", 2),
+    (b"abb", 2),
+    (b"abcb", 3),
+    (b"abcdefghijklmnopqrstuvwxyzABCDEFGHIJKLMNOPQRSTUVWXYZ", 52),
+];
+
+#[test]
+fn each_object_of_a_commit_is_kept_once(rt: HostRuntime) -> Result<(), Memory> {
+    for (row, (bytes, count)) in BLOBS.iter().enumerate() {
+        assert!(rt; keeps(rt.alloc(), *bytes, *count)?, "row {row}");
     }
     Ok(())
 }

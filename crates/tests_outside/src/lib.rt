@@ -14,6 +14,8 @@ mod folder_rows;
 #[cfg(test)]
 mod folder_scenes;
 #[cfg(test)]
+mod folder_steps;
+#[cfg(test)]
 mod keeper_rows;
 #[cfg(test)]
 mod line_rows;

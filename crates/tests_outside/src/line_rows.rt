@@ -19,33 +19,33 @@ fn refused(alloc: Global, text: &[u8]) -> Result<(Option<LineFault>, u64), Fail>
 #[test]
 fn lines_are_refused(rt: HostRuntime) -> Result<(), Fail> {
     let alloc = rt.alloc();
-    let mut text = Octets::new(alloc);
-    'bytes: for _ in 0..400u16 {
-        text.push(b'x')?;
-    }
-    assert_eq!(rt;
-        refused(alloc, text.as_slice())?,
-        (Some(LineFault::Long), 400)
-    );
-    assert_eq!(rt; refused(alloc, b"cut")?, (Some(LineFault::Cut), 3));
-    let (front, _) = text.as_slice().split_at(text.len().min(399));
-    let mut longest = Octets::from_slice(alloc, front)?;
+    let text = vec![in alloc; b'x'; 400]?;
+    assert!(rt; refused(alloc, text.as_slice())? == (Some(LineFault::Long), 400));
+    assert!(rt; refused(alloc, b"cut")? == (Some(LineFault::Cut), 3));
+    let mut longest = vec![in alloc; b'x'; 399]?;
     longest.push(b'\n')?;
-    assert_eq!(rt; refused(alloc, longest.as_slice())?, (None, 400));
+    assert!(rt; refused(alloc, longest.as_slice())? == (None, 400));
     Ok(())
+}
+
+fn is_cut_where_it_ends(alloc: Global) -> Result<bool, Fail> {
+    let mut source = source_of(alloc, b"abc")?;
+    let mut reader = BufferedReader::new(3);
+    let is_cut = matches!(reader.exact(alloc, &mut source, 4), Err(ExactFault::Cut));
+    Ok(is_cut && reader.passes_limit(&mut source) == Ok(false))
+}
+
+fn is_told_where_it_fails(alloc: Global) -> Result<bool, Fail> {
+    let text = Octets::from_slice(alloc, b"abc")?;
+    let mut source = MemSource::failing(text, vec![in alloc; 2]?);
+    let mut reader = BufferedReader::new(9);
+    let is_told = matches!(reader.line(&mut source), Err(LineFault::Failed));
+    Ok(is_told && reader.taken() == 3)
 }
 
 #[test]
 fn the_end_and_faults_are_told(rt: HostRuntime) -> Result<(), Fail> {
-    let alloc = rt.alloc();
-    let mut source = source_of(alloc, b"abc")?;
-    let mut reader = BufferedReader::new(3);
-    assert!(rt; matches!(reader.exact(alloc, &mut source, 4), Err(ExactFault::Cut)));
-    assert_eq!(rt; reader.passes_limit(&mut source), Ok(false));
-    let text = Octets::from_slice(alloc, b"abc")?;
-    let mut source = MemSource::failing(text, vec![in alloc; 2]?);
-    let mut reader = BufferedReader::new(9);
-    assert!(rt; matches!(reader.line(&mut source), Err(LineFault::Failed)));
-    assert_eq!(rt; reader.taken(), 3);
+    assert!(rt; is_cut_where_it_ends(rt.alloc())?);
+    assert!(rt; is_told_where_it_fails(rt.alloc())?);
     Ok(())
 }

@@ -1,6 +1,5 @@
 use edge_io::{Failed, Source, StdSink, StdSource, write_all};
 use std::io::{ErrorKind, Read, Result as IoResult, Write};
-use std::test::Fail;
 
 // A pipe of a few bytes, of which each call moves one at most. The first call of every three is interrupted,
 // and at the end there is an error in place of one byte.
@@ -61,18 +60,20 @@ fn pipe_of(bytes: [u8; 3]) -> Pipe {
     }
 }
 
-#[test]
-fn an_interrupted_call_is_made_again(rt: HostRuntime) -> Result<(), Fail> {
-    let mut source = StdSource::new(pipe_of([7, 8, 9]));
+fn gives_the_next(source: &mut StdSource<Pipe>, byte: u8) -> bool {
     let mut buf = [0; 2];
+    source.read(&mut buf) == Ok(1) && buf[0] == byte
+}
+
+#[test]
+fn an_interrupted_call_is_made_again(rt: HostRuntime) {
+    let mut source = StdSource::new(pipe_of([7, 8, 9]));
     for byte in [7, 8, 9] {
-        assert_eq!(rt; source.read(&mut buf), Ok(1));
-        assert_eq!(rt; buf[0], byte);
+        assert!(rt; gives_the_next(&mut source, byte), "byte {byte}");
     }
-    assert_eq!(rt; source.read(&mut buf), Err(Failed));
+    assert!(rt; source.read(&mut [0; 2]) == Err(Failed));
     let mut sink = StdSink::new(pipe_of([0; 3]));
-    assert_eq!(rt; write_all(&mut sink, b"abc"), Ok(()));
-    assert_eq!(rt; write_all(&mut sink, b""), Ok(()));
-    assert_eq!(rt; write_all(&mut sink, b"d"), Err(Failed));
-    Ok(())
+    assert!(rt; write_all(&mut sink, b"abc") == Ok(()));
+    assert!(rt; write_all(&mut sink, b"") == Ok(()));
+    assert!(rt; write_all(&mut sink, b"d") == Err(Failed));
 }

@@ -1,5 +1,6 @@
 use git_object::{Commit, KeyId, Kind, Mode, ObjectFault, Tag, Tree, id_of};
-use octets::Copied;
+use octets::{Copied, Memory, Octets};
+use std::alloc::Global;
 use std::test::Fail;
 
 // A tree with an entry of each mode, a merge of it and a tag of the merge, made by Git in a repository of the
@@ -35,137 +36,153 @@ const TAG_ID: &[u8; 64] = b"dbd4821cea692f785ea2bf0a0b04798c23640b345b5113f1a908
 
 const EMPTY_TREE: &[u8; 64] = b"6ef19b41225c5369f1c104d45d8d85efa9b057b53b14b4b9b939dd74decc5321";
 
-#[test]
-fn git_s_objects_are_read_and_written(rt: HostRuntime) -> Result<(), Fail> {
-    let tree = Tree::read(rt.alloc(), TREE)?;
-    assert_eq!(rt; tree.entries.len(), 6);
-    for (at, mode) in [
-        Mode::File,
-        Mode::File,
-        Mode::Dir,
-        Mode::Exec,
-        Mode::Link,
-        Mode::Module,
-    ]
-    .iter()
-    .enumerate()
-    {
-        let found = tree.entries.get(at).map(|entry| entry.mode);
-        assert_eq!(rt; found, Some(*mode));
+const MODES: [Mode; 6] = [
+    Mode::File,
+    Mode::File,
+    Mode::Dir,
+    Mode::Exec,
+    Mode::Link,
+    Mode::Module,
+];
+
+fn is_written_as(written: Result<Octets, Memory>, text: &[u8]) -> bool {
+    match written {
+        Ok(written) => written.as_slice() == text,
+        Err(_) => false,
     }
-    assert_eq!(rt; tree.write(rt.alloc())?.as_slice(), TREE);
-    assert_eq!(rt; id_of(Kind::Tree, TREE).to_hex(), *TREE_ID);
+}
 
-    let commit = Commit::read(rt.alloc(), COMMIT)?;
-    assert_eq!(rt; commit.tree.to_hex(), *TREE_ID);
-    assert_eq!(rt; commit.parents.len(), 2);
-    assert_eq!(rt; commit.write(rt.alloc())?.as_slice(), COMMIT);
-    assert_eq!(rt; id_of(Kind::Commit, COMMIT).to_hex(), *COMMIT_ID);
+fn has_modes(tree: &Tree, modes: &[Mode]) -> bool {
+    for (at, mode) in modes.iter().enumerate() {
+        match tree.entries.get(at) {
+            Some(entry) if entry.mode == *mode => {}
+            _ => return false,
+        }
+    }
+    tree.entries.len() == modes.len()
+}
 
-    let tag = Tag::read(rt.alloc(), TAG)?;
-    assert_eq!(rt; tag.object.to_hex(), *COMMIT_ID);
-    assert_eq!(rt; tag.kind, Kind::Commit);
-    assert_eq!(rt; tag.write(rt.alloc())?.as_slice(), TAG);
-    assert_eq!(rt; id_of(Kind::Tag, TAG).to_hex(), *TAG_ID);
-    Ok(())
+// A tree with entries of these modes is read, and written as it was.
+fn is_tree(alloc: Global, text: &[u8], modes: &[Mode]) -> bool {
+    match Tree::read(alloc, text) {
+        Ok(tree) => has_modes(&tree, modes) && is_written_as(tree.write(alloc), text),
+        Err(_) => false,
+    }
+}
+
+// A commit of this tree, with so many parents and so many bytes behind them, is read, and written as it was.
+fn is_commit(alloc: Global, text: &[u8], tree: &[u8; 64], parents: usize, rest: usize) -> bool {
+    match Commit::read(alloc, text) {
+        Ok(commit) => {
+            commit.tree.to_hex() == *tree
+                && commit.parents.len() == parents
+                && commit.rest.len() == rest
+                && is_written_as(commit.write(alloc), text)
+        }
+        Err(_) => false,
+    }
+}
+
+// A tag of this commit, with so many bytes behind its kind, is read, and written as it was.
+fn is_tag(alloc: Global, text: &[u8], commit: &[u8; 64], rest: usize) -> bool {
+    match Tag::read(alloc, text) {
+        Ok(tag) => {
+            tag.object.to_hex() == *commit
+                && tag.kind == Kind::Commit
+                && tag.rest.len() == rest
+                && is_written_as(tag.write(alloc), text)
+        }
+        Err(_) => false,
+    }
+}
+
+fn is_id(kind: Kind, text: &[u8], id: &[u8; 64]) -> bool {
+    id_of(kind, text).to_hex() == *id
 }
 
 #[test]
-fn the_smallest_objects_are_read_and_written(rt: HostRuntime) -> Result<(), Fail> {
-    let tree = Tree::read(rt.alloc(), b"")?;
-    assert!(rt; tree.entries.is_empty());
-    assert!(rt; tree.write(rt.alloc())?.is_empty());
-    let text = b"tree 6ef19b41225c5369f1c104d45d8d85efa9b057b53b14b4b9b939dd74decc5321\n\nm";
-    let commit = Commit::read(rt.alloc(), text)?;
-    assert_eq!(rt; commit.tree.to_hex(), *EMPTY_TREE);
-    assert!(rt; commit.parents.is_empty());
-    assert_eq!(rt; commit.rest.as_slice(), b"\nm".as_slice());
-    assert_eq!(rt; commit.write(rt.alloc())?.as_slice(), text.as_slice());
-    let text =
-        b"object 6ef19b41225c5369f1c104d45d8d85efa9b057b53b14b4b9b939dd74decc5321\ntype commit\n";
-    let tag = Tag::read(rt.alloc(), text)?;
-    assert!(rt; tag.rest.is_empty());
-    assert_eq!(rt; tag.write(rt.alloc())?.as_slice(), text.as_slice());
-    Ok(())
+fn git_s_objects_are_read_and_written(rt: HostRuntime) {
+    let alloc = rt.alloc();
+    assert!(rt; is_tree(alloc, TREE, &MODES) && is_id(Kind::Tree, TREE, TREE_ID));
+    assert!(rt; is_commit(alloc, COMMIT, TREE_ID, 2, 94) && is_id(Kind::Commit, COMMIT, COMMIT_ID));
+    assert!(rt; is_tag(alloc, TAG, COMMIT_ID, 57) && is_id(Kind::Tag, TAG, TAG_ID));
+}
+
+const SMALLEST_COMMIT: &[u8] =
+    b"tree 6ef19b41225c5369f1c104d45d8d85efa9b057b53b14b4b9b939dd74decc5321\n\nm";
+
+const SMALLEST_TAG: &[u8] =
+    b"object 6ef19b41225c5369f1c104d45d8d85efa9b057b53b14b4b9b939dd74decc5321\ntype commit\n";
+
+#[test]
+fn the_smallest_objects_are_read_and_written(rt: HostRuntime) {
+    let alloc = rt.alloc();
+    assert!(rt; is_tree(alloc, b"", &[]));
+    assert!(rt; is_commit(alloc, SMALLEST_COMMIT, EMPTY_TREE, 0, 2));
+    assert!(rt; is_tag(alloc, SMALLEST_TAG, EMPTY_TREE, 0));
+}
+
+// A body and the place at which it is no tree's.
+const BAD_TREES: [(&[u8], usize); 14] = [
+    (b"1", 0),
+    (b"100644 a\0................................1", 41),
+    (b"100644 a\0...............................", 0),
+    (b"100644 a", 0),
+    (b"040000 a\0................................", 0),
+    (b"100644 \0................................", 0),
+    (b"100644 a/b\0................................", 0),
+    (b"100644 .\0................................", 0),
+    (b"100644 ..\0................................", 0),
+    (b"40000 .git\0................................", 0),
+    (b"100644 b\0................................100644 a\0................................", 41),
+    (b"100644 a\0................................120000 a\0................................", 41),
+    (b"40000 a\0................................100644 a.b\0................................", 40),
+    (
+        b"100644 a\0................................100644 a.b\0................................40000 a\0................................",
+        84,
+    ),
+];
+
+// A body and the place at which it is no commit's.
+const BAD_COMMITS: [(&[u8], usize); 4] = [
+    (b"", 0),
+    (b"tree 6EF19B41225C5369F1C104D45D8D85EFA9B057B53B14B4B9B939DD74DECC5321\n", 0),
+    (b"tree 6ef19b41225c5369f1c104d45d8d85efa9b057b53b14b4b9b939dd74decc5321", 0),
+    (b"tree 6ef19b41225c5369f1c104d45d8d85efa9b057b53b14b4b9b939dd74decc5321\nparent 6ef1\n", 70),
+];
+
+// A body and the place at which it is no tag's.
+const BAD_TAGS: [(&[u8], usize); 3] = [
+    (b"", 0),
+    (b"object 6ef19b41225c5369f1c104d45d8d85efa9b057b53b14b4b9b939dd74decc5321\n", 72),
+    (b"object 6ef19b41225c5369f1c104d45d8d85efa9b057b53b14b4b9b939dd74decc5321\ntype commits\n", 72),
+];
+
+fn is_refused_at(fault: Option<ObjectFault>, at: usize) -> bool {
+    fault == Some(ObjectFault::Malformed { at })
 }
 
 #[test]
-fn a_tree_is_refused_at_its_first_bad_entry(rt: HostRuntime) -> Result<(), Fail> {
-    for (body, at) in [
-        (b"1".as_slice(), 0),
-        (b"100644 a\0................................1", 41),
-        (b"100644 a\0...............................", 0),
-        (b"100644 a", 0),
-        (b"040000 a\0................................", 0),
-        (b"100644 \0................................", 0),
-        (b"100644 a/b\0................................", 0),
-        (b"100644 .\0................................", 0),
-        (b"100644 ..\0................................", 0),
-        (b"40000 .git\0................................", 0),
-        (
-            b"100644 b\0................................100644 a\0................................",
-            41,
-        ),
-        (
-            b"100644 a\0................................120000 a\0................................",
-            41,
-        ),
-        (
-            b"40000 a\0................................100644 a.b\0................................",
-            40,
-        ),
-        (
-            b"100644 a\0................................100644 a.b\0................................40000 a\0................................",
-            84,
-        ),
-    ] {
-        let fault = Tree::read(rt.alloc(), body).err();
-        assert_eq!(rt; fault, Some(ObjectFault::Malformed { at }));
+fn a_tree_is_refused_at_its_first_bad_entry(rt: HostRuntime) {
+    for (row, (body, at)) in BAD_TREES.iter().enumerate() {
+        assert!(rt; is_refused_at(Tree::read(rt.alloc(), *body).err(), *at), "row {row}");
     }
-    Ok(())
 }
 
 #[test]
-fn a_commit_and_a_tag_are_refused_at_their_first_bad_line(rt: HostRuntime) -> Result<(), Fail> {
-    for (body, at) in [
-        (b"".as_slice(), 0),
-        (
-            b"tree 6EF19B41225C5369F1C104D45D8D85EFA9B057B53B14B4B9B939DD74DECC5321\n",
-            0,
-        ),
-        (
-            b"tree 6ef19b41225c5369f1c104d45d8d85efa9b057b53b14b4b9b939dd74decc5321",
-            0,
-        ),
-        (
-            b"tree 6ef19b41225c5369f1c104d45d8d85efa9b057b53b14b4b9b939dd74decc5321\nparent 6ef1\n",
-            70,
-        ),
-    ] {
-        let fault = Commit::read(rt.alloc(), body).err();
-        assert_eq!(rt; fault, Some(ObjectFault::Malformed { at }));
+fn a_commit_and_a_tag_are_refused_at_their_first_bad_line(rt: HostRuntime) {
+    for (row, (body, at)) in BAD_COMMITS.iter().enumerate() {
+        assert!(rt; is_refused_at(Commit::read(rt.alloc(), *body).err(), *at), "commit {row}");
     }
-    for (body, at) in [
-        (b"".as_slice(), 0),
-        (
-            b"object 6ef19b41225c5369f1c104d45d8d85efa9b057b53b14b4b9b939dd74decc5321\n",
-            72,
-        ),
-        (
-            b"object 6ef19b41225c5369f1c104d45d8d85efa9b057b53b14b4b9b939dd74decc5321\ntype commits\n",
-            72,
-        ),
-    ] {
-        let fault = Tag::read(rt.alloc(), body).err();
-        assert_eq!(rt; fault, Some(ObjectFault::Malformed { at }));
+    for (row, (body, at)) in BAD_TAGS.iter().enumerate() {
+        assert!(rt; is_refused_at(Tag::read(rt.alloc(), *body).err(), *at), "tag {row}");
     }
-    Ok(())
 }
 
 #[test]
 fn a_key_id_is_written_as_read(rt: HostRuntime) -> Result<(), Fail> {
     let id = KeyId::from_hex(TAG_ID).ok_or("a key id")?;
-    assert_eq!(rt; id.copied()?.to_hex(), *TAG_ID);
-    assert_eq!(rt; KeyId::from_hex(b"00"), None);
+    assert!(rt; id.copied()?.to_hex() == *TAG_ID);
+    assert!(rt; KeyId::from_hex(b"00").is_none());
     Ok(())
 }
