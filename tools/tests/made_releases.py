@@ -41,6 +41,11 @@ def stand_ins(text="$1"):
     return found
 
 
+def own_processor(environment):
+    """The name of the processor here, as the launcher tells it."""
+    return subprocess.run((os.path.join(TOP, "tools/build/cpu"),), capture_output=True, env=environment).stdout.decode().strip()
+
+
 class Checkout:
     """A fresh checkout of what is here, in a folder of its own, with a release of these programs."""
 
