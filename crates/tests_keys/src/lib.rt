@@ -6,9 +6,13 @@
 #![tactic(auto)]
 
 #[cfg(test)]
+mod level_rows;
+#[cfg(test)]
 mod lms_rows;
 #[cfg(test)]
 mod one_time_rows;
+#[cfg(test)]
+mod rows;
 #[cfg(test)]
 mod scenes;
 #[cfg(test)]

@@ -1,15 +1,10 @@
+use crate::rows::want;
+use crate::scenes::{I, MESSAGE, SEED, turn};
 use lmots::OtsType;
 use lms_keys::*;
-use octets::Memory;
 use sha2::{Digest, Sha256};
 use std::alloc::Global;
 use std::test::Fail;
-
-const I: [u8; 16] = *b"0123456789abcdef";
-
-const SEED: [u8; 32] = *b"thirty-two bytes make this seed.";
-
-const MESSAGE: &[u8; 22] = b"a message of one line\n";
 
 // What Bouncy Castle makes of these with H5 (tools/lms-vectors): the type, the leaf, the root,
 // and the SHA-256 of the signature.
@@ -113,13 +108,6 @@ fn is_good_shortened(public: &PublicKey, signature: &[u8]) -> bool {
     }
 }
 
-// Turns bits of a byte where there is one.
-fn turn(signature: &mut [u8], at: usize, bits: u8) {
-    if let Some(byte) = signature.get_mut(at) {
-        *byte ^= bits;
-    }
-}
-
 // A changed signature is good no more, and is good once it is as before.
 fn is_refused_changed(public: &PublicKey, signature: &mut [u8], at: usize, bits: u8) -> bool {
     turn(signature, at, bits);
@@ -128,8 +116,8 @@ fn is_refused_changed(public: &PublicKey, signature: &mut [u8], at: usize, bits:
     refused && at < signature.len() && verify(public, MESSAGE, signature)
 }
 
-// The places of the leaf's number, where it is another and where it is 32, which is none, of the two type codes, and of the
-// last byte, each with the bits to turn.
+// The places of the leaf's number, where it is another and where it is 32, which is none, of the two type codes, and of
+// the last byte, each with the bits to turn.
 fn changes_of(kind: OtsType, q: u32) -> [(usize, u8); 5] {
     let one_time_len = kind.signature_len();
     let last = LmsType::H5.signature_len(kind) - 1;
@@ -143,11 +131,7 @@ fn changes_of(kind: OtsType, q: u32) -> [(usize, u8); 5] {
 }
 
 // Each changed part of a signature is refused.
-fn are_refused_changed(
-    public: &PublicKey,
-    signature: &mut [u8],
-    changes: &[(usize, u8)],
-) -> bool {
+fn are_refused_changed(public: &PublicKey, signature: &mut [u8], changes: &[(usize, u8)]) -> bool {
     for (at, bits) in changes {
         if !is_refused_changed(public, signature, *at, *bits) {
             return false;
@@ -158,16 +142,20 @@ fn are_refused_changed(
 
 #[test]
 fn agrees_with_another_implementation(rt: HostRuntime) -> Result<(), Fail> {
-    for (kind, q, root, digest) in MADE_ELSEWHERE {
+    for (row, (kind, q, root, digest)) in MADE_ELSEWHERE.into_iter().enumerate() {
         let (public, mut signature) = signed(rt.alloc(), kind, q)?;
-        assert!(rt; has_root(&public, kind, root), "the key of {kind:?}");
-        assert!(rt; Sha256::digest(signature.as_slice()) == digest, "the signature of {kind:?}");
+        want(&rt, row, has_root(&public, kind, root));
+        want(&rt, row, Sha256::digest(signature.as_slice()) == digest);
         let changes = changes_of(kind, q);
-        assert!(rt; are_refused_changed(&public, &mut signature, &changes), "a change of {kind:?}");
+        want(
+            &rt,
+            row,
+            are_refused_changed(&public, &mut signature, &changes),
+        );
         let mut longer = Vec::from_slice(rt.alloc(), signature.as_slice())?;
         longer.push(0)?;
-        assert!(rt; is_good_alone(&public, &signature, &longer), "{kind:?} by itself");
-        assert!(rt; !is_good_shortened(&public, &signature), "a short one of {kind:?}");
+        want(&rt, row, is_good_alone(&public, &signature, &longer));
+        want(&rt, row, !is_good_shortened(&public, &signature));
     }
     Ok(())
 }
@@ -195,13 +183,20 @@ fn agrees_with_the_standard(rt: HostRuntime) -> Result<(), Fail> {
     Ok(())
 }
 
+// The place of a byte of a key's type codes, and another byte.
+const CHANGED_CODES: [(usize, u8); 5] = [(3, 4), (3, 10), (7, 0), (7, 5), (0, 1)];
+
 // A key with another byte in the place of a type code is none.
 fn is_refused_as_key(bytes: [u8; 56], at: usize, code: u8) -> bool {
     let mut other = bytes;
     if let Some(byte) = other.get_mut(at) {
         *byte = code;
     }
-    PublicKey::read(&other) == Err(KeyFault::BadType)
+    matches!(PublicKey::read(&other), Err(KeyFault::BadType))
+}
+
+fn is_refused_as_short(bytes: &[u8]) -> bool {
+    matches!(PublicKey::read(bytes), Err(KeyFault::BadLength))
 }
 
 #[test]
@@ -214,11 +209,10 @@ fn reads_what_is_written(rt: HostRuntime) {
     };
     let bytes = public.write();
     assert!(rt; bytes.starts_with(&[0, 0, 0, 9, 0, 0, 0, 2]));
-    assert!(rt; PublicKey::read(&bytes) == Ok(public));
-    assert!(rt; PublicKey::read(&bytes[..55]) == Err(KeyFault::BadLength));
-    assert!(rt; PublicKey::read(b"") == Err(KeyFault::BadLength));
-    for (at, code) in [(3usize, 4u8), (3, 10), (7, 0), (7, 5), (0, 1)] {
-        assert!(rt; is_refused_as_key(bytes, at, code), "byte {at}");
+    assert!(rt; matches!(PublicKey::read(&bytes), Ok(found) if found == public));
+    assert!(rt; is_refused_as_short(&bytes[..55]) && is_refused_as_short(b""));
+    for (row, (at, code)) in CHANGED_CODES.into_iter().enumerate() {
+        want(&rt, row, is_refused_as_key(bytes, at, code));
     }
 }
 
@@ -243,69 +237,8 @@ fn has_numbers(lms: LmsType, code: u32, height: u32, len: usize) -> bool {
 
 #[test]
 fn numbers_are_those_of_the_standard(rt: HostRuntime) {
-    for (lms, code, height, len) in CODES {
-        assert!(rt; has_numbers(lms, code, height, len), "{lms:?}");
+    for (row, (lms, code, height, len)) in CODES.into_iter().enumerate() {
+        want(&rt, row, has_numbers(lms, code, height, len));
     }
     assert!(rt; LmsType::of_code(4).is_none() && LmsType::of_code(10).is_none());
-}
-
-// A key of so many levels, of which this is the first.
-fn key_of(alloc: Global, levels: u8, public: &[u8]) -> Result<Vec<u8>, Memory> {
-    let mut key = vec![in alloc; 0, 0, 0, levels]?;
-    key.extend_from_slice(public)?;
-    Ok(key)
-}
-
-// A number of signed keys, each a link and the key behind it, and a signature.
-fn text_of(
-    alloc: Global,
-    links: u8,
-    link: &[u8],
-    public: &[u8],
-    last: &[u8],
-) -> Result<Vec<u8>, Memory> {
-    let mut text = vec![in alloc; 0, 0, 0, links]?;
-    for _ in 0..links {
-        text.extend_from_slice(link)?;
-        text.extend_from_slice(public)?;
-    }
-    text.extend_from_slice(last)?;
-    Ok(text)
-}
-
-// The key that signs itself so often, and then the message: u32str of the number of signed keys, these, and a signature.
-// With none and one level it is the signature alone.
-fn is_good_at(alloc: Global, secret: &SecretKey, levels: u8, links: u8) -> Result<bool, Fail> {
-    if secret.leaves() < 2 {
-        return Ok(false);
-    }
-    let public = secret.public().write();
-    let mut link = vec![in alloc; 0u8; secret.signature_len()]?;
-    secret.sign_at(0, &public, &mut link);
-    let mut last = vec![in alloc; 0u8; secret.signature_len()]?;
-    secret.sign_at(1, MESSAGE, &mut last);
-    let key = key_of(alloc, levels, &public)?;
-    let mut text = text_of(alloc, links, &link, &public, &last)?;
-    let is_good = verify_any(&key, MESSAGE, &text);
-    // A byte of the fifth link, where there is one.
-    turn(&mut text, 20000, 1);
-    Ok(is_good && (links < 5 || !verify_any(&key, MESSAGE, &text)))
-}
-
-// The levels of a key, the signed keys of a signature, and whether it is good.
-const LEVELS: [(u8, u8, bool); 5] = [
-    (8, 7, true),
-    (8, 0, false),
-    (1, 0, true),
-    (1, 7, false),
-    (9, 8, false),
-];
-
-#[test]
-fn takes_eight_levels_and_one(rt: HostRuntime) -> Result<(), Fail> {
-    let secret = SecretKey::of(rt.alloc(), LmsType::H5, OtsType::W2, I, SEED)?;
-    for (levels, links, is_good) in LEVELS {
-        assert!(rt; is_good_at(rt.alloc(), &secret, levels, links)? == is_good, "{levels} levels");
-    }
-    Ok(())
 }

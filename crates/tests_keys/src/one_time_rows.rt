@@ -1,3 +1,4 @@
+use crate::rows::want;
 use lmots::{OtsFault, OtsType, candidate_key, public_of, sign_ots};
 use sha2::{Digest, Sha256};
 
@@ -82,47 +83,54 @@ fn has_numbers(kind: OtsType, code: u32, len: usize) -> bool {
 
 #[test]
 fn numbers_are_those_of_the_standard(rt: HostRuntime) {
-    for (kind, code, len) in STANDARD {
-        assert!(rt; has_numbers(kind, code, len), "{kind:?}");
+    for (row, (kind, code, len)) in STANDARD.into_iter().enumerate() {
+        want(&rt, row, has_numbers(kind, code, len));
     }
     assert!(rt; OtsType::of_code(0).is_none() && OtsType::of_code(5).is_none());
 }
 
-// Whether a text leads to this key, or is refused for this.
-fn leads_to(kind: OtsType, q: u32, text: &[u8], wanted: Result<[u8; 32], OtsFault>) -> bool {
-    candidate_key(kind, I, q, MESSAGE, text) == wanted
+fn leads_to(kind: OtsType, q: u32, text: &[u8], key: [u8; 32]) -> bool {
+    matches!(candidate_key(kind, I, q, MESSAGE, text), Ok(found) if found == key)
 }
 
-// A text of another length or type is refused.
-fn are_refused(kind: OtsType, q: u32, signature: &[u8]) -> bool {
-    let front = match signature.split_last() {
+fn is_short(kind: OtsType, q: u32, text: &[u8]) -> bool {
+    matches!(
+        candidate_key(kind, I, q, MESSAGE, text),
+        Err(OtsFault::BadLength)
+    )
+}
+
+fn is_of_another_type(kind: OtsType, q: u32, text: &[u8]) -> bool {
+    matches!(
+        candidate_key(kind, I, q, MESSAGE, text),
+        Err(OtsFault::BadType)
+    )
+}
+
+// Without its last byte a signature is refused, and so are its first three.
+fn are_fronts_short(kind: OtsType, q: u32, signature: &[u8]) -> bool {
+    let shorter = match signature.split_last() {
         Some((_, front)) => front,
         None => signature,
     };
-    leads_to(kind, q, front, Err(OtsFault::BadLength))
-        && leads_to(kind, q, b"\0\0\0\x09", Err(OtsFault::BadType))
-}
-
-// The first three bytes of a text are too few.
-fn is_refused_short(kind: OtsType, q: u32, signature: &[u8]) -> bool {
-    let front = signature.get(..3).unwrap_or(signature);
-    leads_to(kind, q, front, Err(OtsFault::BadLength))
+    let (three, _) = signature.split_at(signature.len().min(3));
+    is_short(kind, q, shorter) && is_short(kind, q, three)
 }
 
 #[test]
 fn agrees_with_another_implementation(rt: HostRuntime) {
     let mut out = [0u8; 8516];
-    for (kind, q, key, digest) in MADE_ELSEWHERE {
+    for (row, (kind, q, key, digest)) in MADE_ELSEWHERE.into_iter().enumerate() {
         let len = kind.signature_len();
         assert!(rt; len <= 8516);
         let signature = &mut out[..len];
         sign_ots(kind, I, q, SEED, MESSAGE, signature);
-        assert!(rt; Sha256::digest(&*signature) == digest, "the signature of {kind:?}");
-        assert!(rt; public_of(kind, I, q, SEED) == key, "the key of {kind:?}");
-        assert!(rt; leads_to(kind, q, signature, Ok(key)), "{kind:?}");
-        assert!(rt; are_refused(kind, q, signature), "another text of {kind:?}");
-        assert!(rt; is_refused_short(kind, q, signature), "three bytes of {kind:?}");
+        want(&rt, row, Sha256::digest(&*signature) == digest);
+        want(&rt, row, public_of(kind, I, q, SEED) == key);
+        want(&rt, row, leads_to(kind, q, signature, key));
+        want(&rt, row, are_fronts_short(kind, q, signature));
+        want(&rt, row, is_of_another_type(kind, q, b"\0\0\0\x09"));
         signature[3] ^= 8;
-        assert!(rt; leads_to(kind, q, signature, Err(OtsFault::BadType)), "a type of {kind:?}");
+        want(&rt, row, is_of_another_type(kind, q, signature));
     }
 }

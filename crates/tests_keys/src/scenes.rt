@@ -21,3 +21,10 @@ pub(crate) fn new_disk(alloc: Global) -> Result<MemDisk, Fail> {
     let file = Octets::from_slice(alloc, FILE.as_slice())?;
     Ok(MemDisk::new(file, 96, 64)?)
 }
+
+/// Turns bits of a byte where there is one.
+pub(crate) fn turn(signature: &mut [u8], at: usize, bits: u8) {
+    if let Some(byte) = signature.get_mut(at) {
+        *byte ^= bits;
+    }
+}

@@ -1,5 +1,7 @@
 //! RFC 8554, appendix F, test case 1: a key of two levels with H5 and W8, and a signature.
 
+use crate::rows::want;
+use crate::scenes::turn;
 use lms_keys::*;
 
 const KEY: [u8; 60] = [
@@ -200,17 +202,13 @@ fn front(bytes: &[u8], len: usize) -> &[u8] {
 
 fn is_good_changed_at(at: usize) -> bool {
     let mut signature = SIGNATURE;
-    if let Some(byte) = signature.get_mut(at) {
-        *byte ^= 1;
-    }
+    turn(&mut signature, at, 1);
     verify_any(&KEY, MESSAGE, &signature)
 }
 
 fn is_good_for_changed_key(at: usize, bits: u8) -> bool {
     let mut key = KEY;
-    if let Some(byte) = key.get_mut(at) {
-        *byte ^= bits;
-    }
+    turn(&mut key, at, bits);
     verify_any(&key, MESSAGE, &SIGNATURE)
 }
 
@@ -230,16 +228,16 @@ fn takes_the_signature_of_the_standard(rt: HostRuntime) {
     assert!(rt; verify_any(&KEY, MESSAGE, &SIGNATURE));
     assert!(rt; !verify_any(&KEY, b"another message", &SIGNATURE));
     for at in PLACES {
-        assert!(rt; !is_good_changed_at(at), "byte {at}");
+        want(&rt, at, !is_good_changed_at(at));
     }
-    for (at, bits) in KEY_PLACES {
-        assert!(rt; !is_good_for_changed_key(at, bits), "byte {at} of the key");
+    for (row, (at, bits)) in KEY_PLACES.into_iter().enumerate() {
+        want(&rt, row, !is_good_for_changed_key(at, bits));
     }
     for len in [0, 3, 4, 1296, 1352, 2643] {
-        assert!(rt; !verify_any(&KEY, MESSAGE, front(&SIGNATURE, len)), "{len} bytes");
+        want(&rt, len, !verify_any(&KEY, MESSAGE, front(&SIGNATURE, len)));
     }
     for len in [0, 3, 56, 59] {
-        assert!(rt; !verify_any(front(&KEY, len), MESSAGE, &SIGNATURE), "a key of {len} bytes");
+        want(&rt, len, !verify_any(front(&KEY, len), MESSAGE, &SIGNATURE));
     }
     assert!(rt; each_signs_alone());
 }

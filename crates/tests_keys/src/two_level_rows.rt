@@ -1,3 +1,4 @@
+use crate::rows::want;
 use crate::scenes::MESSAGE;
 use edge_io::MemDisk;
 use leaf_journal::{SignFault, Signer};
@@ -107,20 +108,29 @@ fn signs_with_another(
     }
 }
 
+// The call that fails, and how many leaves signed before it.
+const STOPS: [(u64, usize); 4] = [(4, 0), (5, 0), (6, 1), (7, 1)];
+
 // Three calls open a signer and two sign. After a stop at any call around the change of the key below, whatever byte it
 // left at the leaf that was to sign, no leaf that signed signs again.
 #[test]
 fn no_leaf_signs_again_after_a_stop_between_two_keys(rt: HostRuntime) -> Result<(), Fail> {
     let alloc = rt.alloc();
-    for (call, signed) in [(4u64, 0usize), (5, 0), (6, 1), (7, 1)] {
+    for (row, (call, signed)) in STOPS.into_iter().enumerate() {
         let mut disk = disk_with(alloc, 31, call)?;
         let leaves = leaves_of(alloc, &mut disk)?;
-        assert!(rt; leaves.len() == signed, "call {call}");
+        want(&rt, row, leaves.len() == signed);
         let (left, at) = (disk.contents(), signed.saturating_add(103));
-        for byte in [0u8, 255] {
-            let is_other = signs_with_another(alloc, left, at, byte, leaves.as_slice())?;
-            assert!(rt; is_other, "call {call} left {byte}");
-        }
+        want(
+            &rt,
+            row,
+            signs_with_another(alloc, left, at, 0, leaves.as_slice())?,
+        );
+        want(
+            &rt,
+            row,
+            signs_with_another(alloc, left, at, 255, leaves.as_slice())?,
+        );
     }
     Ok(())
 }

@@ -1,8 +1,8 @@
 use crate::folder_scenes::{fresh_folder, path_of};
 use edge_io::{Disk, Entropy, Failed, FileDisk, OsEntropy};
+use std::fs;
 use std::os::unix::fs::MetadataExt;
 use std::test::Fail;
-use std::fs;
 
 // A new file is empty and its owner's alone.
 fn is_new(rt: &HostRuntime, path: &str, disk: &mut FileDisk) -> Result<bool, Fail> {

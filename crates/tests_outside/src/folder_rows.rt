@@ -30,7 +30,8 @@ const HEAD: Step = Step::Writes("/HEAD", b"ref: refs/heads/main\n");
 const ZEROS: &str = "/objects/0000000000000000000000000000000000000000000000000000000000000000";
 
 // The folder in which the object of the blob is to be written.
-const PLACE_OF_ONE: &str = "/objects/437613f2000d14882113a8ceeb5e68572589edac29230c9fecd09d682612c4a3";
+const PLACE_OF_ONE: &str =
+    "/objects/437613f2000d14882113a8ceeb5e68572589edac29230c9fecd09d682612c4a3";
 
 // Scenes by their names, each in a folder of its own, where nothing stands at first.
 const SCENES: [(&str, &[Step]); 15] = [
@@ -232,11 +233,7 @@ const SCENES: [(&str, &[Step]); 15] = [
     ),
     (
         "a-file-in-place-of-a-folder-is-not-opened",
-        &[
-            Step::Makes(""),
-            Step::Writes("/refs", b""),
-            Step::IsNoStore,
-        ],
+        &[Step::Makes(""), Step::Writes("/refs", b""), Step::IsNoStore],
     ),
 ];
 

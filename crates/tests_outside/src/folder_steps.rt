@@ -74,8 +74,7 @@ fn is_told(alloc: Global, keeper: &mut DirKeeper, step: Step) -> bool {
             commit(alloc, keeper, bodies, refs) == Some(Err(KeeperFault::Failed))
         }
         Step::Counts(objects, refs) => {
-            count_objects(alloc, keeper) == Some(objects)
-                && count_refs(alloc, keeper) == Some(refs)
+            count_objects(alloc, keeper) == Some(objects) && count_refs(alloc, keeper) == Some(refs)
         }
         Step::Faults(count) => keeper.faults() == count,
         Step::Holds(body) => holds(alloc, keeper, body),

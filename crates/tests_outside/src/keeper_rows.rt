@@ -1,3 +1,4 @@
+use crate::rows::want;
 use git_object::{Kind, Object, Objects, Octets, id_of};
 use keeper_api::{Change, Keeper, MemKeeper, RefChanges};
 use octets::Memory;
@@ -46,9 +47,11 @@ fn has_each<R: Keeper>(alloc: Global, keeper: &mut R, bytes: &[u8]) -> bool {
 fn keeps(alloc: Global, bytes: &[u8], count: usize) -> Result<bool, Memory> {
     let mut keeper = MemKeeper::new(alloc);
     let is_kept = keeper.commit(alloc, &one_byte_blobs(alloc, bytes)?).is_ok();
-    Ok(is_kept
-        && count_objects(alloc, &mut keeper) == Some(count)
-        && has_each(alloc, &mut keeper, bytes))
+    Ok(
+        is_kept
+            && count_objects(alloc, &mut keeper) == Some(count)
+            && has_each(alloc, &mut keeper, bytes),
+    )
 }
 
 // Bytes, and how many of them differ.
@@ -65,7 +68,7 @@ const BLOBS: [(&[u8], usize); 7] = [
 #[test]
 fn each_object_of_a_commit_is_kept_once(rt: HostRuntime) -> Result<(), Memory> {
     for (row, (bytes, count)) in BLOBS.iter().enumerate() {
-        assert!(rt; keeps(rt.alloc(), *bytes, *count)?, "row {row}");
+        want(&rt, row, keeps(rt.alloc(), *bytes, *count)?);
     }
     Ok(())
 }

@@ -22,6 +22,8 @@ mod line_rows;
 #[cfg(test)]
 mod reading_rows;
 #[cfg(test)]
+mod rows;
+#[cfg(test)]
 mod source_rows;
 #[cfg(test)]
 mod text_rows;

@@ -1,3 +1,4 @@
+use crate::rows::want;
 use text_reader::{NumberFault, read_decimal, read_decimal_within, read_hexadecimal};
 
 const NUMBERS: [(&[u8], Option<u64>); 8] = [
@@ -14,7 +15,7 @@ const NUMBERS: [(&[u8], Option<u64>); 8] = [
 #[test]
 fn numbers_have_one_form(rt: HostRuntime) {
     for (row, (text, number)) in NUMBERS.iter().enumerate() {
-        assert!(rt; read_decimal(*text) == *number, "row {row}");
+        want(&rt, row, read_decimal(*text) == *number);
     }
     assert!(rt; read_hexadecimal::<2>(b"0aff") == Some([10, 255]));
     assert!(rt; read_hexadecimal::<2>(b"0aFF").is_none());
@@ -35,6 +36,6 @@ const WITHIN: [(&[u8], Result<u64, NumberFault>); 7] = [
 #[test]
 fn numbers_stay_within_a_limit(rt: HostRuntime) {
     for (row, (text, answer)) in WITHIN.iter().enumerate() {
-        assert!(rt; read_decimal_within(*text, 16777216) == *answer, "row {row}");
+        want(&rt, row, read_decimal_within(*text, 16777216) == *answer);
     }
 }

@@ -69,7 +69,7 @@ fn gives_the_next(source: &mut StdSource<Pipe>, byte: u8) -> bool {
 fn an_interrupted_call_is_made_again(rt: HostRuntime) {
     let mut source = StdSource::new(pipe_of([7, 8, 9]));
     for byte in [7, 8, 9] {
-        assert!(rt; gives_the_next(&mut source, byte), "byte {byte}");
+        assert!(rt; gives_the_next(&mut source, byte));
     }
     assert!(rt; source.read(&mut [0; 2]) == Err(Failed));
     let mut sink = StdSink::new(pipe_of([0; 3]));

@@ -1,3 +1,4 @@
+use crate::rows::want;
 use git_object::{Commit, KeyId, Kind, Mode, ObjectFault, Tag, Tree, id_of};
 use octets::{Copied, Memory, Octets};
 use std::alloc::Global;
@@ -134,9 +135,18 @@ const BAD_TREES: [(&[u8], usize); 14] = [
     (b"100644 .\0................................", 0),
     (b"100644 ..\0................................", 0),
     (b"40000 .git\0................................", 0),
-    (b"100644 b\0................................100644 a\0................................", 41),
-    (b"100644 a\0................................120000 a\0................................", 41),
-    (b"40000 a\0................................100644 a.b\0................................", 40),
+    (
+        b"100644 b\0................................100644 a\0................................",
+        41,
+    ),
+    (
+        b"100644 a\0................................120000 a\0................................",
+        41,
+    ),
+    (
+        b"40000 a\0................................100644 a.b\0................................",
+        40,
+    ),
     (
         b"100644 a\0................................100644 a.b\0................................40000 a\0................................",
         84,
@@ -146,16 +156,31 @@ const BAD_TREES: [(&[u8], usize); 14] = [
 // A body and the place at which it is no commit's.
 const BAD_COMMITS: [(&[u8], usize); 4] = [
     (b"", 0),
-    (b"tree 6EF19B41225C5369F1C104D45D8D85EFA9B057B53B14B4B9B939DD74DECC5321\n", 0),
-    (b"tree 6ef19b41225c5369f1c104d45d8d85efa9b057b53b14b4b9b939dd74decc5321", 0),
-    (b"tree 6ef19b41225c5369f1c104d45d8d85efa9b057b53b14b4b9b939dd74decc5321\nparent 6ef1\n", 70),
+    (
+        b"tree 6EF19B41225C5369F1C104D45D8D85EFA9B057B53B14B4B9B939DD74DECC5321\n",
+        0,
+    ),
+    (
+        b"tree 6ef19b41225c5369f1c104d45d8d85efa9b057b53b14b4b9b939dd74decc5321",
+        0,
+    ),
+    (
+        b"tree 6ef19b41225c5369f1c104d45d8d85efa9b057b53b14b4b9b939dd74decc5321\nparent 6ef1\n",
+        70,
+    ),
 ];
 
 // A body and the place at which it is no tag's.
 const BAD_TAGS: [(&[u8], usize); 3] = [
     (b"", 0),
-    (b"object 6ef19b41225c5369f1c104d45d8d85efa9b057b53b14b4b9b939dd74decc5321\n", 72),
-    (b"object 6ef19b41225c5369f1c104d45d8d85efa9b057b53b14b4b9b939dd74decc5321\ntype commits\n", 72),
+    (
+        b"object 6ef19b41225c5369f1c104d45d8d85efa9b057b53b14b4b9b939dd74decc5321\n",
+        72,
+    ),
+    (
+        b"object 6ef19b41225c5369f1c104d45d8d85efa9b057b53b14b4b9b939dd74decc5321\ntype commits\n",
+        72,
+    ),
 ];
 
 fn is_refused_at(fault: Option<ObjectFault>, at: usize) -> bool {
@@ -165,17 +190,29 @@ fn is_refused_at(fault: Option<ObjectFault>, at: usize) -> bool {
 #[test]
 fn a_tree_is_refused_at_its_first_bad_entry(rt: HostRuntime) {
     for (row, (body, at)) in BAD_TREES.iter().enumerate() {
-        assert!(rt; is_refused_at(Tree::read(rt.alloc(), *body).err(), *at), "row {row}");
+        want(
+            &rt,
+            row,
+            is_refused_at(Tree::read(rt.alloc(), *body).err(), *at),
+        );
     }
 }
 
 #[test]
 fn a_commit_and_a_tag_are_refused_at_their_first_bad_line(rt: HostRuntime) {
     for (row, (body, at)) in BAD_COMMITS.iter().enumerate() {
-        assert!(rt; is_refused_at(Commit::read(rt.alloc(), *body).err(), *at), "commit {row}");
+        want(
+            &rt,
+            row,
+            is_refused_at(Commit::read(rt.alloc(), *body).err(), *at),
+        );
     }
     for (row, (body, at)) in BAD_TAGS.iter().enumerate() {
-        assert!(rt; is_refused_at(Tag::read(rt.alloc(), *body).err(), *at), "tag {row}");
+        want(
+            &rt,
+            row,
+            is_refused_at(Tag::read(rt.alloc(), *body).err(), *at),
+        );
     }
 }
 

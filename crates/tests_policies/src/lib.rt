@@ -14,3 +14,5 @@ mod limit_rows;
 mod log_rows;
 #[cfg(test)]
 mod pattern_rows;
+#[cfg(test)]
+mod rows;

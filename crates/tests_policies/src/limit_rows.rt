@@ -1,5 +1,6 @@
 //! The most rules and keys of a policy, and which bytes stand in a name.
 
+use crate::rows::want;
 use octets::Octets;
 use root_metadata::{Key, Keys, Persons, is_name, key_id};
 use rule_delegations::{AssembleFault, Rules};
@@ -53,17 +54,20 @@ fn too_many(alloc: Global, rules: usize, keys: usize) -> Result<Option<usize>, F
     }
 }
 
+// Rules, listed keys, and how many are too many.
+const COUNTED: [(usize, usize, Option<usize>); 5] = [
+    (1024, 1024, None),
+    (1025, 0, Some(1025)),
+    (0, 1025, Some(1025)),
+    (1026, 1025, Some(1026)),
+    (1025, 1026, Some(1025)),
+];
+
 // Rules are counted first, and then keys.
 #[test]
 fn rules_and_listed_keys_are_counted(rt: HostRuntime) -> Result<(), Fail> {
-    for (rules, keys, many) in [
-        (1024usize, 1024usize, None),
-        (1025, 0, Some(1025usize)),
-        (0, 1025, Some(1025)),
-        (1026, 1025, Some(1026)),
-        (1025, 1026, Some(1025)),
-    ] {
-        assert!(rt; too_many(rt.alloc(), rules, keys)? == many, "{rules} rules and {keys} keys");
+    for (row, (rules, keys, many)) in COUNTED.into_iter().enumerate() {
+        want(&rt, row, too_many(rt.alloc(), rules, keys)? == many);
     }
     Ok(())
 }
@@ -77,7 +81,7 @@ fn stands_in_names(byte: u8, stands: bool) -> bool {
 fn each_byte_stands_in_a_name_or_not(rt: HostRuntime) {
     for byte in 0..128u8 {
         let stands = byte.is_ascii_alphanumeric() || byte == b'.' || byte == b'_' || byte == b'-';
-        assert!(rt; stands_in_names(byte, stands), "byte {byte}");
+        want(&rt, byte as usize, stands_in_names(byte, stands));
     }
     assert!(rt; !is_name(b"a\x80") && !is_name(b"a\xff"));
 }

@@ -1,3 +1,4 @@
+use crate::rows::want;
 use git_object::{Ids, KeyId, Kind, ObjectId, RefName, id_of};
 use itoa::Buffer;
 use judging::{Engine, EntryVerdict, Verdict};
@@ -154,25 +155,93 @@ fn seen(
 
 // What the entries of the log say, whose key signed each, and what is seen after it.
 const LOG: [(Says, u8, &[u8]); 19] = [
-    (Says::Moves(b"11"), b'a', b"no policy by - under - without at 11"),
-    (Says::Brings(b'a'), b'-', b"unsigned by - under - without at 11"),
-    (Says::Brings(b'a'), b'b', b"authorised by - under a without at 11"),
-    (Says::Moves(b"22"), b'a', b"authorised by a under a without at 22"),
-    (Says::Moves(b"33"), b'b', b"stranger by - under a without at 33"),
+    (
+        Says::Moves(b"11"),
+        b'a',
+        b"no policy by - under - without at 11",
+    ),
+    (
+        Says::Brings(b'a'),
+        b'-',
+        b"unsigned by - under - without at 11",
+    ),
+    (
+        Says::Brings(b'a'),
+        b'b',
+        b"authorised by - under a without at 11",
+    ),
+    (
+        Says::Moves(b"22"),
+        b'a',
+        b"authorised by a under a without at 22",
+    ),
+    (
+        Says::Moves(b"33"),
+        b'b',
+        b"stranger by - under a without at 33",
+    ),
     (Says::Notes(5), b'a', b"noted by - under a without at 33"),
     (Says::Skips(&[5]), b'b', b"noted by - under a without at 33"),
-    (Says::Skips(&[5]), b'a', b"noted by - under a without 5 at 22 may rescue"),
-    (Says::Moves(b"29"), b'b', b"stranger by - under a without 5 at 29"),
-    (Says::Skips(&[9]), b'a', b"noted by - under a without 5 9 at 22 may rescue"),
-    (Says::Moves(b"27"), b'a', b"authorised by a under a without 5 9 at 27"),
-    (Says::Skips(&[4, 3]), b'a', b"noted by - under a without 3 4 5 9 at 27"),
-    (Says::Brings(b'd'), b'b', b"stranger by - under a without 3 4 5 9 at 27"),
-    (Says::Brings(b'd'), b'a', b"authorised by - under d without 3 4 5 9 at 27"),
-    (Says::Moves(b"44"), b'a', b"stranger by - under d without 3 4 5 9 at 44"),
-    (Says::Skips(&[15]), b'a', b"noted by - under d without 3 4 5 9 at 44"),
-    (Says::Skips(&[15]), b'd', b"noted by - under d without 3 4 5 9 15 at 27 may rescue"),
-    (Says::Moves(b"55"), b'd', b"authorised by d under d without 3 4 5 9 15 at 55"),
-    (Says::Moves(b"00"), b'd', b"authorised by d under d without 3 4 5 9 15 at 00"),
+    (
+        Says::Skips(&[5]),
+        b'a',
+        b"noted by - under a without 5 at 22 may rescue",
+    ),
+    (
+        Says::Moves(b"29"),
+        b'b',
+        b"stranger by - under a without 5 at 29",
+    ),
+    (
+        Says::Skips(&[9]),
+        b'a',
+        b"noted by - under a without 5 9 at 22 may rescue",
+    ),
+    (
+        Says::Moves(b"27"),
+        b'a',
+        b"authorised by a under a without 5 9 at 27",
+    ),
+    (
+        Says::Skips(&[4, 3]),
+        b'a',
+        b"noted by - under a without 3 4 5 9 at 27",
+    ),
+    (
+        Says::Brings(b'd'),
+        b'b',
+        b"stranger by - under a without 3 4 5 9 at 27",
+    ),
+    (
+        Says::Brings(b'd'),
+        b'a',
+        b"authorised by - under d without 3 4 5 9 at 27",
+    ),
+    (
+        Says::Moves(b"44"),
+        b'a',
+        b"stranger by - under d without 3 4 5 9 at 44",
+    ),
+    (
+        Says::Skips(&[15]),
+        b'a',
+        b"noted by - under d without 3 4 5 9 at 44",
+    ),
+    (
+        Says::Skips(&[15]),
+        b'd',
+        b"noted by - under d without 3 4 5 9 15 at 27 may rescue",
+    ),
+    (
+        Says::Moves(b"55"),
+        b'd',
+        b"authorised by d under d without 3 4 5 9 15 at 55",
+    ),
+    (
+        Says::Moves(b"00"),
+        b'd',
+        b"authorised by d under d without 3 4 5 9 15 at 00",
+    ),
 ];
 
 fn is_first_without_policy(verdict: &Verdict<SmallFault>) -> bool {
@@ -197,7 +266,7 @@ fn each_entry_is_answered(rt: HostRuntime) -> Result<(), Fail> {
         let entry = entry_of(alloc, number, says, signer)?;
         let answer = answer(alloc, &mut engine, &mut store, &entry)?;
         let seen = seen(alloc, answer, &engine, &name)?;
-        assert!(rt; seen.as_slice() == wanted, "entry {number}");
+        want(&rt, number as usize, seen.as_slice() == wanted);
     }
     let verdict = engine.verdict(&name, &ObjectId::zeros())?;
     assert!(rt; is_first_without_policy(&verdict));

@@ -1,3 +1,4 @@
+use crate::rows::want;
 use octets::Octets;
 use ref_patterns::{Pattern, PatternFault, Space, is_pattern};
 use std::alloc::Global;
@@ -46,7 +47,7 @@ fn is_read_so(alloc: Global, text: &[u8], place: Option<usize>) -> bool {
 #[test]
 fn patterns_are_read(rt: HostRuntime) -> Result<(), Fail> {
     for (row, (text, place)) in READ.iter().enumerate() {
-        assert!(rt; is_read_so(rt.alloc(), *text, *place), "row {row}");
+        want(&rt, row, is_read_so(rt.alloc(), *text, *place));
     }
     let longest = run_of(rt.alloc(), b"git:", b'a', 512)?;
     assert!(rt; is_read_so(rt.alloc(), longest.as_slice(), None));
@@ -84,7 +85,11 @@ fn is_match(alloc: Global, text: &[u8], space: Space, name: &[u8]) -> Result<boo
 #[test]
 fn globs_match(rt: HostRuntime) -> Result<(), Fail> {
     for (row, (text, space, name, answer)) in GLOBS.iter().enumerate() {
-        assert!(rt; is_match(rt.alloc(), *text, *space, *name)? == *answer, "row {row}");
+        want(
+            &rt,
+            row,
+            is_match(rt.alloc(), *text, *space, *name)? == *answer,
+        );
     }
     Ok(())
 }
