@@ -120,12 +120,12 @@ fn is_refused_changed(public: &PublicKey, signature: &mut [u8], at: usize, bits:
 // the last byte, each with the bits to turn.
 fn changes_of(kind: OtsType, q: u32) -> [(usize, u8); 5] {
     let one_time_len = kind.signature_len();
-    let last = LmsType::H5.signature_len(kind) - 1;
+    let last = LmsType::H5.signature_len(kind).saturating_sub(1);
     [
         (3, 1),
         (3, q as u8 ^ 32),
         (7, 7),
-        (7 + one_time_len, 3),
+        (one_time_len.saturating_add(7), 3),
         (last, 1),
     ]
 }
