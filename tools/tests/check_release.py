@@ -11,7 +11,7 @@ import tarfile
 import time
 
 from check_launcher import bare_environment
-from checking import TOP, VERIFY, Failure, Skip, want
+from checking import VERIFY, Failure, Skip, want
 from made_releases import ARCHIVE, KIT, RELEASED, Checkout, own_processor, packages, programs_here, releases, stand_ins
 from rows_histories import BEFORE, MAIN, MAINTAINER, guarded
 from rows_runs import Anew, Run
