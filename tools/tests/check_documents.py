@@ -140,7 +140,8 @@ def missing_on(crate):
     found = [f"{page}: must-fail/{it}" for it in sorted(edits ^ kept)]
     paths = (it for it in quoted if re.match(r"(?:src|specs|proofs)/", it))
     found += [f"{page}: {it}" for it in paths if not os.path.exists(os.path.join(TOP, "crates", crate, it))]
-    return found + [f"{page}: {it}" for it in quoted if re.fullmatch(r"\w*laws(?:::\w+)*", it) and not is_call(f"{crate}::{it}")]
+    laws = {it for it in quoted if re.fullmatch(r"\w*laws(?:::\w+)*", it)} - {crate}
+    return found + [f"{page}: {it}" for it in sorted(laws) if not is_call(f"{crate}::{it}")]
 
 
 def crates_have_pages(repositories):

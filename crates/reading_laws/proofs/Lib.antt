@@ -1,0 +1,10 @@
+pub mod DecodedBytes
+pub mod LineTexts
+pub mod LineWalks
+pub mod Messages
+pub mod Bodies
+pub mod Heads
+pub mod OtherHeads
+pub mod EntryTexts
+pub mod EnvelopeSignatures
+pub mod EnvelopeTexts
