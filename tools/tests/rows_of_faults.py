@@ -3,13 +3,13 @@
 from rows_histories import BEFORE, KEEPER, MAIN, MAINTAINER, NEWCOMER, OWNER, POLICY
 from rows_histories import History, asked, asked_again, base_files, base_root, base_top, guarded, top_file
 from rows_objects import EXECUTABLE, FILE, LINK, PROGRAM, ZEROS
-from rows_policies import envelope, root, rule, rule_file
+from rows_policies import encoded, envelope, root, rule, rule_file
 from rows_runs import Anew, Held, Run, done, given, refused
 from rows_signing import LEAVES
 
 NOWHERE = "e" * 64
-# Rules stand in a chain so long at most, a policy file has so many bytes, and a file so many rules.
-DEEPEST, LARGEST, MOST_RULES = 8, 1_048_576, 1_024
+# Rules stand in a chain so long at most, a policy file has so many bytes and signatures, and a file so many rules.
+DEEPEST, LARGEST, MOST_SIGNATURES, MOST_RULES = 8, 1_048_576, 64, 1_024
 
 
 def verdicts(rows):
@@ -93,6 +93,22 @@ def forms_of_a_policy_file():
     return verdicts(rows)
 
 
+def with_signatures(count):
+    """A root alone that so many signatures stand under, of which the last is the owner's, where there is any."""
+
+    def sealed_so(history):
+        ours = [(OWNER.id, history.sign(OWNER, encoded(base_root())))] if count else []
+        return {b"root.json": envelope(base_root(), [(None, b"")] * (count - 1) + ours)}
+
+    return sealed_so
+
+
+def numbers_of_signatures():
+    """A file with one signature and with 64, with none and with one more."""
+    read = ((with_signatures(count), None) for count in (1, MOST_SIGNATURES))
+    return verdicts((*read, *((with_signatures(count), "bad-file root") for count in (0, MOST_SIGNATURES + 1))))
+
+
 def chain(length, rules=None, **more):
     """Rule files in one another, each with one rule, of which the top file has the first: so many rules; or these rules in
     the top file, of the person `p`, and more files."""
@@ -156,6 +172,7 @@ def root_that_does_not_succeed():
 ROWS = (
     files_of_a_policy,
     forms_of_a_policy_file,
+    numbers_of_signatures,
     numbers_of_rules,
     faults_of_rules_in_order,
     policy_gone,
