@@ -70,7 +70,10 @@ def texts_of(twins):
         if not twin.title or not twin.by or kinds != {DEFINITION, CODE}:
             raise BadTwin("it lacks its title, what refuses it, or texts in a definition and in code")
         for file, *pair in twin.pairs:
-            pairs.setdefault(file, []).append(pair)
+            of_file = pairs.setdefault(file, [])
+            # One slip that two rows are to refuse is two twins.
+            if pair not in of_file:
+                of_file.append(pair)
     found = {}
     for file, of_file in pairs.items():
         try:
