@@ -28,7 +28,7 @@ for it in git git-gittuf
     complete -c $it -n '__git_gittuf_is key' -l file -l height -l width -l bottom -l id -l public
     complete -c $it -n '__git_gittuf_is record recover push approve' -f -a '(__git_gittuf_names refs/heads refs/tags)'
     complete -c $it -n '__git_gittuf_is approve' -l delete
-    complete -c $it -n '__git_gittuf_is verify' -f -a '(__git_gittuf_names refs/heads refs/tags refs/remotes)' -l root -l pinned
+    complete -c $it -n '__git_gittuf_is verify' -f -a '(__git_gittuf_names refs/heads refs/tags refs/remotes)' -l root -l pinned -l json -s v
     complete -c $it -n '__git_gittuf_is push sync' -l remote
     complete -c $it -n '__git_gittuf_is record recover push sync approve skip note doctor' -l anyway
     complete -c $it -n '__git_gittuf_is policy' -f -a "$steps"

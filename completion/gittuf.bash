@@ -46,7 +46,7 @@ _git_gittuf() {
         record | recover | push) _gittuf_reply -W "--anyway $(_gittuf_branches)" ;;
         approve) _gittuf_reply -W "--anyway --delete $(_gittuf_branches)" ;;
         sync) _gittuf_reply -W '--anyway --remote' ;;
-        verify) _gittuf_reply -W "--root --pinned --json $(_gittuf_branches) $(_gittuf_remote_branches)" ;;
+        verify) _gittuf_reply -W "--root --pinned -v --json $(_gittuf_branches) $(_gittuf_remote_branches)" ;;
         log) _gittuf_reply -W '-v --json' ;;
         report) _gittuf_reply -f -W '-o --root --pinned' ;;
         explain) _gittuf_reply -f -W "$(_gittuf_branches)" ;;

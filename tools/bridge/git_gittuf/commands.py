@@ -2,7 +2,7 @@
 
 import os
 
-from git_gittuf import following, history, keys, leaves, looking, names, remotes, sentences, settings
+from git_gittuf import consents, copying, following, history, keys, leaves, looking, names, policies, remotes, sentences, settings
 from git_gittuf.program import Ended
 from git_gittuf.remotes import is_before
 from git_gittuf.repository import ATTESTATIONS, LOG, ZEROS, Stopped
@@ -75,6 +75,12 @@ def expect_no_step_back(work, name, value):
     raise Stopped(f"{said}; --anyway records that it goes back", 3)
 
 
+def expect_own(name):
+    """Refuses to sign for where something of a remote was seen."""
+    if not copying.belongs(name):
+        raise Stopped(f"{plain(os.fsdecode(name))} is no branch or tag of one's own: what a remote has is recorded by its name there", 3)
+
+
 def recorded_by(work, name, value, path, anyway=False):
     """Records where a reference stands, where that is lawful, and returns the program's line."""
     work.bring(maybe=[value] if value else [])
@@ -96,6 +102,7 @@ def record(work, words):
     repository = work.repository
     work.bring()
     name = names.own_name(repository, words.branch)
+    expect_own(name)
     value = repository.references().get(name)
     if value is None and history.last_recorded(repository, name)[1] is None:
         raise names.no_such(repository, words.branch, history.recorded_names(work))
@@ -126,6 +133,7 @@ def approved_by(work, name, target, path):
 def approve(work, words):
     repository = work.repository
     name = os.fsdecode(names.own_name(repository, words.branch))
+    expect_own(os.fsencode(name))
     if words.delete and words.commit:
         raise Stopped("--delete approves that a branch goes, and takes no commit", 2)
     target = ZEROS if words.delete else repository.commit_of(words.commit or name)
@@ -133,7 +141,7 @@ def approve(work, words):
     path = leaves.signing_key(repository)
     expect_one_log(work, words.anyway)
     if not words.anyway:
-        looking.expect_person(work, looking.key_id(path), "an approval by it")
+        consents.expect_wanted(work, os.fsencode(name), None if words.delete else target, looking.key_id(path))
     show(approved_by(work, name, target, path))
     shown, what = plain(names.short(os.fsencode(name))), "is gone" if words.delete else "has these files"
     say(f"Once it is pushed, who records that {shown} {what} has your signature for it.")
@@ -169,9 +177,10 @@ def entry_ids(work, words):
 def annotate(work, words):
     work.bring()
     path = leaves.signing_key(work.repository)
+    ids = entry_ids(work, words.entries)
     if words.word == "skip" and not words.anyway:
-        looking.expect_person(work, looking.key_id(path), "a skip by it")
-    asked = ("annotate", words.word, entry_ids(work, words.entries))
+        consents.expect_skips(work, ids.split(","), looking.key_id(path))
+    asked = ("annotate", words.word, ids)
     more = (f"--message={words.message}",) if words.message else ()
     show(work.change(lambda: work.asked(*asked, *more, key=path)))
     if words.word == "skip":
@@ -205,9 +214,16 @@ def explain(work, words):
     if first == b"rule":
         say(f"A change of {plain(name)} needs the signatures that one of these rules wants.")
     elif first == b"unprotected":
-        say(f"No rule protects {plain(name)}: anybody may change it.")
+        say(f"No rule protects {plain(name)}: anybody may change it{of_its_paths(work, name)}.")
     else:
         say("No policy is in force: git gittuf policy init begins one.")
+
+
+def of_its_paths(work, name):
+    """What is said of a branch or tag that no rule protects, where rules protect paths that it may have."""
+    rules = consents.asked_by_paths(policies.in_force(work)) if name.startswith("git:") else []
+    named = ", ".join(plain(it["name"]) for it in rules)
+    return f", but for the paths of {named}, of which its first record counts each that it has as changed" if named else ""
 
 
 def failed(ended):

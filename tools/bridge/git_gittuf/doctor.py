@@ -138,7 +138,7 @@ def doctor(work, words):
             print(f"{name.decode()} goes from {own.decode()} to {value.decode()}")
         work.copy()
         return 0
-    status, printed = work.run("log")
+    status, printed = work.read("log")
     found = [*of_key(work.repository), *of_remotes(work, not status), *of_names(work.repository)]
     found += of_log(work, status, printed)
     for what, mends in found:

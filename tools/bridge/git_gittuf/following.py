@@ -5,8 +5,8 @@ approvals stand where the own log records them, and nowhere else. What a remote 
 """
 
 from git_gittuf import epochs, history, seen, signers
-from git_gittuf.remotes import beside, is_before, remotes, standing
-from git_gittuf.repository import ATTESTATIONS, LOG, POLICY, STAGED, TARGETS, ZEROS, Stopped
+from git_gittuf.remotes import beside, is_before, standing
+from git_gittuf.repository import ATTESTATIONS, LOG, POLICY, STAGED, ZEROS, Stopped
 from git_gittuf.shown import plain, quoted
 
 # How what a remote has may stand so that it does not fit what is here.
@@ -36,45 +36,32 @@ def to_recorded(repository, references, entries):
     return moves
 
 
-def kept_targets(references, remote, entries):
-    """The moves that keep here what a remote keeps of what entries recorded."""
-    front = beside(remote, TARGETS)
-    recorded = {rest[1] for _, _, kind, rest in entries if kind == b"ref"}
-    there = {name[len(front) :]: value for name, value in references.items() if name.startswith(front)}
-    wanted = {TARGETS + rest: value for rest, value in there.items() if rest == value and rest in recorded}
-    return {name: (ZEROS, value) for name, value in wanted.items() if name not in references}
-
-
 def followed_log(work, references):
-    """The moves of the log and of what is edited, what the program printed of the log then, and what does not fit."""
-    moves, printed, unfit, tips = {}, None, [], seen.read(work.repository)
+    """The moves of the log and of what is edited, and what does not fit."""
+    moves, unfit, tips = {}, [], seen.read(work.repository)
     for remote, name, _, value, how in standing(work.repository, references):
         if name == LOG:
             how = seen.went_back(work.repository, references, remote, how, tips)
         own = moves[name][1] if name in moves else references.get(name)
         if how == "behind" and own is not None and not is_before(work.repository, own, value):
             continue
-        if how == "behind" and name == LOG:
-            lines = work.log_at(value)
-            how, printed = ("broken", printed) if lines is None else (how, lines)
+        if how == "behind" and name == LOG and work.log_at(value) is None:
+            how = "broken"
         if how == "behind":
             moves[name] = (references.get(name, ZEROS), value)
         elif how in UNFIT:
             unfit.append((remote, name, how))
-    return moves, printed, unfit
+    return moves, unfit
 
 
 def to_follow(work, changed):
     """The moves of the own references to where remotes' go on from them, and what of remotes does not fit."""
     repository, references = work.repository, work.repository.references()
-    moves, printed, unfit = followed_log(work, references)
-    if printed is None and changed and LOG in references:
-        printed = work.log_at(references[LOG])
+    moves, unfit = followed_log(work, references)
+    tip = moves[LOG][1] if LOG in moves else references.get(LOG) if changed else None
+    printed = work.log_at(tip) if tip else None
     if printed is not None:
-        entries = history.entries(printed)
-        moves.update(to_recorded(repository, references, entries))
-        for remote in remotes(repository):
-            moves.update(kept_targets(references, remote, entries))
+        moves.update(to_recorded(repository, references, history.entries(printed)))
     seen.note(repository, references, moves.get(LOG, (None, references.get(LOG)))[1], unfit)
     return moves, unfit
 

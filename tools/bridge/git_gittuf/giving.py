@@ -15,8 +15,10 @@ from packs import EMPTY_TREE, Pack
 
 ENTRY = re.compile(rb"([0-7]+) ([^\0]+)\0(.{32})", re.DOTALL)
 PARENT = re.compile(rb"(?:tree|parent) ([0-9a-f]{64})\n")
+# The lines of a tag that name another object, and its kind.
+TAGGED = re.compile(rb"object ([0-9a-f]{64})\ntype (\w+)\n")
 # What Git is given first, so that whatever it has got has all that it names.
-ORDER = (b"blob", b"tree", b"commit")
+ORDER = (b"blob", b"tree", b"commit", b"tag")
 
 
 class Journal:
@@ -55,8 +57,16 @@ class Journal:
                 os.remove(it)
 
 
+def parents_in(kind, body):
+    """The ids of a commit's parents."""
+    return PARENT.findall(body.partition(b"\n\n")[0] + b"\n")[1:] if kind == b"commit" else []
+
+
 def named_in(kind, body):
-    """The ids of the objects that a commit or a tree names, but the commits of other repositories."""
+    """The ids of the objects that a commit, a tag or a tree names, but the commits of other repositories."""
+    if kind == b"tag":
+        found = TAGGED.match(body)
+        return [found[1]] if found else []
     if kind == b"commit":
         return PARENT.findall(body.partition(b"\n\n")[0] + b"\n")
     if kind == b"tree":
@@ -74,6 +84,11 @@ def added_objects(kept, tips, known):
         kind, body = kept.read(object_id)
         found[object_id] = (kind, body)
         waiting.extend(named_in(kind, body))
+    return in_order(found)
+
+
+def in_order(found):
+    """Objects by kind, and the oldest first, of which the newest were found first."""
     return sorted(reversed(found.items()), key=lambda it: ORDER.index(it[1][0]))
 
 

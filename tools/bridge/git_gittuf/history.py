@@ -4,7 +4,7 @@ import base64
 import re
 
 from git_gittuf.repository import LOG, OWN, TARGETS, ZEROS
-from git_gittuf.remotes import is_before
+from git_gittuf.remotes import fetched, is_before
 
 SPECIAL = re.compile(rb"([.*\[\]^$\\])")
 TARGET = re.compile(rb"^targetID: ([0-9a-f]{64})$", re.MULTILINE)
@@ -32,25 +32,27 @@ def is_skipped(repository, entry):
 
 
 def kept_targets(repository, name, value):
-    """The references that keep what is recorded, as far as a branch that goes on from it does not.
+    """The references that keep what is recorded, and what was recorded last where no reference reaches that any more.
 
-    Whoever judges the next entry compares with what was recorded last, also in a clone that never had it. A tag goes on
-    from nothing, so what is recorded of one is kept from the first on.
+    Whoever judges the next entry compares with what was recorded last, also in a clone that never had it.
     """
     kept = last_target(repository, name, value)
-    if value is not None and not name.startswith(b"refs/heads/") and not name.startswith(OWN):
+    if value is not None and not name.startswith(OWN):
         kept[TARGETS + value] = value
     return kept
 
 
 def last_target(repository, name, value):
-    """The reference that keeps what was recorded last, where no branch will reach it once this value is recorded."""
+    """The reference that keeps what was recorded last, where no branch will reach it once this value is recorded.
+
+    What no remote has was kept by who recorded it, or is nobody else's.
+    """
     entry, last = last_recorded(repository, name)
     if last in (None, ZEROS) or not repository.there([last]):
         return {}
     if value is not None and is_before(repository, last, value) or is_skipped(repository, entry):
         return {}
-    return {TARGETS + last: last}
+    return {TARGETS + last: last} if last in fetched(repository, repository.references(), [last]) else {}
 
 
 def entries(lines):
@@ -69,6 +71,12 @@ def skipped(repository, listed):
     for _, _, body in repository.bodies([it[1] for it in listed if it[2] == b"skip"]):
         found.update(ANNOTATED.findall(body.partition(b"\n\n")[2]))
     return found
+
+
+def skips_of(repository, listed, entry_id):
+    """The ids of the annotations among these that skip an entry."""
+    bodies = repository.bodies([it[1] for it in listed if it[2] == b"skip"])
+    return [found for found, _, body in bodies if entry_id in ANNOTATED.findall(body.partition(b"\n\n")[2])]
 
 
 def message_of(body):

@@ -31,15 +31,27 @@ class Kept:
         self.beside = folder
         self.folder = os.path.join(folder, "kept")
         self.objects = os.path.join(self.folder, "objects")
+        self.small = os.path.join(folder, "small")
         self.added = []
+        # How often something here was, or may have been, changed.
+        self.changes = 0
 
     def make(self):
+        self.changes += 1
         shutil.rmtree(os.path.join(self.beside, "removed"), ignore_errors=True)
+        if not self.is_there():
+            with open(self.small, "wb"):
+                # That it is there is all that it says.
+                pass
         for it in (self.objects, os.path.join(self.folder, "refs")):
             os.makedirs(it, exist_ok=True)
 
     def is_there(self):
         return os.path.isdir(self.objects)
+
+    def is_small(self):
+        """Whether only what judging reads was put in, which earlier stores did not keep to."""
+        return os.path.exists(self.small)
 
     def marks(self):
         return {it for it in ("open.lock", "commit.lock") if os.path.lexists(os.path.join(self.folder, it))}
@@ -50,6 +62,7 @@ class Kept:
 
     def remove(self):
         """Takes the whole store away, and at once, so that no half of one is found."""
+        self.changes += 1
         aside = os.path.join(self.beside, "removed")
         shutil.rmtree(aside, ignore_errors=True)
         if os.path.lexists(self.folder):
@@ -102,6 +115,7 @@ class Kept:
         return kind, body
 
     def write(self, path, text):
+        self.changes += 1
         beside = os.path.join(self.beside, "new")
         with open(beside, "wb") as file:
             file.write(text)
@@ -110,6 +124,11 @@ class Kept:
 
     def put(self, object_id, kind, body):
         self.write(os.path.join(self.objects, object_id.decode()), b"%s %d\0%s" % (kind, len(body), body))
+
+    def take_out(self, object_id):
+        """Removes an object again."""
+        self.changes += 1
+        os.remove(os.path.join(self.objects, object_id.decode()))
 
     def write_out(self):
         """Waits until what was put in stands on the disk, before a reference says that it is there."""
@@ -154,6 +173,7 @@ class Kept:
 
     def drop(self, path):
         """Removes a reference's file, and the folders above it that became empty."""
+        self.changes += 1
         os.remove(path)
         top = os.path.join(self.folder, "refs")
         at = os.path.dirname(path)

@@ -28,18 +28,29 @@ class Listing:
         self.work, self.entries = work, history.entries(printed)
         self.bodies = {it: body or b"" for it, _, body in work.repository.bodies([it[1] for it in self.entries])}
         self.numbers = {it[1]: it[0] for it in self.entries}
-        self.epochs = [(number, signers.People(policies.Policy(work.repository, it))) for number, it in epochs.of_entries(work.repository, self.entries)]
+        found = epochs.of_entries(work.repository, self.entries)
+        self.epochs = [(number, signers.People(policies.Policy(work.repository, it))) for number, it in found]
+        self.people, self.keys = {}, {}
+        for people, entries in self.by_epoch():
+            bodies = {it[1]: self.bodies[it[1]] for it in entries}
+            self.keys.update(signers.of_bodies(work.repository, bodies, people.publics))
+            self.people.update({it[0]: people for it in entries})
+
+    def by_epoch(self):
+        """The entries that are judged by each policy, with its persons; the first one's own is among its, and before it are none."""
+        starts = [number for number, _ in self.epochs] + [len(self.entries)]
+        yield signers.People(), [it for it in self.entries if it[0] < starts[0] or not self.epochs]
+        for at, (start, people) in enumerate(self.epochs):
+            yield people, [it for it in self.entries if start + bool(at) <= it[0] <= starts[at + 1]]
 
     def people_at(self, number):
         """The persons of the policy by which an entry is judged, and for the first policy its own."""
-        found = [it for at, it in self.epochs if at < number] or [it for at, it in self.epochs if at == number]
-        return found[-1] if found else signers.People()
+        return self.people[number]
 
     def of(self, entry):
         """All that is told of an entry, by name."""
         number, entry_id, kind, rest = entry
-        body, people = self.bodies[entry_id], self.people_at(number)
-        key = people.keys_of(self.work.repository, [entry])[entry_id]
+        body, people, key = self.bodies[entry_id], self.people[number], self.keys[entry_id]
         found = {"number": number, "id": entry_id.decode(), "kind": kind.decode()}
         if kind == b"ref":
             found.update(ref=rest[0].decode(errors="surrogateescape"), target=rest[1].decode())
@@ -61,7 +72,7 @@ def in_words(told, line, people):
 
 def log(work, words):
     work.bring()
-    status, printed = work.run("log")
+    status, printed = work.read("log")
     if status or not (words.verbose or words.json):
         show(printed)
         return status

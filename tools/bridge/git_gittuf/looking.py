@@ -18,6 +18,7 @@ from git_gittuf.shown import plain, quoted
 
 FAULT = re.compile(r"violation (\S+) (\d+) (\S+)(?: (.*))?")
 COUNTS = re.compile(r"(?:(\S+) )?(\S+) (\d+) of (\d+)")
+ANYWAY = "--anyway signs it all the same"
 
 
 def root_words(work):
@@ -25,30 +26,26 @@ def root_words(work):
     return ("--root", root) if root else ()
 
 
-def verdict(work, name):
+def verdict(work, name, **how):
     """The program's line on a reference as it stands in the store."""
     words = ("verify-ref", os.fsdecode(name), *root_words(work))
-    status, printed = work.run(*words)
+    status, printed = work.read(*words, **how)
     if status not in (0, 1):
         # What nobody judged is not recorded.
         raise Ended(words, status, printed)
     return os.fsdecode(printed).strip()
 
 
+def entries_of(work):
+    return history.entries(work.asked("log")) if LOG in work.kept.references() else []
+
+
 def unsigned(work, name, value):
-    """The number that an entry of this value would have, and the verdict with one that nobody signed."""
-    tip = work.kept.references().get(LOG)
-    listed = history.entries(work.asked("log")) if tip else []
-    number = len(listed) + 1
-    entry_id, body = epochs.entry(number, tip, value or ZEROS, name)
-    is_new = not work.kept.has(entry_id)
-    work.kept.put(entry_id, b"commit", body)
-    try:
-        with work.standing_at(LOG, entry_id):
-            return number, verdict(work, name), listed
-    finally:
-        if is_new:
-            os.remove(os.path.join(work.kept.objects, entry_id.decode()))
+    """The number that an entry of this value would have, the verdict with one that nobody signed, and the entries before it."""
+    tip, listed = work.kept.references().get(LOG), entries_of(work)
+    entry_id, body = epochs.entry(len(listed) + 1, tip, value or ZEROS, name)
+    line = verdict(work, name, at=(LOG, entry_id), objects=[(entry_id, b"commit", body)])
+    return len(listed) + 1, line, listed
 
 
 def approvers(work, policy, name, value):
@@ -62,7 +59,7 @@ def approvers(work, policy, name, value):
 
 def last_counted(work, name):
     """The target of the last entry of a reference that is not skipped, or nothing."""
-    listed = history.entries(work.asked("log")) if LOG in work.kept.references() else []
+    listed = entries_of(work)
     gone = history.skipped(work.repository, listed)
     targets = [rest[1] for _, it, kind, rest in listed if kind == b"ref" and rest[0] == name and it not in gone]
     return targets[-1] if targets else None
@@ -84,31 +81,48 @@ def who_is_missing(policy, rule, signed):
     return persons, [it for it in persons if it not in have]
 
 
+def listing(names):
+    return ", ".join(map(plain, names)) or "its keys"
+
+
 def reason(work, name, value, line, key):
     """Why an entry is refused, in words with the next line to type, from the program's line on it."""
     found = FAULT.fullmatch(line)
     fault, rest = found[3], found[4] or ""
-    word, counts = quoted(short(name)), COUNTS.fullmatch(rest)
+    counts = COUNTS.fullmatch(rest)
     if fault not in ("ref-rule", "path-rule") or not counts:
         return f"it would be a violation: {plain(sentences.of_line(line))}"
     policy = policies.in_force(work)
     wanted, missing = who_is_missing(policy, counts[2], [*approvers(work, policy, name, value), key])
     what = f"a change of {plain(counts[1])}" if fault == "path-rule" else "it"
-    said = f"it would be a violation: rule {plain(counts[2])} wants {counts[4]} of {', '.join(map(plain, wanted)) or 'its keys'} for {what}"
+    said = f"it would be a violation: rule {plain(counts[2])} wants {counts[4]} of {listing(wanted)} for {what}"
     if key not in policy.publics():
         return f"{said}, and your key is that of none of the policy's persons"
-    to = "--delete " + word if value is None else f"{word} {value.decode()[:12]}"
-    return f"{said}; missing is {' or '.join(map(plain, missing)) or 'one more'}, who approves it by git gittuf approve {to}"
+    return f"{said}; missing is {' or '.join(map(plain, missing)) or 'one more'}, who approves it by {approval_of(name, value)}"
 
 
-def keys_for(work, what):
-    """The keys of those whom the rules of a branch or a path ask, as the program names these rules."""
-    policy = policies.in_force(work)
+def approval_of(name, value):
+    """The line by which somebody approves a change."""
+    word = quoted(short(name))
+    return f"git gittuf approve {'--delete ' + word if value is None else f'{word} {value.decode()[:12]}'}"
+
+
+def rules_for(work, what):
+    """The rules that a branch or a path reaches, as the program names them."""
     named = {it.split(b" ")[1] for it in work.asked("explain", what).splitlines() if it.startswith(b"rule ")}
-    rules = [it for _, it in policy.rules() if os.fsencode(it["name"]) in named]
+    return [it for _, it in policies.in_force(work).rules() if os.fsencode(it["name"]) in named]
+
+
+def keys_in(policy, rules):
+    """The keys of those whom these rules ask."""
     asked = {name for it in rules for name in it.get("persons", [])}
     persons = [it for file in policy.all_files().values() for it in file.says.get("persons", []) if it["name"] in asked]
     return {key for it in (*rules, *persons) for key in it.get("keyids", [])}
+
+
+def keys_for(work, what):
+    """The keys of those whom the rules of a branch or a path ask."""
+    return keys_in(policies.in_force(work), rules_for(work, what))
 
 
 def is_sure(line, number, listed, work, name, key):
@@ -127,13 +141,15 @@ def is_sure(line, number, listed, work, name, key):
     return int(counts[4]) - int(counts[3]) > 1 or key not in keys_for(work, what)
 
 
+def in_violation(name, since, what):
+    """That a reference stands in violation since an entry, which what is asked for does not end."""
+    return f"{plain(short(name))} stands in violation since entry {since}, and {what} would not end it: git gittuf recover {quoted(short(name))} leads out"
+
+
 def refuse(work, name, value, line, number, key):
     """Refuses an entry of which the program has this line."""
-    since, word = int(FAULT.fullmatch(line)[2]), quoted(short(name))
-    if since < number:
-        said = f"{plain(short(name))} stands in violation since entry {since}, and this would not end it: git gittuf recover {word} leads out"
-    else:
-        said = reason(work, name, value, line, key)
+    since = int(FAULT.fullmatch(line)[2])
+    said = in_violation(name, since, "this") if since < number else reason(work, name, value, line, key)
     raise Stopped(f"nothing is recorded, as {said}; --anyway records it all the same", 3)
 
 
@@ -155,7 +171,7 @@ def expect_person(work, key, what):
     """Refuses to sign what counts only by a person of the policy with a key that is nobody's."""
     policy = policies.in_force(work)
     if policy.files and key not in policy.publics():
-        raise Stopped(f"your key is that of none of the policy's persons, so {what} counts for nothing; --anyway signs it all the same", 3)
+        raise Stopped(f"your key is that of none of the policy's persons, so {what} counts for nothing; {ANYWAY}", 3)
 
 
 def key_id(path):

@@ -4,11 +4,11 @@ import difflib
 import os
 
 from git_gittuf import remotes
-from git_gittuf.repository import Stopped
+from git_gittuf.repository import REMOTES, Stopped
 from git_gittuf.shown import plain, quoted
 from stream_format import is_reference_name
 
-HEADS, TAGS, REMOTES = b"refs/heads/", b"refs/tags/", b"refs/remotes/"
+HEADS, TAGS = b"refs/heads/", b"refs/tags/"
 
 
 class Meant:

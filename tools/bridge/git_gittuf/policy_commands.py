@@ -4,7 +4,7 @@ import os
 import sys
 import termios
 
-from git_gittuf import commands, keys, leaves, policies, policy_lines, program
+from git_gittuf import commands, keys, leaves, policies, policy_faults, policy_lines, program
 from git_gittuf.program import Ended
 from git_gittuf.repository import POLICY, STAGED, Stopped
 from git_gittuf.shown import plain
@@ -124,7 +124,13 @@ def apply(work, words):
 
     def steps():
         work.asked("snapshot", POLICY.decode(), input=listing)
-        return work.asked("policy-apply", key=key)
+        status, printed, said = work.told("policy-apply", key=key)
+        if said.startswith("policy "):
+            raise Stopped(f"nothing is applied, and no leaf is used: {policy_faults.sentence(said, draft, force)}", status)
+        print(end=f"{said}\n" if said else "", file=sys.stderr, flush=True)
+        if status:
+            raise Ended(("policy-apply",), status, printed)
+        return printed
 
     print(work.change(steps).decode(), end="")
 

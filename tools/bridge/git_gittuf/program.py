@@ -10,8 +10,26 @@ from stream_format import Git
 
 TOP = os.path.dirname(os.path.dirname(os.path.dirname(os.path.dirname(os.path.realpath(__file__)))))
 LAUNCHER = os.path.join(TOP, "gittuf")
+# What the launcher looks at, in each of the places where a program may be.
+NAMES = ("gittuf", "gittuf-x86-64-v2", "gittuf-x86-64-v3", "gittuf.cpu", "gittuf.sources", "version")
 # A person waits so many seconds before something is said.
 PATIENCE = 2
+
+
+def files():
+    """The files that decide which program runs and what it is: the programs that are built, released or packaged here, and their sources."""
+    folders = [TOP, os.path.join(TOP, "crates", "gittuf", "out"), os.path.join(TOP, "crates", "gittuf", "out", "released")]
+    cache = os.environ.get("XDG_CACHE_HOME") or os.path.join(os.environ.get("HOME", "/nowhere"), ".cache")
+    folders.append(f"{cache}/gittuf{TOP}")
+    found = [os.path.join(folder, name) for folder in folders for name in NAMES]
+    for folder in folders[1:]:
+        try:
+            with open(os.path.join(folder, "gittuf.files"), encoding="utf-8") as file:
+                found += [os.path.join(TOP, it.rstrip("\n")) for it in file]
+        except OSError:
+            # No program is there.
+            continue
+    return found
 
 
 class Ended(Exception):
@@ -44,19 +62,29 @@ class Progress:
 
 def run(store, key, *words, input=b"", output=subprocess.PIPE):
     """Runs the program to its end, and returns its status and what it printed. Its errors go to the caller's."""
+    return ended(store, key, words, input, output, None)[:2]
+
+
+def told(store, key, *words, input=b""):
+    """The same with what it said of an error, which goes nowhere else."""
+    status, printed, said = ended(store, key, words, input, subprocess.PIPE, subprocess.PIPE)
+    return status, printed, said.decode(errors="replace").strip()
+
+
+def ended(store, key, words, input, output, errors):
     command = (LAUNCHER, store, key, *words)
     sys.stdout.flush()
     started, progress = time.monotonic(), Progress()
     # Where the program itself writes on the terminal a line would stand among its own.
     quiet = output is None and os.isatty(1)
     try:
-        ran = subprocess.Popen(command, stdin=subprocess.PIPE, stdout=output, pass_fds=Git.kept_open)
+        ran = subprocess.Popen(command, stdin=subprocess.PIPE, stdout=output, stderr=errors, pass_fds=Git.kept_open)
     except OSError as error:
         raise Stopped(f"{LAUNCHER} does not run: {error.strerror}") from None
     with ran:
         while True:
             try:
-                printed, _ = ran.communicate(input, timeout=PATIENCE)
+                printed, said = ran.communicate(input, timeout=PATIENCE)
                 break
             except subprocess.TimeoutExpired:
                 # What was given is remembered, and may not be given again.
@@ -64,4 +92,4 @@ def run(store, key, *words, input=b"", output=subprocess.PIPE):
                 if not quiet:
                     progress.tell(f"gittuf {words[0]} is at work, for {time.monotonic() - started:.0f} s now")
     progress.end()
-    return ran.returncode, printed
+    return ran.returncode, printed, said

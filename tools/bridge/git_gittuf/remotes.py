@@ -7,7 +7,7 @@ it is taken over.
 import os
 import subprocess
 
-from git_gittuf.repository import LOG, OWN, STAGED, Stopped
+from git_gittuf.repository import LOG, OWN, REMOTES, STAGED, Stopped
 from git_gittuf.shown import plain, quoted
 
 BESIDE = b"refs/gittuf-remotes/"
@@ -72,6 +72,18 @@ def asked_log(repository, remote):
 def is_before(repository, first, second):
     """Whether the second commit has the first one in its history."""
     return repository.git("merge-base", "--is-ancestor", first.decode(), second.decode())[0] == 0
+
+
+def fetched(repository, references, ids):
+    """Those of these objects that are commits which a remote has, as what was fetched from it reaches them."""
+    lines = b"".join(b"%s\n" % it for it in ids)
+    kinds = repository.asked("look objects up", "cat-file", "--batch-check=%(objectname) %(objecttype)", input=lines).splitlines()
+    commits = [it.split()[0] for it in kinds if it.endswith(b" commit")]
+    tips = {value for name, value in references.items() if name.startswith((REMOTES, BESIDE))}
+    if not commits or not tips:
+        return set()
+    lines = b"".join([*(b"%s\n" % it for it in commits), *(b"^%s\n" % it for it in repository.there(tips))])
+    return set(commits) - set(repository.asked("list what was fetched", "rev-list", "--stdin", input=lines).split())
 
 
 def beside(remote, name):

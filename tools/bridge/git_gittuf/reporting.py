@@ -5,19 +5,27 @@ import os
 import subprocess
 import types
 
-from git_gittuf import listing, names, policies, policy_lines, program, sentences, trust, verifying
+from git_gittuf import accounts, listing, names, policies, policy_lines, program, sentences, trust, verifying
 from git_gittuf.repository import LOG, Stopped
 from git_gittuf.shown import plain
 
 STYLE = """
-body{font:16px/1.5 system-ui,sans-serif;margin:0 auto;max-width:70rem;padding:1rem;color:#1b1b1b;background:#fff}
-h1{font-size:1.5rem}h2{font-size:1.15rem;margin-top:2rem}table{border-collapse:collapse;width:100%}
-th,td{text-align:left;padding:.25rem .5rem;border-bottom:1px solid #ddd;vertical-align:top;overflow-wrap:anywhere}
-code{font:.85em ui-monospace,monospace}.wide{overflow-x:auto}.good{color:#0a6b2d}.bad{color:#a01010;font-weight:600}
-svg{width:100%;height:3rem}svg text{font:11px system-ui,sans-serif}
-@media (max-width:40rem){body{font-size:14px;padding:.5rem}th,td{padding:.2rem}}
-@media print{body{max-width:none}tr{break-inside:avoid}a{color:inherit}}
+:root{color-scheme:light}
+body{font:16px/1.5 system-ui,sans-serif;margin:0 auto;max-width:70rem;padding:1rem;color:#1b1b1b;background:#fff;overflow-wrap:break-word}
+h1{font-size:1.5rem;line-height:1.25}h2{font-size:1.15rem;margin-top:2rem}code{font:.85em ui-monospace,monospace;overflow-wrap:anywhere}
+table{border-collapse:collapse;width:100%;table-layout:fixed}th,td{text-align:left;padding:.25rem .5rem;border-bottom:1px solid #ddd;vertical-align:top}
+.verdicts th:nth-child(1){width:9rem}.verdicts th:nth-child(2){width:6.5rem}.verdicts th:nth-child(4){width:16rem}
+.log th:nth-child(1){width:4.5rem}.log th:nth-child(2){width:12rem}.log th:nth-child(3){width:11rem}.log th:nth-child(5){width:8.5rem}
+.good{color:#0a6b2d}.bad{color:#a01010;font-weight:600}li{margin:.2rem 0}svg{width:100%;height:3rem}svg text{font:11px system-ui,sans-serif}
+@media screen and (max-width:45rem){
+body{font-size:15px;padding:.6rem}table,tbody,tr,td{display:block}thead{display:none}tr{padding:.4rem 0;border-bottom:1px solid #bbb}
+td{border:0;padding:.05rem 0}td:empty{display:none}.log td:nth-child(1){font-weight:600}.log td:nth-child(1)::before{content:"Entry "}
+.log td:nth-child(3)::before{content:"signed by "}.log td:nth-child(5)::before{content:"id "}.verdicts td:nth-child(1){font-weight:600}}
+@media print{@page{margin:15mm}body{max-width:none;padding:0;font-size:10pt}tr{break-inside:avoid}h2{break-after:avoid}
+.log th:nth-child(1){width:3rem}.log th:nth-child(2){width:9rem}.log th:nth-child(3){width:8rem}.log th:nth-child(5){width:7rem}}
 """
+# A page that runs and fetches nothing, whatever is in it.
+SEALED = "default-src 'none'; style-src 'unsafe-inline'"
 COLOURS = ("#cfe3f7", "#d8efd3", "#f7e6c4", "#e7d9f2")
 
 
@@ -25,11 +33,11 @@ def text(it):
     return html.escape(plain(str(it)))
 
 
-def table(heads, rows):
+def table(name, heads, rows):
     """A table of cells that are HTML already."""
     head = "".join(f"<th>{it}</th>" for it in heads)
-    body = "".join(f"<tr>{''.join(f'<td>{cell}</td>' for cell in row)}</tr>" for row in rows)
-    return f'<div class="wide"><table><thead><tr>{head}</tr></thead><tbody>{body}</tbody></table></div>'
+    body = "".join(f"<tr><td>{'</td><td>'.join(map(str, row))}</td></tr>\n" for row in rows)
+    return f'<table class="{name}"><thead><tr>{head}</tr></thead><tbody>\n{body}</tbody></table>'
 
 
 def picture(count, epochs):
@@ -43,15 +51,16 @@ def picture(count, epochs):
     return f'<svg viewBox="0 0 1000 40" role="img" aria-label="the policies in force over the log">{"".join(parts)}</svg>'
 
 
-def verdicts(work, root):
+def verdicts(work, root, account):
     """Each reference that is judged, with its verdict, as rows, and the greatest status."""
     asked, rows, worst = types.SimpleNamespace(branches=[]), [], 0
     for it in verifying.meant_by(work, asked):
-        status, printed = verifying.judged(work, it, root)
+        status, printed = verifying.verdict(work, it, root)
         line = os.fsdecode(printed).strip()
-        said = sentences.of_line(line, it.remote) if printed else sentences.of_status("verify-ref", status)
+        said = [sentences.of_line(line, it.remote) if printed else sentences.of_status("verify-ref", status)]
+        said += accounts.of_violation(account, it.name, line) if line.startswith("violation ") else []
         kind = f'<span class="{"bad" if status else "good"}">{text(line.split(" ")[0] or "no verdict")}</span>'
-        rows.append([text(names.short(it.name)), kind, text(said), f"<code>{text(line)}</code>"])
+        rows.append([text(names.short(it.name)), kind, "<br>".join(map(text, said)), f"<code>{text(line)}</code>"])
         worst = max(worst, status)
     for it in verifying.unspeakable(work):
         rows.append([text(names.short(it)), '<span class="bad">no verdict</span>', "No log can speak of it, and a rule may protect it.", ""])
@@ -74,28 +83,31 @@ def about_tool():
 
 
 def page(work, root, source):
-    rows, worst = verdicts(work, root)
     found = listing.Listing(work, work.asked("log"))
+    rows, worst = verdicts(work, root, accounts.Accounts(work, found))
     entries = [row_of(found.of(it), found.people_at(it[0])) for it in found.entries]
+    named = text(os.path.basename(work.repository.top or work.repository.git_dir))
     seen = "the first policy that was seen here, which nobody vouched for"
     rests = {trust.GIVEN: "the ids that were given", "gittuf.root": "the setting gittuf.root"}.get(source, seen)
     parts = [
-        f"<h1>{text(os.path.basename(work.repository.top or work.repository.git_dir))}: what is recorded, and whether it was lawful</h1>",
+        f"<h1>{named}: what is recorded, and whether it was lawful</h1>",
         f"<p>{len(entries)} entries. The first policy is held to {rests}: <code>{text(root or 'none')}</code></p>",
         "<h2>Verdicts</h2>",
-        table(("Branch or tag", "Verdict", "In words", "The program's line"), rows),
+        table("verdicts", ("Branch or tag", "Verdict", "In words", "The program's line"), rows),
         "<h2>The policies in force</h2>",
         picture(len(entries), found.epochs) if found.epochs else "<p>None.</p>",
         "<h2>The policy that is in force now</h2>",
-        "<ul>" + "".join(f"<li>{text(it)}</li>" for it in policy_lines.of_policy(policies.in_force(work))) + "</ul>",
+        "<ul>" + "".join(f"<li>{text(it)}</li>" for it in policy_lines.of_policy(policies.in_force(work)) or ["None."]) + "</ul>",
         "<h2>The log</h2>",
-        table(("Entry", "Time", "Signed by", "What", "Id"), entries),
+        table("log", ("Entry", "Time", "Signed by", "What", "Id"), entries),
         "<h2>What this rests on</h2>",
         f"<p>The verdicts are those of the program, which is proved to give them: {text(about_tool())}. This page, and git gittuf, are not"
         " proved. Times are what who signed said. A name stands beside an entry where its signature is good by that person's key, and says"
         " not that it sufficed; the verdict does. docs/CONCEPTS.md says what is trusted.</p>",
     ]
-    head = f'<meta charset="utf-8"><meta name="viewport" content="width=device-width,initial-scale=1"><title>gittuf report</title><style>{STYLE}</style>'
+    sealed = f'<meta http-equiv="Content-Security-Policy" content="{SEALED}">'
+    width = '<meta name="viewport" content="width=device-width,initial-scale=1">'
+    head = f'<meta charset="utf-8">{sealed}{width}<title>{named}: gittuf</title><style>{STYLE}</style>'
     return f'<!doctype html><html lang="en"><head>{head}</head><body>{"".join(parts)}</body></html>\n', worst
 
 

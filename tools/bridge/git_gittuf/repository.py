@@ -17,6 +17,7 @@ STAGED = b"refs/gittuf/policy-staging"
 # What entries recorded and no branch reaches any more is kept below this name, so that every clone can judge it.
 TARGETS = b"refs/gittuf/targets/"
 OWN = b"refs/gittuf/"
+REMOTES = b"refs/remotes/"
 ZEROS = b"0" * 64
 OLDEST_GIT = (2, 29)
 

@@ -100,12 +100,6 @@ def of_behind(repository, meant, words):
     return f"{where}: git fetch . {words[5][:12]}:{name.whole}" if not ahead else f"{where}: git fetch {quoted(ahead[0].remote)} {name.word}:{name.word}"
 
 
-def broken_object(line):
-    """The id of the object at which a verdict calls a target broken, or nothing."""
-    words = line.split(" ")
-    return words[4].encode() if words[0] == "violation" and words[3] == "broken" else None
-
-
 def of_limit(words):
     """Of a target that is there, and that no verdict takes."""
     return (

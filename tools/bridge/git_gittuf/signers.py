@@ -2,7 +2,8 @@
 
 import re
 
-from git_gittuf import keys, leaves, policies, signatures
+from git_gittuf import keys, leaves, policies
+from git_gittuf.checked import Checked
 from git_gittuf.repository import Stopped
 from git_gittuf.shown import plain
 
@@ -15,16 +16,23 @@ def key_in(body):
     return found[1] if found else None
 
 
-def of_entries(repository, ids, publics=None):
+def of_bodies(repository, bodies, publics=None, are_good=None):
     """The id of the key that each of these entries names, or None where it names none, or one of these by which it is not good."""
-    found = {}
-    for object_id, _, body in repository.bodies(ids):
-        key = key_in(body)
-        public = (publics or {}).get(key.decode()) if key else None
-        signed = leaves.of_entry(body, key) if public else ()
-        is_forged = public and not any(signatures.is_good(public, text, it) for text, it in signed)
-        found[object_id] = None if key is None or is_forged else key.decode()
-    return found
+    found = {it: key_in(body) for it, body in bodies.items()}
+    found = {it: key.decode() if key else None for it, key in found.items()}
+    given, asked, are_good = [], [], are_good or Checked(repository).are_good
+    for it, key in found.items():
+        public = (publics or {}).get(key)
+        signed = [*leaves.of_entry(bodies[it], key.encode())][:1] if public else []
+        given += [it] * len(signed)
+        asked += [(public, *one) for one in signed]
+    good = set(given) - {it for it, is_good in zip(given, are_good(asked)) if not is_good} if asked else set()
+    return {it: key if key not in (publics or {}) or it in good else None for it, key in found.items()}
+
+
+def of_entries(repository, ids, publics=None, **how):
+    """The same of entries by their ids."""
+    return of_bodies(repository, {it: body or b"" for it, _, body in repository.bodies(ids)}, publics, **how)
 
 
 def own_key(repository):
@@ -45,6 +53,7 @@ class People:
     """The persons of a policy, by whose keys entries are signed."""
 
     def __init__(self, policy=None):
+        self.policy = policy
         self.persons, self.publics = (persons_of(policy), policy.publics()) if policy else ({}, {})
 
     def keys_of(self, repository, entries):

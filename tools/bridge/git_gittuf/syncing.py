@@ -3,7 +3,7 @@
 import os
 import re
 
-from git_gittuf import commands, following, forms, history, keys, leaves, looking, names, policies, seen, signers
+from git_gittuf import checked, commands, following, forms, history, keys, leaves, looking, names, policies, seen, signers
 from git_gittuf.program import Ended
 from git_gittuf.remotes import beside, is_before
 from git_gittuf.repository import ATTESTATIONS, LOG, POLICY, STAGED, ZEROS, Stopped
@@ -153,7 +153,7 @@ def take_theirs(work, remote, anyway):
     moves = following.to_take(work, remote, anyway)
     lost = following.given_up(work, history.entries(printed))
     # What only names the own key is of somebody else, and is never signed here.
-    by = signers.of_entries(repository, [it[1] for it in lost], {key: public})
+    by = signers.of_entries(repository, [it[1] for it in lost], {key: public}, are_good=checked.looked_at)
     status, base, _ = repository.git("merge-base", own.decode(), value.decode())
     staged, theirs = references.get(STAGED), references.get(beside(remote, STAGED))
     if staged and theirs and not is_before(repository, staged, theirs):

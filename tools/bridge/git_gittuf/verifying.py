@@ -4,15 +4,12 @@ import functools
 import json
 import os
 
-from git_gittuf import history, names, sentences, trust
+from git_gittuf import accounts, copying, damage, history, names, sentences, trust
 from git_gittuf.remotes import is_before
 from git_gittuf.repository import LOG, Stopped
 from git_gittuf.settings import SEEN
 from git_gittuf.shown import plain_name
 from git_gittuf.telling import say, show, tell
-
-# The status of the program where something outside of it failed.
-FAULT = 4
 
 
 def is_protected(work, name):
@@ -35,39 +32,18 @@ def meant_by(work, words):
 def verdict(work, meant, root):
     """The program's status and line on a reference."""
     asked = ("verify-ref", os.fsdecode(meant.name), *(() if root is None else ("--root", root)))
-    if meant.value is None:
-        return work.run(*asked)
-    with work.standing_at(meant.name, meant.value):
-        return work.run(*asked)
+    value = meant.value or (None if copying.belongs(meant.name) else work.repository.references().get(meant.name))
+    return work.read(*asked, at=(meant.name, value) if value else None)
 
 
 def unspeakable(work):
     """The branches and tags, here or at remotes, whose names no log can have, and that no policy leaves unprotected."""
     found = []
     for name in names.odd_names(work.repository):
-        status, printed = work.run("explain", f"git:{os.fsdecode(name)}")
+        status, printed = work.read("explain", f"git:{os.fsdecode(name)}")
         if status or printed.startswith(b"rule "):
             found.append(name)
     return found
-
-
-def is_damaged(work, line):
-    """Whether a verdict is of the store alone: it lacks an object that it would have, or that is not what it was in it."""
-    found = sentences.broken_object(line)
-    if not found or not work.repository.there([found]):
-        return False
-    kind = work.repository.asked("look an object up", "cat-file", "-t", found.decode()).strip()
-    return not work.kept.is_sound(found) if kind != b"blob" or work.kept.has(found) else False
-
-
-def judged(work, meant, root):
-    """The verdict on a reference, over a store that is made again where it was damaged."""
-    status, printed = verdict(work, meant, root)
-    if status == FAULT and not work.kept.is_all_sound() or is_damaged(work, os.fsdecode(printed).rstrip("\n")):
-        tell("the store was damaged, and is made again from Git")
-        work.renew()
-        status, printed = verdict(work, meant, root)
-    return status, printed
 
 
 def said_of(work, meant, line, source):
@@ -79,19 +55,18 @@ def said_of(work, meant, line, source):
         there = repository.there([words[3].encode(), words[5].encode()])
         if len(there) == 2 and is_before(repository, words[3].encode(), words[5].encode()):
             return sentences.of_behind(repository, meant, words)
-    found = sentences.broken_object(line)
+    found = damage.object_in(line.encode(errors="surrogateescape") + b"\n") if words[0] == "violation" else None
     if found and repository.there([found]):
         return sentences.of_limit(words)
     unpinned = sentences.UNPINNED if words[0] == "accepted" and words[2] != "0" and source == SEEN else ""
     return sentences.of_line(line, meant.remote) + unpinned
 
 
-def json_of(printed, meant, source):
-    """A verdict as a JSON object, with what it rests on."""
-    line = os.fsdecode(printed).strip()
+def json_of(line, meant, source, told):
+    """A verdict as a JSON object, with what it rests on, and what is told of its entries where that is asked for."""
     words = line.split(" ")
     kind = words[0]
-    found = {"verdict": kind, "line": line, "remote": meant.remote, "root": source}
+    found = {"verdict": kind, "line": line, "remote": meant.remote, "root": source, **({} if told is None else {"told": told})}
     if kind == "accepted":
         found.update(ref=words[1], entries=int(words[2]))
     elif kind == "tip-differs":
@@ -101,17 +76,34 @@ def json_of(printed, meant, source):
     return f"{json.dumps(found, sort_keys=True)}\n".encode()
 
 
+def show_verdict(words, meant, source, printed, account):
+    """Prints a verdict as it is asked for, with what is told of its entries."""
+    line = os.fsdecode(printed).rstrip("\n")
+    told = account.of(meant.name, line) if account and printed else None
+    if words.json and printed:
+        show(json_of(line, meant, source, told))
+        return
+    show(printed)
+    for it in accounts.in_lines(told or [], account):
+        print(it, flush=True)
+
+
+def account_of(work, words):
+    """What tells of entries, where that is asked for and there are any."""
+    return accounts.Accounts(work) if words.verbose and LOG in work.repository.references() else None
+
+
 def verify(work, words):
     work.bring()
     odd = [] if words.branches else unspeakable(work)
     worst = 1 if odd else 0
     for it in odd:
         tell(f"no log can speak of {plain_name(it)}, which a rule may protect")
-    meant = meant_by(work, words)
+    meant, account = meant_by(work, words), account_of(work, words)
     root, source = trust.anchor(work, words)
     for it in meant:
-        status, printed = judged(work, it, root)
-        show(json_of(printed, it, source) if words.json and printed else printed)
+        status, printed = verdict(work, it, root)
+        show_verdict(words, it, source, printed, account)
         line = os.fsdecode(printed).rstrip("\n")
         said = said_of(work, it, line, source) if printed else sentences.of_status("verify-ref", status)
         if not words.branches and sentences.is_unrecorded(line):

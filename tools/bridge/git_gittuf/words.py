@@ -54,9 +54,10 @@ Every day
   recover BRANCH [--anyway]     lead out of a violation: sign the skips, say which files are wanted, and then record
   verify [BRANCH ..]            say whether each change was lawful; with no name, of all that the log speaks of and of
       [--root KEYID,..]         each branch and tag that a rule protects. A remote's branch stands for one that is not
-      [--pinned] [--json]       here, and is named as origin/main. The first policy must have the keys of --root, or
-                                those that setup --root kept, which --pinned demands, or else those that it was seen
-                                to have here first
+      [--pinned]                here, and is named as origin/main. The first policy must have the keys of --root, or
+      [-v] [--json]             those that setup --root kept, which --pinned demands, or else those that it was seen
+                                to have here first. -v tells of each entry who signed and who approved it, when, and
+                                of a violation who is missing
   skip ENTRY .. [-m TEXT]       sign that entries, by number or id, are to be skipped
   note ENTRY .. [-m TEXT]       sign a note on entries
   log [-v | --json]             print the log, a line for each entry; -v and --json say who signed it, when, and what it says
@@ -209,9 +210,9 @@ def words_of_judging(take):
     for name in ("verify", "report"):
         take[name].add_argument("--root", type=key_ids)
         take[name].add_argument("--pinned", action="store_true")
-    take["log"].add_argument("-v", "--verbose", action="store_true")
     take["log"].set_defaults(work=listing.log)
     for name in ("verify", "log"):
+        take[name].add_argument("-v", "--verbose", action="store_true")
         take[name].add_argument("--json", action="store_true")
     take["explain"].add_argument("name")
     for name in ("doctor", "verify", "log", "explain", "export", "report"):

@@ -2,65 +2,20 @@
 
 import contextlib
 import errno
-import fcntl
 import os
 import sys
-import time
 
-from git_gittuf import copying, following, giving, program, remotes
+from git_gittuf import copying, damage, following, giving, history, program, remotes, targets
+from git_gittuf.answers import LASTING, Answers
 from git_gittuf.kept import Kept
+from git_gittuf.locking import ALONE, BESIDE, Lock, seconds_to_wait
 from git_gittuf.program import Ended
 from git_gittuf.repository import LOG, OWN, Repository, Stopped
-from stream_format import Git
+from git_gittuf.telling import tell
 
-
-# The lock is waited for so many seconds, and after a few of them whoever waits is told; between two tries lies a pause.
-SECONDS, PATIENCE, PAUSE = 30, 2, 0.05
 # The status of the program where the log is none.
 BROKEN = 3
 READ_ONLY = (errno.EACCES, errno.EPERM, errno.EROFS)
-
-
-class Lock:
-    """The lock of a repository: one call at a time changes the store, and what it starts has the lock with it."""
-
-    def __init__(self, folder, seconds):
-        self.file = os.open(os.path.join(folder, "lock"), os.O_RDWR | os.O_CREAT, 0o644)
-        self.seconds, self.how = seconds, None
-
-    def take(self, how=fcntl.LOCK_EX):
-        """Waits for the lock, alone or beside others that only read, and says for whom."""
-        start, told = time.monotonic(), False
-        while True:
-            try:
-                fcntl.flock(self.file, how | fcntl.LOCK_NB)
-                break
-            except BlockingIOError:
-                waited = time.monotonic() - start
-                process = os.pread(self.file, 20, 0).decode(errors="replace").strip()
-                said = f"another git gittuf works in this repository, process {process} or what it started"
-                if waited >= self.seconds:
-                    raise Stopped(f"{said}: wait for it") from None
-                if waited >= PATIENCE and not told:
-                    print(f"git-gittuf: {said}: waiting for it, up to {self.seconds} s", file=sys.stderr, flush=True)
-                    told = True
-                time.sleep(PAUSE)
-        self.how = how
-        if how == fcntl.LOCK_EX:
-            os.ftruncate(self.file, 0)
-            os.pwrite(self.file, b"%d\n" % os.getpid(), 0)
-        # It stays with the programs that are started, so that none goes on while the next call is at work.
-        Git.kept_open = (self.file,)
-
-    def give_back(self):
-        Git.kept_open = ()
-        fcntl.flock(self.file, fcntl.LOCK_UN)
-
-
-def seconds_to_wait(repository):
-    """How long another call is waited for, by the setting gittuf.wait."""
-    found = repository.config("gittuf.wait")
-    return int(found[-1]) if found and found[-1].isdigit() else SECONDS
 
 
 def of_gittuf(references):
@@ -76,13 +31,16 @@ class Work:
         try:
             os.makedirs(self.repository.folder, exist_ok=True)
             self.lock = Lock(self.repository.folder, seconds_to_wait(self.repository))
-            self.lock.take(fcntl.LOCK_SH if reads else fcntl.LOCK_EX)
+            self.lock.take(BESIDE if reads else ALONE)
         except OSError as error:
             if error.errno not in READ_ONLY:
                 raise
             raise Stopped(f"{error.filename} cannot be written: git clone it, and verify it there") from None
         self.kept = Kept(self.repository.folder)
+        self.answers = Answers(self.repository.folder, self.kept)
         self.journal = giving.Journal(self.repository.folder)
+        # Whether the store has something that Git has not, and is not made again.
+        self.is_ahead = False
         # What remotes have that does not fit what is here, once that was looked at: remote, name, how it stands.
         self.unfit = None
         if not reads or not self.kept.is_there() or self.kept.marks() or self.journal.is_there():
@@ -93,13 +51,15 @@ class Work:
     def alone(self):
         """Lets a call that reads beside others change something, once these have ended."""
         held = self.lock.how
-        if held != fcntl.LOCK_EX:
+        if held != ALONE:
             self.lock.take()
+            self.kept.changes += 1
         try:
             yield
         finally:
-            if held != fcntl.LOCK_EX:
+            if held != ALONE:
                 self.lock.take(held)
+                self.kept.changes += 1
 
     def follow(self, changed):
         """Lets the log, the policy and the approvals go on to where a remote has them. Returns whether they moved."""
@@ -137,10 +97,17 @@ class Work:
 
     def bring(self, extra=(), maybe=()):
         """Makes the store what Git is, after the own references went on where they may. Returns how many objects came."""
-        changed = of_gittuf(self.repository.references()) != of_gittuf(self.kept.references())
+        wanted = copying.of_store(self.repository.references())
+        changed = of_gittuf(wanted) != of_gittuf(self.kept.references())
         count = self.copy(extra, maybe)
         if self.unfit is None and self.follow(changed):
             count += self.copy()
+        if LOG in wanted or LOG in self.kept.references():
+            status, printed = self.read("log")
+            if not status:
+                targets.keep(self, history.entries(printed))
+        if not self.kept.is_small():
+            self.renew()
         return count
 
     @contextlib.contextmanager
@@ -152,6 +119,7 @@ class Work:
         finally:
             # It only changes what others changed as well, and never while they do.
             self.lock.take()
+            self.kept.changes += 1
             self.mend()
 
     def renew(self):
@@ -162,7 +130,7 @@ class Work:
             return self.copy()
 
     def copy(self, extra=(), maybe=()):
-        if not extra and not maybe and self.repository.references() == self.kept.references():
+        if not extra and not maybe and copying.of_store(self.repository.references()) == self.kept.references():
             return 0
         progress = program.Progress()
         try:
@@ -180,31 +148,58 @@ class Work:
         return {it: at for it, at in held if it == name or it.startswith(name + b"/") or name.startswith(it + b"/")}
 
     @contextlib.contextmanager
-    def standing_at(self, name, value):
-        """Lets a reference stand elsewhere in the store, and nowhere else, while the program looks at it."""
-        if self.in_the_way(name) == {name: value}:
-            yield
-            return
+    def standing_at(self, name, value, objects=()):
+        """Lets a reference stand elsewhere in the store, and nowhere else, while the program looks at it, beside these objects."""
         with self.alone():
             # Another call may have changed the store until this one was alone.
-            way = self.in_the_way(name)
+            way, added = self.in_the_way(name), [it for it in objects if not self.kept.has(it[0])]
             with self.kept.opened():
+                for it in added:
+                    self.kept.put(*it)
                 self.kept.set_references(way, {name: value})
             try:
                 yield
             finally:
                 with self.kept.opened():
                     self.kept.set_references({name: value}, way)
+                    for it in added:
+                        self.kept.take_out(it[0])
 
     def log_at(self, value):
         """What the program prints of the log where it stands at this commit, or nothing where that is none."""
-        with self.standing_at(LOG, value):
-            status, printed = self.run("log")
+        status, printed = self.read("log", at=(LOG, value))
         if status not in (0, BROKEN):
             raise Ended(("log",), status, printed)
         return None if status else printed
 
+    def read(self, *words, at=None, objects=()):
+        """The status and the output of a command that only reads the store, which is made again where it is damaged.
+
+        With `at` a reference stands at a value then, and nowhere else, beside these objects.
+        """
+        if at and self.in_the_way(at[0]) == {at[0]: at[1]}:
+            at = None
+        key = (*words, "at", os.fsdecode(at[0]), at[1].decode()) if at else words
+        found = self.answers.get(key)
+        if found is None:
+            found = self.read_anew(words, at, objects)
+            if not self.is_ahead and damage.is_in_store(self, *found):
+                tell("the store was damaged, and is made again from Git")
+                self.renew()
+                found = self.read_anew(words, at, objects)
+            self.answers.put(key, found)
+        return found
+
+    def read_anew(self, words, at, objects):
+        if not at:
+            return program.run(f"{self.kept.folder}/", "-", *words)
+        with self.standing_at(*at, objects):
+            return program.run(f"{self.kept.folder}/", "-", *words)
+
     def run(self, *words, key="-", input=b"", **how):
+        if words[0] in LASTING:
+            return self.read(*words)
+        self.kept.changes += 1
         return program.run(f"{self.kept.folder}/", key, *words, input=input, **how)
 
     def asked(self, *words, key="-", input=b""):
@@ -214,6 +209,11 @@ class Work:
             raise Ended(words, status, printed)
         return printed
 
+    def told(self, *words, key, input=b""):
+        """The same with what the program says of an error, as its status, what it printed, and that."""
+        self.kept.changes += 1
+        return program.told(f"{self.kept.folder}/", key, *words, input=input)
+
     def own_in_store(self):
         return {name: value for name, value in self.kept.references().items() if name.startswith(OWN)}
 
@@ -222,6 +222,7 @@ class Work:
         # What the steps go on from is what the store has, whatever Git went on to meanwhile.
         before = self.own_in_store()
         self.journal.write(before)
+        self.is_ahead = True
         try:
             answer = steps()
             after = {**self.own_in_store(), **(also or {})}
@@ -232,6 +233,12 @@ class Work:
             self.journal.write(before)
             self.mend()
             raise
+        finally:
+            self.is_ahead = False
         self.journal.clear()
         self.bring()
         return answer
+
+    def end(self):
+        """Keeps what the program answered for the next call."""
+        self.answers.write()

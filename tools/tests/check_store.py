@@ -1,0 +1,277 @@
+"""The checks of tools/test on what the store holds, on what stays of what was recorded, and on answers that are kept."""
+
+import os
+import shutil
+import sys
+import time
+
+from checking import TOP, Failure, run, want
+from git_gittuf import epochs
+from guarded_clones import MAIN, another
+from packs import Pack
+
+LOG, TARGETS = "refs/gittuf/reference-state-log", "refs/gittuf/targets/"
+MANY = "refs/heads/many"
+FILES, FOLDERS, CHANGES = 20_000, 200, 100
+# What the store of these files may have, and how long its making may take, in files, bytes and seconds.
+MOST_FILES, MOST_BYTES, MOST_SECONDS = 1_000, 100_000_000, 5
+
+
+def history_of(files, folders, changes):
+    """The text for git fast-import of a branch that begins with so many files, of which each commit changes one."""
+    lines = []
+    for it in range(changes):
+        rows = range(files) if it == 0 else [it * 7919 % files]
+        lines.append(f"commit {MANY}\ncommitter Nobody <nobody@localhost> {1_600_000_000 + it} +0000\ndata 1\nx\n")
+        lines += [f"M 100644 inline d{row % folders}/e{row % 7}-f{row}\ndata <<E\n{row} {it}\nE\n\n" for row in rows]
+    return "".join(lines).encode()
+
+
+def recorded_by_nobody(clones, who, targets):
+    """Adds an entry for each of these commits of a branch to the log, without a signature, which no rule wants for it."""
+    tip = clones.tip(who, LOG).encode()
+    number = len(clones.git("rev-list", LOG, who=who).split())
+    path = clones.path("entries.pack")
+    with open(path, "w+b") as file:
+        pack = Pack(file)
+        for it in targets:
+            number += 1
+            tip, body = epochs.entry(number, tip, it.encode(), MANY.encode())
+            pack.add(tip, b"commit", len(body), [body])
+        pack.end()
+        file.seek(0)
+        clones.git("index-pack", "--stdin", who=who, input=file.read())
+    clones.git("update-ref", LOG, tip.decode(), who=who)
+
+
+def store_of(clones, who):
+    """The number of files in a store, and their bytes."""
+    top = clones.git("rev-parse", "--git-common-dir", who=who).decode().strip()
+    place = os.path.join(clones.path(who), top, "gittuf", "kept")
+    sizes = [os.path.getsize(os.path.join(at, it)) for at, _, files in os.walk(place) for it in files]
+    return len(sizes), sum(sizes)
+
+
+def with_many(repositories, name, files, folders, changes):
+    """Clones of which alice's has a branch with so many recorded changes, which the server has too."""
+    clones = another(repositories, name)
+    clones.git("fast-import", "--quiet", who="alice", input=history_of(files, folders, changes))
+    recorded_by_nobody(clones, "alice", clones.git("rev-list", "--reverse", MANY, who="alice").decode().split())
+    clones.gittuf("alice", "verify", MANY)
+    clones.git("push", "--quiet", "origin", MANY, "refs/gittuf/*:refs/gittuf/*", who="alice")
+    return clones
+
+
+def holds_what_judging_reads(repositories):
+    """of 20,000 files with 100 recorded changes the store has few files of few bytes, and is made in seconds"""
+    clones = with_many(repositories, "few files", FILES, FOLDERS, CHANGES)
+    clones.git("clone", "--quiet", "--no-checkout", "server.git", "newcomer", who="")
+    clones.git("fetch", "--quiet", "origin", "+refs/gittuf/*:refs/gittuf-remotes/origin/*", who="newcomer")
+    start = time.monotonic()
+    clones.gittuf("newcomer", "setup")
+    seconds = time.monotonic() - start
+    want(clones.gittuf("newcomer", "verify", MANY), f"accepted {MANY} {CHANGES} entries\n".encode(), "the verdict of a new clone")
+    files, size = store_of(clones, "newcomer")
+    want(files <= MOST_FILES and size <= MOST_BYTES, True, f"whether {files} files of {size} bytes are few")
+    if seconds > MOST_SECONDS:
+        raise Failure(f"setup took {seconds:.1f} s, and {MOST_SECONDS} are allowed")
+    return f"{files} files, {size / 1_000_000:.1f} MB, setup in {seconds:.1f} s"
+
+
+def makes_an_older_store_small(repositories):
+    """a store that an earlier version filled with all history is made again with what judging reads, at the next call"""
+    clones = another(repositories, "older store")
+    clones.gittuf("bob", "verify")
+    place = os.path.join(clones.path("bob"), ".git", "gittuf")
+    files = store_of(clones, "bob")
+    for it in range(100):
+        with open(os.path.join(place, "kept", "objects", f"{it:064x}"), "wb") as file:
+            file.write(b"tree 0\0")
+    os.remove(os.path.join(place, "small"))
+    clones.gittuf("bob", "verify")
+    want(store_of(clones, "bob"), files, "the files of the store then, and their bytes")
+
+
+def forget(clones, *clone_names):
+    """Lets Git lose all that no reference reaches."""
+    for who in clone_names:
+        clones.git("reflog", "expire", "--expire=now", "--all", who=who)
+        clones.git("gc", "--quiet", "--prune=now", who=who)
+
+
+def is_there(clones, who, object_id):
+    return run("git", "-C", clones.path(who), "cat-file", "-e", object_id)[0] == 0
+
+
+def keeps_what_a_branch_left(repositories):
+    """a recorded branch that was moved without a record and collected is told alike in an old clone, a new one and the whole stream"""
+    clones = another(repositories, "left behind")
+    before = clones.tip("alice")
+    clones.commit("alice")
+    clones.gittuf("alice", "record", "main")
+    recorded = clones.tip("alice")
+    clones.gittuf("alice", "push")
+    want(clones.tip("server.git", TARGETS + recorded), recorded, "where the server keeps what was recorded")
+    clones.git("reset", "--quiet", "--hard", before, who="alice")
+    moved = clones.commit("alice", "unrecorded")
+    clones.git("push", "--quiet", "--force", "origin", "main", who="alice")
+    forget(clones, "alice", "server.git")
+    clones.git("fetch", "--quiet", who="bob")
+    clones.git("reset", "--quiet", "--hard", "origin/main", who="bob")
+    clones.clone("auditor", key=False)
+    for who in ("alice", "bob", "auditor"):
+        clones.verdict(who, f"tip-differs {MAIN} kept {moved} recorded {recorded}")
+    clones.sound("alice", "bob", "auditor")
+    # Each of them keeps it, whatever the server does.
+    clones.git("update-ref", "-d", TARGETS + recorded, who="server.git")
+    clones.git("fetch", "--quiet", "--prune", who="auditor")
+    forget(clones, "auditor")
+    clones.verdict("auditor", f"tip-differs {MAIN} kept {moved} recorded {recorded}")
+
+
+def without_targets(clones, who):
+    """Takes away what keeps recorded targets, as where an earlier version recorded them."""
+    names = clones.git("for-each-ref", "--format=%(refname)", TARGETS, "refs/gittuf-remotes/*/targets/", who=who).decode().split()
+    for it in names:
+        clones.git("update-ref", "-d", it, who=who)
+
+
+def gives_back_what_git_lost(repositories):
+    """what Git lost of what was recorded comes back from the store where that leaves Git whole, and else every clone calls it broken"""
+    clones = another(repositories, "given back")
+    before = clones.tip("alice")
+    # All files of the one are in Git anyway, and the other has one of its own.
+    clones.git("commit", "--quiet", "--allow-empty", "--message", "no file of its own", who="alice")
+    whole = clones.tip("alice")
+    clones.gittuf("alice", "record", "main")
+    clones.git("switch", "--quiet", "-c", "other", before, who="alice")
+    partly = clones.commit("alice", "of its own")
+    clones.gittuf("alice", "record", "other")
+    clones.git("push", "--quiet", "origin", f"{LOG}:{LOG}", who="alice")
+    clones.git("switch", "--quiet", "--detach", before, who="alice")
+    for name in ("main", "other"):
+        clones.git("branch", "--quiet", "--force", name, before, who="alice")
+    without_targets(clones, "alice")
+    forget(clones, "alice")
+    want([is_there(clones, "alice", it) for it in (whole, partly)], [False, False], "what Git has of both")
+    status, _, errors = run("git", "-C", clones.path("alice"), "gittuf", "verify", "main")
+    want((status, f"{whole[:12]}, and has it again from the store" in errors.decode()), (1, True), f"what is told: {errors}")
+    want((f"recorded, {partly[:12]}, and the store has no content" in errors.decode(), is_there(clones, "alice", partly)), (True, False), "of the other")
+    clones.verdict("alice", f"tip-differs {MAIN} kept {before} recorded {whole}")
+    number = len(clones.git("rev-list", LOG, who="alice").split())
+    clones.git("push", "--quiet", "origin", "refs/gittuf/*:refs/gittuf/*", who="alice")
+    clones.clone("auditor", key=False)
+    for who in ("alice", "auditor"):
+        clones.verdict(who, f"violation refs/heads/other {number} broken {partly}", name="refs/heads/other")
+    clones.verdict("auditor", f"tip-differs {MAIN} kept {before} recorded {whole}")
+    clones.sound("alice", "auditor")
+
+
+def tells_missing_from_damaged(repositories):
+    """of an object that the store lost the store is made again, and one that Git lost too is told as missing; so with a log's entry"""
+    clones = another(repositories, "missing")
+    objects = os.path.join(clones.path("bob"), ".git", "gittuf", "kept", "objects")
+    clones.gittuf("bob", "verify")
+    accepted = f"accepted {MAIN} 1 entries\n".encode()
+    for lost in (clones.tip("bob", LOG), clones.tip("bob", f"{LOG}~1"), clones.tip("bob", f"{MAIN}^{{tree}}")):
+        for damage in (os.remove, lambda path: open(path, "wb").close()):
+            damage(os.path.join(objects, lost))
+            status, output, errors = run("git", "-C", clones.path("bob"), "gittuf", "verify", "main")
+            want((status, output, b"the store was damaged, and is made again" in errors), (0, accepted, True), f"what is said of {lost}: {errors}")
+    nowhere = f"{'ab' * 32}"
+    recorded_by_nobody(clones, "bob", [nowhere])
+    clones.git("branch", "many", who="bob")
+    number = len(clones.git("rev-list", LOG, who="bob").split())
+    status, output, errors = run("git", "-C", clones.path("bob"), "gittuf", "verify", "many")
+    line = f"violation {MANY} {number} broken {nowhere}\n".encode()
+    want((status, output, b"damaged" in errors), (1, line, False), f"what is said of what is nowhere: {errors}")
+
+
+def counting(clones, name):
+    """A folder with git-gittuf whose launcher notes what it is asked, and the path of these notes."""
+    place = clones.path(name)
+    os.mkdir(place)
+    shutil.copytree(os.path.join(TOP, "tools", "bridge"), os.path.join(place, "tools", "bridge"))
+    shutil.copy(os.path.join(TOP, "tools", "git-gittuf"), os.path.join(place, "tools"))
+    asked = os.path.join(place, "asked")
+    with open(os.path.join(place, "gittuf"), "w", encoding="utf-8") as file:
+        file.write(f"#!/bin/sh\necho \"$3\" >> '{asked}'\nexec '{TOP}/gittuf' \"$@\"\n")
+    os.chmod(file.name, 0o755)
+    return os.path.join(place, "tools", "git-gittuf"), asked
+
+
+def times_asked(path):
+    if not os.path.exists(path):
+        return 0
+    with open(path, encoding="utf-8") as file:
+        count = len(file.readlines())
+    os.remove(path)
+    return count
+
+
+def asks_nothing_twice(repositories):
+    """a second verify with nothing new asks the program nothing, also of remotes' branches; what changed below lets it be asked again"""
+    clones = another(repositories, "asked twice")
+    clones.git("push", "--quiet", "origin", "main:topic", who="alice")
+    clones.git("fetch", "--quiet", who="bob")
+    tool, asked = counting(clones, "counting")
+    words = (sys.executable, tool, "verify")
+    every = [(*words, *them) for them in ((), ("origin/main",), ("topic",), ("-v",), ("--root", clones.gittuf("alice", "key", "--id").decode().strip()))]
+    first = [run(*it, folder=clones.path("bob")) for it in every]
+    want(times_asked(asked) > 0, True, "whether the program is asked at first")
+    second = [run(*it, folder=clones.path("bob")) for it in every]
+    want(second, first, "what is answered then")
+    want(times_asked(asked), 1, "how often the program is asked then, once for who is in force in -v")
+    objects = os.path.join(clones.path("bob"), ".git", "gittuf", "kept", "objects")
+    changes = {
+        "a branch": lambda: clones.git("branch", "new", who="bob"),
+        "an object of the store": lambda: os.utime(os.path.join(objects, clones.tip("bob", f"{MAIN}^{{tree}}"))),
+        "the program": lambda: os.utime(os.path.join(os.path.dirname(os.path.dirname(tool)), "gittuf")),
+        "a fetch": lambda: (clones.gittuf("alice", "note", "1"), clones.git("push", "--quiet", who="alice"), clones.git("fetch", "--quiet", who="bob")),
+    }
+    for what, change in changes.items():
+        change()
+        run(*words, folder=clones.path("bob"))
+        want(times_asked(asked) > 0, True, f"whether the program is asked after {what} changed")
+        run(*words, folder=clones.path("bob"))
+        want(times_asked(asked), 0, f"how often it is asked once more after {what}")
+
+
+def believes_no_damage(repositories):
+    """what is kept of answers is none where a byte of it is another, it is cut, or it is of another clone: the verdict is the program's"""
+    clones = another(repositories, "damaged answers")
+    path = os.path.join(clones.path("bob"), ".git", "gittuf", "answers")
+    moved = clones.commit("bob")
+    line = f"tip-differs {MAIN} kept {moved} recorded {clones.tip('bob', 'main~1')}\n".encode()
+    judged = lambda: run("git", "-C", clones.path("bob"), "gittuf", "verify", "main")
+    want(judged()[:2], (1, line), "the verdict at first")
+    with open(path, "rb") as file:
+        whole = file.read()
+    at = whole.index(b"tip-differs")
+    told = whole[:at] + b"accepted refs/heads/main 9 entries\\n" + whole[whole.index(b'"', at) :]
+    texts = [told, b"", b"\n", whole[1:], whole + b" ", b"[]", told.replace(told[:64], b"0" * 64)]
+    texts += [whole[:it] + bytes([whole[it] ^ 1]) + whole[it + 1 :] for it in range(0, len(whole), max(1, len(whole) // 12))]
+    texts += [whole[:it] for it in range(0, len(whole), max(1, len(whole) // 6))]
+    for it in texts:
+        with open(path, "wb") as file:
+            file.write(it)
+        want(judged()[:2], (1, line), f"the verdict beside {it[:100]!r}")
+    # Another clone's answers are of other files on the disk.
+    clones.git("reset", "--quiet", "--hard", "main~1", who="bob")
+    clones.gittuf("bob", "verify", "main")
+    shutil.copytree(clones.path("bob"), clones.path("copy"))
+    objects = os.path.join(clones.path("copy"), ".git", "gittuf", "kept", "objects")
+    os.remove(os.path.join(objects, clones.tip("copy", f"{MAIN}^{{tree}}")))
+    _, output, errors = run("git", "-C", clones.path("copy"), "gittuf", "verify", "main")
+    want((output, b"the store was damaged" in errors), (f"accepted {MAIN} 1 entries\n".encode(), True), "what a copy answers")
+
+
+CHECKS = (
+    holds_what_judging_reads,
+    asks_nothing_twice,
+    believes_no_damage,
+    keeps_what_a_branch_left,
+    gives_back_what_git_lost,
+    tells_missing_from_damaged,
+    makes_an_older_store_small,
+)
