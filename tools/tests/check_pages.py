@@ -57,8 +57,8 @@ def changes_keys_as_the_page_says(repositories):
     clones.clone("auditor", key=False)
     root = run("git", "-C", clones.path("alice"), "-c", f"gittuf.key={clones.path('alice.key')}", "gittuf", "key", "--id")[1].decode().strip()
     clones.gittuf("alice", "push")
-    clones.git("fetch", "--quiet", who="auditor")
-    clones.verdict("auditor", f"accepted {MAIN} 5 entries", "--root", root, name=MAIN)
+    clones.git("pull", "--quiet", who="auditor")
+    clones.verdict("auditor", f"accepted {MAIN} 5 entries", "--root", root)
 
 
 def lines_of_job(block):

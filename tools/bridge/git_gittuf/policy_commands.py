@@ -43,9 +43,12 @@ def who_signs(draft, force, name):
 
 
 def waits(draft, force, name):
-    """Whether a file is to be signed: it is new, or another than the one in force."""
-    old = force.all_files().get(name)
-    return not old or old.payload != draft.all_files()[name].payload
+    """Whether a file is to be signed: it is new, another than the one in force, or others are to sign it than did."""
+    old, file, role = force.all_files().get(name), draft.all_files()[name], draft.role(name)
+    if not old or old.payload != file.payload:
+        return True
+    signed, _ = policy_faults.who_signed(file, role, draft)
+    return "persons" in role and len(signed) < role["threshold"]
 
 
 def files_to_sign(draft, force, key_id):
@@ -157,6 +160,6 @@ def print_signers(draft, force):
     for name, file in draft.all_files().items():
         if not waits(draft, force, name):
             continue
-        role, signers = draft.role(name), set(file.signers(draft.publics()))
-        signed = [it for it in role.get("persons", []) if set(draft.of_keys([it])) & signers]
+        role = draft.role(name)
+        signed, _ = policy_faults.who_signed(file, role, draft)
         print(plain(f"{name} is signed by {len(signed)} of {role['threshold']}{': ' if signed else ''}{policy_lines.words(signed)}"))
