@@ -1,4 +1,4 @@
-"""Which signatures were found good, so that each is looked at once: by the sum of the key, of what is signed, and of the signature.
+"""Which entries were found signed by the key that they name, so that each is looked at once: by a sum of the key and the entry.
 
 What is kept says who is named, and no more: whether a signature suffices is the program's to say, which reads nothing of it.
 """
@@ -7,7 +7,7 @@ import concurrent.futures
 import hashlib
 import os
 
-from git_gittuf import notes, signatures
+from git_gittuf import leaves, notes, signatures
 
 # So many are worth several processes, each of which takes so many at once.
 MANY, PIECE = 400, 100
@@ -15,19 +15,21 @@ MANY, PIECE = 400, 100
 MOST = 256 << 20
 
 
-def sum_of(public, signed, signature):
-    found = hashlib.sha256()
-    for it in (public, signed, signature):
-        found.update(b"%d " % len(it) + it)
-    return found.hexdigest()
+def sum_of(public, body):
+    return hashlib.sha256(b"%d %s%s" % (len(public), public, body)).hexdigest()
 
 
 def are_good(asked):
-    return [signatures.is_good(*it) for it in asked]
+    """Whether each of these entries has a good signature by the key with it."""
+    found = []
+    for public, body in asked:
+        signed = leaves.of_entry(body, hashlib.sha256(public).hexdigest().encode())
+        found.append(any(signatures.is_good(public, *it) for it in signed))
+    return found
 
 
 def looked_at(asked):
-    """Whether each of these is good, by all processors where there are many."""
+    """The same, by all processors where there are many."""
     if len(asked) < MANY:
         return are_good(asked)
     pieces = [asked[at : at + PIECE] for at in range(0, len(asked), PIECE)]
@@ -41,15 +43,15 @@ class Checked:
     def __init__(self, repository):
         self.path = os.path.join(repository.folder, "signed")
         # What is not as it was written is looked at again.
-        lines = (notes.read(self.path, MOST) or b"").splitlines()
-        self.found = {it[2:].decode(): it[:1] == b"+" for it in lines}
+        lines = (notes.read(self.path, MOST) or b"").decode().splitlines()
+        self.found = {it[2:]: it[:1] == "+" for it in lines}
 
     def are_good(self, asked):
-        """Whether each of these signatures, with its key and what is signed before it, is good."""
+        """The same, of which those that were looked at before are known."""
         sums = [sum_of(*it) for it in asked]
         new = {it: one for it, one in zip(sums, asked) if it not in self.found}
         if new:
             self.found.update(zip(new, looked_at([*new.values()])))
-            lines = (b"%s %s\n" % (b"+" if good else b"-", it.encode()) for it, good in sorted(self.found.items()))
-            notes.write(self.path, b"".join(lines))
+            lines = [f"{'+' if good else '-'} {it}\n" for it, good in sorted(self.found.items())]
+            notes.write(self.path, "".join(lines).encode())
         return [self.found[it] for it in sums]

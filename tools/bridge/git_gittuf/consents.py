@@ -65,7 +65,7 @@ def expect_counts(work, name, value, key, counts):
     _, missing = looking.who_is_missing(policy, counts[2], [*given, key])
     have = len(persons) - len(missing)
     # Who records it signs too.
-    if int(counts[4]) - have > 1:
+    if persons and int(counts[4]) - have > 1:
         tell(f"{rule}: with you {have} signed, and missing is {' or '.join(map(plain, missing))}: {looking.approval_of(name, value)}")
 
 

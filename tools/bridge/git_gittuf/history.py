@@ -1,6 +1,7 @@
 """What the log in Git says, as far as a message or a choice needs it. Judging is the program's alone."""
 
 import base64
+import functools
 import re
 
 from git_gittuf.repository import LOG, OWN, TARGETS, ZEROS
@@ -55,10 +56,11 @@ def last_target(repository, name, value):
     return {TARGETS + last: last} if last in fetched(repository, repository.references(), [last]) else {}
 
 
+@functools.lru_cache(maxsize=4)
 def entries(lines):
     """The entries that the program's log lists, as number, id, kind and the rest of the words."""
     found = [it.split(b" ") for it in lines.splitlines()]
-    return [(int(it[1]), it[2], it[3], it[4:]) for it in found if it[0] == b"entry"]
+    return tuple((int(it[1]), it[2], it[3], it[4:]) for it in found if it[0] == b"entry")
 
 
 ANNOTATED = re.compile(rb"^entryID: ([0-9a-f]{64})$", re.MULTILINE)

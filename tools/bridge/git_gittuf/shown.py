@@ -6,6 +6,8 @@ import shlex
 
 def plain(text):
     """A text that may come from anybody, for a terminal: what is not printed as itself is escaped."""
+    if text.isprintable():
+        return text
     return "".join(it if it.isprintable() else f"\\x{ord(it):02x}" for it in text)
 
 

@@ -8,12 +8,19 @@ import binascii
 import hashlib
 import struct
 
+try:
+    # For texts as short as these the one of Python itself is twice as fast as that of OpenSSL.
+    from _sha256 import sha256
+except ImportError:
+    from hashlib import sha256
+
 HEIGHTS = {5: 5, 6: 10, 7: 15, 8: 20, 9: 25}
 WIDTHS = {1: 1, 2: 2, 3: 4, 4: 8}
 # The number of chains, and by how many bits the sum of the rest of the digits is shifted, by the width.
 CHAINS, SHIFTS = {1: 265, 2: 133, 4: 67, 8: 34}, {1: 7, 2: 6, 4: 4, 8: 0}
 D_PUBLIC, D_MESSAGE, D_LEAF, D_INNER = 0x8080, 0x8181, 0x8282, 0x8383
 ONE_LEVEL, TWO_LEVELS = 56, 60
+STEPS = [bytes((it,)) for it in range(255)]
 
 
 def digest(*parts):
@@ -50,8 +57,8 @@ def digits_of(text, width):
 
 def end_of_chain(front, value, start, last):
     """The value after the steps of a chain from `start` to its end."""
-    for step in range(start, last):
-        value = hashlib.sha256(front + bytes((step,)) + value).digest()
+    for step in STEPS[start:last]:
+        value = sha256(front + step + value).digest()
     return value
 
 

@@ -20,14 +20,10 @@ def of_bodies(repository, bodies, publics=None, are_good=None):
     """The id of the key that each of these entries names, or None where it names none, or one of these by which it is not good."""
     found = {it: key_in(body) for it, body in bodies.items()}
     found = {it: key.decode() if key else None for it, key in found.items()}
-    given, asked, are_good = [], [], are_good or Checked(repository).are_good
-    for it, key in found.items():
-        public = (publics or {}).get(key)
-        signed = [*leaves.of_entry(bodies[it], key.encode())][:1] if public else []
-        given += [it] * len(signed)
-        asked += [(public, *one) for one in signed]
-    good = set(given) - {it for it, is_good in zip(given, are_good(asked)) if not is_good} if asked else set()
-    return {it: key if key not in (publics or {}) or it in good else None for it, key in found.items()}
+    listed = [it for it, key in found.items() if key in (publics or {})]
+    asked = [(publics[found[it]], bodies[it]) for it in listed]
+    good = (are_good or Checked(repository).are_good)(asked) if asked else []
+    return {**found, **{it: found[it] if is_good else None for it, is_good in zip(listed, good)}}
 
 
 def of_entries(repository, ids, publics=None, **how):
