@@ -6,7 +6,7 @@ import os
 from checking import run, want
 from guarded_clones import MAIN, another
 
-LOG, POLICY = "refs/gittuf/reference-state-log", "refs/gittuf/policy"
+LOG, POLICY, ATTESTATIONS = "refs/gittuf/reference-state-log", "refs/gittuf/policy", "refs/gittuf/attestations"
 ANYWAY = "; --anyway signs it all the same"
 
 
@@ -155,11 +155,40 @@ def names_who_is_missing(repositories):
     want((told[-1]["rule"], told[-1]["missing"], "rule" in told[0]), ("main", ["bob"], False), "the rule of the last one")
     clones.gittuf("alice", "skip", str(number))
     lines = clones.gittuf("alice", "verify", "-v", "main", status=1).decode().splitlines()
-    want(f", skipped by entry {number + 1}" in lines[3], True, f"whether the skip is told: {lines}")
+    want(f", and entry {number + 1} says skip" in lines[3], True, f"whether the skip is told: {lines}")
     clones.git("branch", "x\u202ey", who="carol")
     clones.gittuf("carol", "record", "x\u202ey")
     lines = clones.gittuf("carol", "verify", "-v", "x\u202ey").decode()
     want(("\u202e" in lines, "by carol" in lines), (False, True), f"how a name is shown that turns lines round: {lines}")
+
+
+def names_nobody_by_another_approval(repositories):
+    """who approved one change is not named beside another one, whatever stands at its place among the approvals"""
+    clones = of_three(repositories, "approved elsewhere")
+    first = clones.tip("alice")
+    clones.commit("alice")
+    clones.git("push", "--quiet", "origin", "main:topic", who="alice")
+    clones.git("fetch", "--quiet", who="bob")
+    clones.gittuf("bob", "approve", "main", "origin/topic")
+    clones.gittuf("bob", "push", "--anyway")
+    clones.git("fetch", "--quiet", who="alice")
+    clones.gittuf("alice", "verify", "main", status=1)
+    clones.git("reset", "--quiet", "--hard", first, who="alice")
+    clones.commit("alice")
+    path = f"reference-authorizations/{MAIN}/{first}-{clones.tip('alice', f'{MAIN}^{{tree}}')}"
+    given = clones.git("ls-tree", "-r", ATTESTATIONS, who="alice").split()[2].decode()
+    clones.git("read-tree", ATTESTATIONS, who="alice")
+    clones.git("update-index", "--add", "--cacheinfo", f"100644,{given},{path}", who="alice")
+    tree = clones.git("write-tree", who="alice").decode().strip()
+    made = clones.git("commit-tree", "-m", "moved", "-p", ATTESTATIONS, tree, who="alice").decode().strip()
+    clones.git("reset", "--quiet", who="alice")
+    clones.git("update-ref", ATTESTATIONS, made, who="alice")
+    clones.gittuf("alice", "record", ATTESTATIONS)
+    part = "rule main wants 2 of alice, bob for it; missing is bob"
+    clones.refused("alice", "record", "main", status=3, part=part)
+    clones.gittuf("alice", "record", "main", "--anyway")
+    told = json.loads(clones.gittuf("alice", "verify", "-v", "--json", "main", status=1))["told"]
+    want((told[-1]["approved"], told[-1]["missing"]), ([], ["bob"]), "who approved it, and who is missing")
 
 
 def names_nobody_unproved(repositories):
@@ -183,5 +212,6 @@ CHECKS = (
     skips_nothing_in_vain,
     applies_nothing_in_vain,
     names_who_is_missing,
+    names_nobody_by_another_approval,
     names_nobody_unproved,
 )

@@ -4,7 +4,7 @@ It is for persons, and beside the verdict, which is the program's. A name stands
 person's key under the policy in force at the entry.
 """
 
-from git_gittuf import history, leaves, listing, looking
+from git_gittuf import history, listing, looking, signers
 from git_gittuf.repository import ATTESTATIONS, ZEROS
 from git_gittuf.shown import plain
 
@@ -49,7 +49,7 @@ class Accounts:
         paths = [(number, b"%s:reference-authorizations/%s/%s-%s" % (attested, name, source, tree)) for number, source, tree, attested in rows]
         blobs = self.looked_up(paths)
         texts = {it: body for it, kind, body in self.work.repository.bodies(set(blobs.values())) if kind == b"blob" and body}
-        return {number: self.persons_in(number, texts[it]) for number, it in blobs.items() if it in texts}
+        return {it[0]: self.persons_in(name, it, texts[blobs[it[0]]]) for it in rows if blobs.get(it[0]) in texts}
 
     def looked_up(self, rows):
         """The ids of what Git has by these words, each with the number of an entry."""
@@ -57,10 +57,11 @@ class Accounts:
         lines = self.work.repository.asked("look objects up", "cat-file", "--batch-check=%(objectname)", input=given).splitlines()
         return {number: it for (number, _), it in zip(rows, lines) if b" " not in it}
 
-    def persons_in(self, number, text):
-        """The persons of whom an approval has a good signature."""
+    def persons_in(self, name, row, text):
+        """The persons who signed an approval of the change of an entry."""
+        number, source, tree, _ = row
         people = self.found.people_at(number)
-        signed = [key for key, public in people.publics.items() if key.encode() in text and leaves.is_signed(text, key, public)]
+        signed = signers.of_approval(text, name, source, tree, people.publics)
         return [people.persons[it] for it in signed if it in people.persons]
 
     def of(self, name, line):
@@ -94,7 +95,7 @@ def in_words(told, people):
     """The lines on an entry, below a verdict."""
     where = "is gone" if told["target"] == ZEROS.decode() else f"is {told['target'][:12]}"
     approved = f", approved by {names(told['approved'])}" if told["approved"] else ""
-    skipped = f", skipped by entry {told['skipped']}" if told["skipped"] else ""
+    skipped = f", and entry {told['skipped']} says skip" if told["skipped"] else ""
     lines = [f"  entry {told['number']} {where}, by {people.shown(told['key'])}{approved}, {told['time'] or 'at no time'}{skipped}"]
     if "rule" in told:
         what = f" for a change of {plain(told['path'])}" if told["path"] else ""

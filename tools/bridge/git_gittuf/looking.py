@@ -10,7 +10,7 @@ import os
 import re
 import urllib.parse
 
-from git_gittuf import epochs, history, keys, leaves, policies, sentences, settings, signers
+from git_gittuf import epochs, history, keys, policies, sentences, settings, signers
 from git_gittuf.names import short
 from git_gittuf.program import Ended
 from git_gittuf.repository import ATTESTATIONS, LOG, ZEROS, Stopped
@@ -54,7 +54,7 @@ def approvers(work, policy, name, value):
     tree = repository.git("rev-parse", "--verify", "--quiet", f"{value.decode()}^{{tree}}")[1].strip() if value else ZEROS
     path = f"{ATTESTATIONS.decode()}:reference-authorizations/{os.fsdecode(name)}/{last.decode()}-{tree.decode()}"
     status, text, _ = repository.git("cat-file", "blob", path)
-    return [] if status else [key for key, public in policy.publics().items() if leaves.is_signed(text, key, public)]
+    return [] if status else signers.of_approval(text, name, last, tree, policy.publics())
 
 
 def last_counted(work, name):

@@ -14,9 +14,10 @@ STYLE = """
 body{font:16px/1.5 system-ui,sans-serif;margin:0 auto;max-width:70rem;padding:1rem;color:#1b1b1b;background:#fff;overflow-wrap:break-word}
 h1{font-size:1.5rem;line-height:1.25}h2{font-size:1.15rem;margin-top:2rem}code{font:.85em ui-monospace,monospace;overflow-wrap:anywhere}
 table{border-collapse:collapse;width:100%;table-layout:fixed}th,td{text-align:left;padding:.25rem .5rem;border-bottom:1px solid #ddd;vertical-align:top}
-.verdicts th:nth-child(1){width:9rem}.verdicts th:nth-child(2){width:6.5rem}.verdicts th:nth-child(4){width:16rem}
+.verdicts th:nth-child(1){width:12rem}.verdicts th:nth-child(2){width:6.5rem}.verdicts th:nth-child(4){width:16rem}
 .log th:nth-child(1){width:4.5rem}.log th:nth-child(2){width:12rem}.log th:nth-child(3){width:11rem}.log th:nth-child(5){width:8.5rem}
-.good{color:#0a6b2d}.bad{color:#a01010;font-weight:600}li{margin:.2rem 0}svg{width:100%;height:3rem}svg text{font:11px system-ui,sans-serif}
+.good{color:#0a6b2d}.bad{color:#a01010;font-weight:600}li{margin:.2rem 0}
+.line{display:flex;font-size:.8rem}.line span{min-width:0;overflow:hidden;padding:.2rem;print-color-adjust:exact;-webkit-print-color-adjust:exact}
 @media screen and (max-width:45rem){
 body{font-size:15px;padding:.6rem}table,tbody,tr,td{display:block}thead{display:none}tr{padding:.4rem 0;border-bottom:1px solid #bbb}
 td{border:0;padding:.05rem 0}td:empty{display:none}.log td:nth-child(1){font-weight:600}.log td:nth-child(1)::before{content:"Entry "}
@@ -41,14 +42,13 @@ def table(name, heads, rows):
 
 
 def picture(count, epochs):
-    """The log as a line of time from its first entry to its last, a colour for each policy in force."""
+    """The log as a line of time from its first entry to its last, a colour for each policy in force, from the entry that is named on."""
     parts, starts = [], [number for number, _ in epochs]
     for at, start in enumerate(starts):
         end = starts[at + 1] if at + 1 < len(starts) else count + 1
-        left, width = (1000 * (start - 1) / count, 1000 * (end - start) / count)
-        parts.append(f'<rect x="{left:.1f}" y="8" width="{width:.1f}" height="24" fill="{COLOURS[at % len(COLOURS)]}"/>')
-        parts.append(f'<text x="{left + 4:.1f}" y="24">{start}</text>')
-    return f'<svg viewBox="0 0 1000 40" role="img" aria-label="the policies in force over the log">{"".join(parts)}</svg>'
+        parts.append(f'<span style="flex:{end - start} 1 0;background:{COLOURS[at % len(COLOURS)]}">{start}</span>')
+    before = f'<span style="flex:{starts[0] - 1} 1 0">none</span>' if starts[0] > 1 else ""
+    return f'<div class="line" role="img" aria-label="the policies in force over the log">{before}{"".join(parts)}</div>'
 
 
 def verdicts(work, root, account):

@@ -1,8 +1,10 @@
 """Who signed the entries of a log, to be shown. Whether that suffices is the program's to say, and nobody is named unproved."""
 
+import base64
+import os
 import re
 
-from git_gittuf import keys, leaves, policies
+from git_gittuf import forms, keys, leaves, policies
 from git_gittuf.checked import Checked
 from git_gittuf.repository import Stopped
 from git_gittuf.shown import plain
@@ -29,6 +31,24 @@ def of_bodies(repository, bodies, publics=None, are_good=None):
 def of_entries(repository, ids, publics=None, **how):
     """The same of entries by their ids."""
     return of_bodies(repository, {it: body or b"" for it, _, body in repository.bodies(ids)}, publics, **how)
+
+
+def says(text, name, source, tree):
+    """Whether an approval is one of this change, as who signed it would have it."""
+    said = {"fromRevisionID": source, "targetRef": name, "targetTreeID": tree}
+    try:
+        envelope = forms.json_of(text)
+        payload = forms.json_of(base64.b64decode(envelope["payload"]))
+        return envelope["payloadType"] == policies.TYPE and all(payload[it] == os.fsdecode(value) for it, value in said.items())
+    except (ValueError, LookupError, TypeError, RecursionError):
+        return False
+
+
+def of_approval(text, name, source, tree, publics):
+    """The ids of those of these keys by which an approval of this change is signed."""
+    if len(text) > leaves.MAX_ENVELOPE or not says(text, name, source, tree):
+        return []
+    return [key for key, public in publics.items() if key.encode() in text and leaves.is_signed(text, key, public)]
 
 
 def own_key(repository):
