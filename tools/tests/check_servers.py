@@ -109,10 +109,37 @@ def follows_nothing_invented(repositories):
     want(own & {"refs/gittuf/anything", "refs/gittuf/targets/x", "refs/gittuf/x/reference-state-log"}, set(), "what became own")
 
 
+def takes_no_branch_for_a_log(repositories):
+    """a server that has a branch, a tag or a file in the place of its log changes no verdict, in an old clone and in a new one"""
+    clones = another(repositories, "no log there")
+    clones.gittuf("bob", "verify", "main")
+    log, accepted = clones.tip("server.git", LOG), f"accepted {MAIN} 1 entries\n".encode()
+    clones.git("tag", "-a", "-m", "of main", "of-main", "main", who="alice")
+    clones.git("push", "--quiet", "origin", "of-main", who="alice")
+    clones.clone("newcomer", key=False)
+    clones.git("config", "gittuf.firstRoot", clones.gittuf("alice", "key", "--id").decode().strip(), who="newcomer")
+    clones.gittuf("newcomer", "verify", "main")
+    for name in (MAIN, "refs/tags/of-main", f"{MAIN}:README"):
+        clones.git("update-ref", LOG, clones.tip("server.git", name), who="server.git")
+        later = f"after {len(name)}"
+        clones.clone(later, key=False)
+        clones.refused_after(later, "verify", status=3, part="there is no log here")
+        for who in ("bob", "newcomer"):
+            clones.git("fetch", "--quiet", who=who)
+            for anew in ((), ("setup", "--anew")):
+                run("git", "-C", clones.path(who), "gittuf", *(anew or ("log",)))
+                status, output, errors = run("git", "-C", clones.path(who), "gittuf", "verify", "main")
+                want((status, output, b"damaged" in errors), (3, accepted, False), f"what {who} is told beside {name}: {errors}")
+    clones.git("update-ref", LOG, log, who="server.git")
+    clones.git("fetch", "--quiet", "--force", who="newcomer")
+    want(clones.gittuf("newcomer", "verify", "main"), accepted, "the verdict once the log is back")
+
+
 CHECKS = (
     tells_a_rollback,
     tells_a_dropped_log,
     tells_a_fork,
     signs_nothing_of_others,
     follows_nothing_invented,
+    takes_no_branch_for_a_log,
 )

@@ -77,7 +77,7 @@ def expect_no_step_back(work, name, value):
 
 def expect_own(name):
     """Refuses to sign for where something of a remote was seen."""
-    if not copying.belongs(name):
+    if not copying.is_own(name):
         raise Stopped(f"{plain(os.fsdecode(name))} is no branch or tag of one's own: what a remote has is recorded by its name there", 3)
 
 

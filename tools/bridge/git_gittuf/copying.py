@@ -7,45 +7,43 @@ that the program can read them, and what a command asks for. Where a reference s
 
 import re
 
-from git_gittuf.remotes import BESIDE
+from git_gittuf.remotes import BESIDE, beside
 from git_gittuf.repository import ATTESTATIONS, LOG, OWN, POLICY, REMOTES, STAGED, TARGETS, ZEROS, Stopped
+from packs import EMPTY_TREE
 from stream_format import MAX_BODY
 
 TARGET = re.compile(rb"\n\nRSL Reference Entry\n\nref: ([^\n]+)\ntargetID: ([0-9a-f]{64})\n")
+NO_FILES = b"tree %s\n" % EMPTY_TREE
 # The folders of whose files judging reads, by the references that have them, and how large such a file is at most.
 FOLDERS = {POLICY: b"metadata", ATTESTATIONS: b"reference-authorizations"}
 MAX_FILE = 1 << 20
 
 
-def is_log(name):
-    """Whether a reference is a remote's log, which is read before it is followed."""
-    return name.startswith(BESIDE) and name.endswith(LOG[len(OWN) - 1 :])
+def is_own(name):
+    """Whether a reference is none that only keeps objects, or says what a remote has."""
+    return not name.startswith((BESIDE, REMOTES, TARGETS))
 
 
-def belongs(name):
-    """Whether a reference stands in the store too. What only keeps objects does not, nor a remote's, but for its log."""
-    return is_log(name) if name.startswith(BESIDE) else not name.startswith((TARGETS, REMOTES))
+def of_store(repository):
+    """The references that stand in the store too: the own ones, and the logs of remotes, which are read before they are followed."""
+    logs = {beside(it, LOG) for it in repository.remotes()}
+    return {name: value for name, value in repository.references().items() if is_own(name) or name in logs}
 
 
-def of_store(references):
-    return {name: value for name, value in references.items() if belongs(name)}
+def is_entry(kind, body):
+    """Whether an object may be an entry of a log, of which no other commit is taken: it has no files, and says that it is one."""
+    return kind == b"commit" and body.startswith(NO_FILES) and b"\n\nRSL " in body
 
 
-def commits_of(repository, progress, tips, known):
-    """The ids of the commits that these tips reach, and those that are known do not, with the tips themselves."""
-    tips = set(tips) - set(known)
+def new_entries(repository, progress, wanted, held):
+    """The ids of the commits that the store may lack of the own log and of those of remotes."""
+    logs = lambda them: {value for name, value in them.items() if value and (name == LOG or name.startswith(BESIDE))}
+    tips, known = logs(wanted) - logs(held), logs(held)
     if not tips:
         return []
     lines = b"".join(b"%s\n" % it for it in (*tips, *(b"^" + it for it in repository.there(known))))
     tell = lambda count: progress.tell(f"{count} entries found")
-    found = repository.lines("list what references reach, as git fsck may say", "rev-list", "--stdin", input=lines, tell=tell)
-    return [*found, *tips]
-
-
-def new_entries(repository, progress, wanted, held):
-    """The ids of the entries that the store may lack, of the own log and of those of remotes."""
-    logs = lambda them: {value for name, value in them.items() if value and (name == LOG or is_log(name))}
-    return commits_of(repository, progress, logs(wanted), logs(held))
+    return repository.lines("list what references reach, as git fsck may say", "rev-list", "--stdin", input=lines, tell=tell)
 
 
 def listed(repository, ids, *how):
@@ -60,7 +58,8 @@ def listed(repository, ids, *how):
     if len(ids) == 1:
         # It is judged to be broken.
         return ids
-    return [found for it in ids for found in listed(repository, [it], *how)]
+    half = len(ids) // 2
+    return [*listed(repository, ids[:half], *how), *listed(repository, ids[half:], *how)]
 
 
 def states_of(repository, ids):
@@ -83,18 +82,22 @@ class Copier:
         self.repository, self.kept, self.progress = repository, kept, progress
         self.targets, self.too_large, self.count = set(), [], 0
 
-    def copy(self, ids, files=frozenset()):
-        """Copies these objects, and of blobs only those that are files to be read."""
+    def copy(self, ids, is_wanted):
+        """Copies those of these objects that are wanted by their id, kind and body."""
         ids = list(dict.fromkeys(ids))
         for object_id, kind, body in self.repository.bodies(ids):
             self.progress.tell(f"{self.count} objects copied, of {len(ids)}")
             if body is None:
                 self.too_large.append(object_id)
-            elif not self.kept.has(object_id) and (kind != b"blob" or object_id in files):
+            elif not self.kept.has(object_id) and is_wanted(object_id, kind, body):
                 self.kept.put(object_id, kind, body)
                 self.count += 1
             found = TARGET.search(body) if kind == b"commit" and body is not None else None
             self.targets.update([found.groups()] if found else [])
+
+    def copy_entries(self, ids):
+        """Copies entries, and the empty tree that they have. Whatever else stands on a log it breaks there, as where it is missing."""
+        self.copy([*ids, *([EMPTY_TREE] if ids else [])], lambda it, kind, body: it == EMPTY_TREE or is_entry(kind, body))
 
     def copy_states(self, ids, of_files=()):
         """Copies what is read of targets, and of some of them, each with its reference, the files too."""
@@ -102,7 +105,8 @@ class Copier:
         files = files_of(self.repository, [it for it in of_files if lacks(it[1])])
         states = states_of(self.repository, filter(lacks, [*ids, *(it[1] for it in of_files)]))
         # A commit comes after its trees, so that one that is there has them, wherever a call was stopped.
-        self.copy([it for it in (*files, *reversed(states)) if not self.kept.has(it)], set(files))
+        wanted = set(files)
+        self.copy([it for it in (*files, *reversed(states)) if not self.kept.has(it)], lambda it, kind, _: kind != b"blob" or it in wanted)
 
 
 def bring(repository, kept, progress, extra=(), maybe=()):
@@ -110,14 +114,14 @@ def bring(repository, kept, progress, extra=(), maybe=()):
 
     Returns how many objects were put into it, and which were too large.
     """
-    wanted, held = of_store(repository.references()), kept.references()
+    wanted, held = of_store(repository), kept.references()
     lacks = [it for it in extra if not kept.has(it)]
     states = lacks + [it for it in maybe if not kept.has(it)]
     if wanted == held and not states:
         return 0, []
     copier = Copier(repository, kept, progress)
     with kept.opened():
-        copier.copy(new_entries(repository, progress, wanted, held))
+        copier.copy_entries(new_entries(repository, progress, wanted, held))
         own = {(name, value) for name, value in wanted.items() if name in FOLDERS}
         of_files = own | {it for it in copier.targets if it[0] in FOLDERS}
         states += [target for name, target in copier.targets if name not in FOLDERS]
@@ -131,8 +135,10 @@ def bring(repository, kept, progress, extra=(), maybe=()):
     return copier.count, copier.too_large
 
 
-def is_takeable(repository, object_id):
-    """Whether Git has this object, and the store could: judging reads it, and it is not too large."""
+def is_takeable(repository, object_id, of_log):
+    """Whether Git has this object, and the store would: an entry where it is of a log, and else what states are of, and not too large."""
     how = "--batch-check=%(objecttype) %(objectsize)"
     found = repository.asked("look an object up", "cat-file", how, input=b"%s\n" % object_id).split()
-    return len(found) == 2 and found[0] in (b"commit", b"tree", b"tag") and int(found[1]) <= MAX_BODY
+    if len(found) != 2 or found[0] not in (b"commit", b"tree", b"tag") or int(found[1]) > MAX_BODY:
+        return False
+    return not of_log or any(is_entry(kind, body) for _, kind, body in repository.bodies([object_id]))

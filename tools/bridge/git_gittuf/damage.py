@@ -25,4 +25,5 @@ def is_in_store(work, status, printed):
     if status == FAULT:
         return not work.kept.is_all_sound()
     found = object_in(printed)
-    return found is not None and not work.kept.is_sound(found) and copying.is_takeable(work.repository, found)
+    of_log = printed.startswith(b"log-broken ")
+    return found is not None and not work.kept.is_sound(found) and copying.is_takeable(work.repository, found, of_log)

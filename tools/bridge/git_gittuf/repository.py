@@ -1,5 +1,6 @@
 """The Git repository that a call works in: where it is, its references, and which objects it has."""
 
+import functools
 import os
 import re
 import subprocess
@@ -153,6 +154,7 @@ class Repository:
         """The values of a setting, none where it is not set."""
         return [os.fsdecode(it) for it in self.git("config", *how, "--get-all", name)[1].splitlines()]
 
+    @functools.cache
     def remotes(self):
         return [os.fsdecode(it) for it in self.asked("list the remotes", "remote").splitlines()]
 

@@ -32,7 +32,7 @@ def meant_by(work, words):
 def verdict(work, meant, root):
     """The program's status and line on a reference."""
     asked = ("verify-ref", os.fsdecode(meant.name), *(() if root is None else ("--root", root)))
-    value = meant.value or (None if copying.belongs(meant.name) else work.repository.references().get(meant.name))
+    value = meant.value or (None if copying.is_own(meant.name) else work.repository.references().get(meant.name))
     return work.read(*asked, at=(meant.name, value) if value else None)
 
 

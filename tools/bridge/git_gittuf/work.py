@@ -97,12 +97,12 @@ class Work:
 
     def bring(self, extra=(), maybe=()):
         """Makes the store what Git is, after the own references went on where they may. Returns how many objects came."""
-        wanted = copying.of_store(self.repository.references())
+        wanted = copying.of_store(self.repository)
         changed = of_gittuf(wanted) != of_gittuf(self.kept.references())
         count = self.copy(extra, maybe)
         if self.unfit is None and self.follow(changed):
             count += self.copy()
-        if LOG in wanted or LOG in self.kept.references():
+        if LOG in self.kept.references():
             status, printed = self.read("log")
             if not status:
                 targets.keep(self, history.entries(printed))
@@ -130,7 +130,7 @@ class Work:
             return self.copy()
 
     def copy(self, extra=(), maybe=()):
-        if not extra and not maybe and copying.of_store(self.repository.references()) == self.kept.references():
+        if not extra and not maybe and copying.of_store(self.repository) == self.kept.references():
             return 0
         progress = program.Progress()
         try:
