@@ -16,14 +16,14 @@ h1{font-size:1.5rem;line-height:1.25}h2{font-size:1.15rem;margin-top:2rem}code{f
 table{border-collapse:collapse;width:100%;table-layout:fixed}th,td{text-align:left;padding:.25rem .5rem;border-bottom:1px solid #ddd;vertical-align:top}
 .verdicts th:nth-child(1){width:12rem}.verdicts th:nth-child(2){width:6.5rem}.verdicts th:nth-child(4){width:16rem}
 .log th:nth-child(1){width:4.5rem}.log th:nth-child(2){width:12rem}.log th:nth-child(3){width:11rem}.log th:nth-child(5){width:8.5rem}
-.good{color:#0a6b2d}.bad{color:#a01010;font-weight:600}li{margin:.2rem 0}
+.log td:nth-child(2){white-space:nowrap}.good{color:#0a6b2d}.bad{color:#a01010;font-weight:600}li{margin:.2rem 0}
 .line{display:flex;font-size:.8rem}.line span{min-width:0;overflow:hidden;padding:.2rem;print-color-adjust:exact;-webkit-print-color-adjust:exact}
 @media screen and (max-width:45rem){
 body{font-size:15px;padding:.6rem}table,tbody,tr,td{display:block}thead{display:none}tr{padding:.4rem 0;border-bottom:1px solid #bbb}
 td{border:0;padding:.05rem 0}td:empty{display:none}.log td:nth-child(1){font-weight:600}.log td:nth-child(1)::before{content:"Entry "}
 .log td:nth-child(3)::before{content:"signed by "}.log td:nth-child(5)::before{content:"id "}.verdicts td:nth-child(1){font-weight:600}}
-@media print{@page{margin:15mm}body{max-width:none;padding:0;font-size:10pt}tr{break-inside:avoid}h2{break-after:avoid}
-.log th:nth-child(1){width:3rem}.log th:nth-child(2){width:9rem}.log th:nth-child(3){width:8rem}.log th:nth-child(5){width:7rem}}
+@media print{@page{margin:14mm}html{font-size:10px}body{font-size:1rem;line-height:1.35;max-width:none;padding:0}
+th,td{padding:.1rem .4rem}tr{break-inside:avoid}h2{break-after:avoid}.log th:nth-child(2){width:13rem}}
 """
 # A page that runs and fetches nothing, whatever is in it.
 SEALED = "default-src 'none'; style-src 'unsafe-inline'"

@@ -1,0 +1,98 @@
+"""The checks of tools/test on the page for an auditor: what it has, that it fetches and runs nothing, and how a browser takes it."""
+
+import html.parser
+import os
+import re
+import shutil
+
+from checking import Skip, run, want
+from guarded_clones import MAIN, another
+
+BROWSERS = ("chromium", "chromium-browser", "google-chrome")
+# A name of a branch that would be part of a page, if it were let.
+ODD = "x<script>document.title=1</script>&amp;"
+
+
+class Page(html.parser.HTMLParser):
+    """The tables of a page, as the texts of their cells, and whatever would run or fetch something."""
+
+    def __init__(self, text):
+        super().__init__()
+        self.tables, self.outside, self.in_cell = {}, [], False
+        self.feed(text)
+
+    def handle_starttag(self, tag, attrs):
+        if tag in ("script", "img", "link", "iframe", "object") or any(name in ("src", "href") or name.startswith("on") for name, _ in attrs):
+            self.outside.append(tag)
+        if tag == "table":
+            self.rows = self.tables.setdefault(dict(attrs)["class"], [])
+        elif tag == "tr":
+            self.rows.append([])
+        elif tag in ("td", "th"):
+            self.rows[-1].append("")
+        self.in_cell = self.in_cell and tag not in ("h2", "table") or tag in ("td", "th")
+
+    def handle_endtag(self, tag):
+        self.in_cell = self.in_cell and tag not in ("td", "th")
+
+    def handle_data(self, data):
+        if self.in_cell:
+            self.rows[-1][-1] += data
+
+
+def reported(repositories, name):
+    """Clones with a violation and an odd name, and the report on them."""
+    clones = another(repositories, name)
+    clones.clone("mallory")
+    clones.git("branch", ODD, who="mallory")
+    clones.gittuf("mallory", "record", ODD)
+    clones.commit("mallory")
+    clones.gittuf("mallory", "record", "main", "--anyway")
+    path = clones.path("report.html")
+    clones.gittuf("mallory", "report", "-o", path, status=1)
+    with open(path, encoding="utf-8") as file:
+        return clones, path, file.read()
+
+
+def tells_all(repositories):
+    """the report has each verdict with the rule and who is missing, and each entry with who signed it, and runs and fetches nothing"""
+    _, _, text = reported(repositories, "reported")
+    page = Page(text)
+    want(page.outside, [], "what the page would run or fetch")
+    want("default-src 'none'" in text, True, "whether the page forbids it too")
+    verdicts = {it[0]: it[1:] for it in page.tables["verdicts"][1:]}
+    want(set(verdicts), {"refs/gittuf/policy", "main", ODD}, "what is judged")
+    want((verdicts["main"][0], verdicts[ODD][0]), ("violation", "accepted"), "the verdicts")
+    for part in ("git gittuf recover main", "rule main wants 1 of alice, bob: missing are alice, bob"):
+        want(part in verdicts["main"][1], True, f"whether it says {part}: {verdicts['main'][1]}")
+    entries = page.tables["log"][1:]
+    want([it[0] for it in entries], ["1", "2", "3", "4"], "the entries")
+    want([it[2] for it in entries][:2], ["alice", "alice"], "who signed the first two")
+    want(f"refs/heads/{ODD}" in entries[2][3], True, f"how a name is shown: {entries[2]}")
+
+
+def is_read_by_a_browser(repositories):
+    """a browser reads the report as it is meant, shows it at both widths, and prints it, where one is here"""
+    browser = next((it for it in map(shutil.which, BROWSERS) if it), None)
+    if not browser:
+        raise Skip("no browser is here")
+    clones, path, text = reported(repositories, "browsed")
+    # It keeps what it likes in a folder of its own.
+    words = ("env", f"HOME={clones.folder}", browser, "--headless", "--no-sandbox", "--disable-gpu", f"--user-data-dir={clones.path('browser')}")
+    status, shown, _ = run(*words, "--dump-dom", f"file://{path}")
+    if status:
+        raise Skip(f"{os.path.basename(browser)} does not run here")
+    want(Page(shown.decode()).tables, Page(text).tables, "the tables as the browser has them")
+    for width in (400, 1280):
+        picture = clones.path(f"{width}.png")
+        want(run(*words, f"--window-size={width},1000", f"--screenshot={picture}", f"file://{path}")[0], 0, "the status of a picture")
+        want(os.path.getsize(picture) > 10_000, True, "whether something is on it")
+    printed = clones.path("report.pdf")
+    want(run(*words, f"--print-to-pdf={printed}", f"file://{path}")[0], 0, "the status of printing")
+    with open(printed, "rb") as file:
+        pages = len(re.findall(rb"/Type\s*/Page\b", file.read()))
+    want(1 <= pages <= 3, True, f"whether {pages} pages are few")
+    return f"{pages} pages; a verdict on {MAIN} among {len(Page(text).tables['verdicts']) - 1}"
+
+
+CHECKS = (tells_all, is_read_by_a_browser)
