@@ -1,11 +1,9 @@
-"""The checks of tools/test on what the store holds, on what stays of what was recorded, and on answers that are kept."""
+"""The checks of tools/test on what the store holds, and on what stays of what was recorded."""
 
 import os
-import shutil
-import sys
 import time
 
-from checking import TOP, Failure, run, want
+from checking import Failure, run, want
 from git_gittuf import epochs
 from guarded_clones import MAIN, another
 from packs import Pack
@@ -168,6 +166,29 @@ def gives_back_what_git_lost(repositories):
     clones.sound("alice", "auditor")
 
 
+def publishes_nothing_for_a_stranger(repositories):
+    """a commit that was never pushed goes to no server because somebody wrote its id into an entry, nor comes back once Git lost it"""
+    clones = another(repositories, "unpushed")
+    clones.clone("mallory")
+    clones.gittuf("mallory", "verify", "main")
+    before = clones.tip("alice")
+    clones.commit("alice", "secret")
+    secret = clones.tip("alice")
+    clones.git("branch", "own", who="alice")
+    clones.git("reset", "--quiet", "--hard", before, who="alice")
+    recorded_by_nobody(clones, "mallory", [secret])
+    clones.git("push", "--quiet", "origin", f"{LOG}:{LOG}", who="mallory")
+    clones.git("fetch", "--quiet", who="alice")
+    for words in (("gittuf", "verify", "main"), ("push", "--quiet"), ("gittuf", "push")):
+        clones.git(*words, who="alice")
+    want(clones.tip("server.git", LOG), clones.tip("alice", LOG), "where the log of the server stands")
+    clones.git("branch", "--quiet", "-D", "own", who="alice")
+    forget(clones, "alice")
+    clones.gittuf("alice", "verify", "main")
+    clones.git("push", "--quiet", who="alice")
+    want([is_there(clones, who, secret) for who in ("server.git", "alice")], [False, False], "who has that commit")
+
+
 def tells_missing_from_damaged(repositories):
     """of an object that the store lost the store is made again, and one that Git lost too is told as missing; so with a log's entry"""
     clones = another(repositories, "missing")
@@ -188,91 +209,11 @@ def tells_missing_from_damaged(repositories):
     want((status, output, b"damaged" in errors), (1, line, False), f"what is said of what is nowhere: {errors}")
 
 
-def counting(clones, name):
-    """A folder with git-gittuf whose launcher notes what it is asked, and the path of these notes."""
-    place = clones.path(name)
-    os.mkdir(place)
-    shutil.copytree(os.path.join(TOP, "tools", "bridge"), os.path.join(place, "tools", "bridge"))
-    shutil.copy(os.path.join(TOP, "tools", "git-gittuf"), os.path.join(place, "tools"))
-    asked = os.path.join(place, "asked")
-    with open(os.path.join(place, "gittuf"), "w", encoding="utf-8") as file:
-        file.write(f"#!/bin/sh\necho \"$3\" >> '{asked}'\nexec '{TOP}/gittuf' \"$@\"\n")
-    os.chmod(file.name, 0o755)
-    return os.path.join(place, "tools", "git-gittuf"), asked
-
-
-def times_asked(path):
-    if not os.path.exists(path):
-        return 0
-    with open(path, encoding="utf-8") as file:
-        count = len(file.readlines())
-    os.remove(path)
-    return count
-
-
-def asks_nothing_twice(repositories):
-    """a second verify with nothing new asks the program nothing, also of remotes' branches; what changed below lets it be asked again"""
-    clones = another(repositories, "asked twice")
-    clones.git("push", "--quiet", "origin", "main:topic", who="alice")
-    clones.git("fetch", "--quiet", who="bob")
-    tool, asked = counting(clones, "counting")
-    words = (sys.executable, tool, "verify")
-    every = [(*words, *them) for them in ((), ("origin/main",), ("topic",), ("-v",), ("--root", clones.gittuf("alice", "key", "--id").decode().strip()))]
-    first = [run(*it, folder=clones.path("bob")) for it in every]
-    want(times_asked(asked) > 0, True, "whether the program is asked at first")
-    second = [run(*it, folder=clones.path("bob")) for it in every]
-    want(second, first, "what is answered then")
-    want(times_asked(asked), 1, "how often the program is asked then, once for who is in force in -v")
-    objects = os.path.join(clones.path("bob"), ".git", "gittuf", "kept", "objects")
-    changes = {
-        "a branch": lambda: clones.git("branch", "new", who="bob"),
-        "an object of the store": lambda: os.utime(os.path.join(objects, clones.tip("bob", f"{MAIN}^{{tree}}"))),
-        "the program": lambda: os.utime(os.path.join(os.path.dirname(os.path.dirname(tool)), "gittuf")),
-        "a fetch": lambda: (clones.gittuf("alice", "note", "1"), clones.git("push", "--quiet", who="alice"), clones.git("fetch", "--quiet", who="bob")),
-    }
-    for what, change in changes.items():
-        change()
-        run(*words, folder=clones.path("bob"))
-        want(times_asked(asked) > 0, True, f"whether the program is asked after {what} changed")
-        run(*words, folder=clones.path("bob"))
-        want(times_asked(asked), 0, f"how often it is asked once more after {what}")
-
-
-def believes_no_damage(repositories):
-    """what is kept of answers is none where a byte of it is another, it is cut, or it is of another clone: the verdict is the program's"""
-    clones = another(repositories, "damaged answers")
-    path = os.path.join(clones.path("bob"), ".git", "gittuf", "answers")
-    moved = clones.commit("bob")
-    line = f"tip-differs {MAIN} kept {moved} recorded {clones.tip('bob', 'main~1')}\n".encode()
-    judged = lambda: run("git", "-C", clones.path("bob"), "gittuf", "verify", "main")
-    want(judged()[:2], (1, line), "the verdict at first")
-    with open(path, "rb") as file:
-        whole = file.read()
-    at = whole.index(b"tip-differs")
-    told = whole[:at] + b"accepted refs/heads/main 9 entries\\n" + whole[whole.index(b'"', at) :]
-    texts = [told, b"", b"\n", whole[1:], whole + b" ", b"[]", told.replace(told[:64], b"0" * 64)]
-    texts += [whole[:it] + bytes([whole[it] ^ 1]) + whole[it + 1 :] for it in range(0, len(whole), max(1, len(whole) // 12))]
-    texts += [whole[:it] for it in range(0, len(whole), max(1, len(whole) // 6))]
-    for it in texts:
-        with open(path, "wb") as file:
-            file.write(it)
-        want(judged()[:2], (1, line), f"the verdict beside {it[:100]!r}")
-    # Another clone's answers are of other files on the disk.
-    clones.git("reset", "--quiet", "--hard", "main~1", who="bob")
-    clones.gittuf("bob", "verify", "main")
-    shutil.copytree(clones.path("bob"), clones.path("copy"))
-    objects = os.path.join(clones.path("copy"), ".git", "gittuf", "kept", "objects")
-    os.remove(os.path.join(objects, clones.tip("copy", f"{MAIN}^{{tree}}")))
-    _, output, errors = run("git", "-C", clones.path("copy"), "gittuf", "verify", "main")
-    want((output, b"the store was damaged" in errors), (f"accepted {MAIN} 1 entries\n".encode(), True), "what a copy answers")
-
-
 CHECKS = (
     holds_what_judging_reads,
-    asks_nothing_twice,
-    believes_no_damage,
     keeps_what_a_branch_left,
     gives_back_what_git_lost,
+    publishes_nothing_for_a_stranger,
     tells_missing_from_damaged,
     makes_an_older_store_small,
 )

@@ -8,7 +8,7 @@ that the program can read them, and what a command asks for. Where a reference s
 import re
 
 from git_gittuf.remotes import BESIDE, beside
-from git_gittuf.repository import ATTESTATIONS, LOG, OWN, POLICY, REMOTES, STAGED, TARGETS, ZEROS, Stopped
+from git_gittuf.repository import ATTESTATIONS, LOG, POLICY, REMOTES, STAGED, TARGETS, ZEROS, Stopped
 from packs import EMPTY_TREE
 from stream_format import MAX_BODY
 

@@ -8,7 +8,7 @@ what is not there. All else that Git lost goes from the store as well, so that e
 one has it whole.
 """
 
-from git_gittuf import giving, keys, signers
+from git_gittuf import checked, giving, keys, signers
 from git_gittuf.remotes import BESIDE, fetched
 from git_gittuf.repository import OWN, TARGETS, ZEROS, Stopped
 from git_gittuf.telling import tell
@@ -70,7 +70,7 @@ def own_entries(repository, ids):
     if key is None:
         return set()
     publics = {key: bytes.fromhex(keys.id_and_public(keys.path_of(repository))[1])}
-    return {it for it, by in signers.of_entries(repository, ids, publics).items() if by == key}
+    return {it for it, by in signers.of_entries(repository, ids, publics, are_good=checked.looked_at).items() if by == key}
 
 
 def of_lost(work, lost):
