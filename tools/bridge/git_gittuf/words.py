@@ -47,7 +47,7 @@ Every day
   record BRANCH                 sign that a branch or tag stands where it stands now, where that is lawful; --anyway
       [--anyway]                signs it all the same, here and below
   approve BRANCH [COMMIT]       sign that it may go to this commit's files, or to where it stands here, or with --delete
-      [--delete] [--anyway]     that it may be gone
+      [--delete] [--anyway]     that it may be gone, where a rule wants that of the key here
   push [BRANCH ..]              push these or the branch that is checked out with the log, all or nothing; where another
       [--remote R] [--anyway]   was faster it does what sync does, and pushes again
   sync [--remote R] [--anyway]  fetch, and where another recorded first, record what is still lawful after that anew
@@ -59,6 +59,7 @@ Every day
                                 to have here first. -v tells of each entry who signed and who approved it, when, and
                                 of a violation who is missing
   skip ENTRY .. [-m TEXT]       sign that entries, by number or id, are to be skipped
+      [--anyway]
   note ENTRY .. [-m TEXT]       sign a note on entries
   log [-v | --json]             print the log, a line for each entry; -v and --json say who signed it, when, and what it says
   report [-o FILE]              write a page of HTML for an auditor: the verdicts, the log with who signed it, the policy,
