@@ -2,6 +2,7 @@
 
 import json
 import os
+import re
 
 from checking import run, want
 from guarded_clones import MAIN, another
@@ -124,6 +125,12 @@ def applies_nothing_in_vain(repositories):
     clones.sign("bob")
     part = "policy root-succession 0 of 1; the root that is in force wants 1 of alice, and missing is alice"
     holds_leaves(clones, "bob", "policy", "apply", part=part)
+    clones.gittuf("bob", "policy", "apply", "--anyway")
+    number = len(clones.git("rev-list", LOG, who="bob").split())
+    line = f"violation {POLICY} {number} not-epoch root-succession 0 of 1\n".encode()
+    want(clones.gittuf("bob", "verify", POLICY, status=1), line, "the verdict on a policy that was recorded in vain")
+    _, _, errors = run("git", "-C", clones.path("bob"), "gittuf", "policy", "discard")
+    clones.copied("bob", re.search(r"git update-ref \S+ \w+", errors.decode())[0])
     clones.gittuf("bob", "policy", "discard")
     stray = clones.tip("bob", f"{POLICY}~1")
     clones.git("update-ref", "refs/gittuf/policy-staging", stray, who="bob")

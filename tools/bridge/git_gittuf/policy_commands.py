@@ -8,6 +8,7 @@ from git_gittuf import commands, keys, leaves, policies, policy_faults, policy_l
 from git_gittuf.program import Ended
 from git_gittuf.repository import POLICY, STAGED, Stopped
 from git_gittuf.shown import plain
+from git_gittuf.telling import tell
 
 
 def draft_and_force(work):
@@ -129,7 +130,11 @@ def apply(work, words):
         work.asked("snapshot", POLICY.decode(), input=listing)
         status, printed, said = work.told("policy-apply", key=key)
         if said.startswith("policy "):
-            raise Stopped(f"nothing is applied, and no leaf is used: {policy_faults.sentence(said, draft, force)}", status)
+            why = policy_faults.sentence(said, draft, force)
+            if not words.anyway:
+                raise Stopped(f"nothing is applied, and no leaf is used: {why}; --anyway records it in vain", status)
+            tell(f"it is recorded in vain, and what is in force goes on: {why}")
+            return work.asked("record", POLICY.decode(), key=key)
         print(end=f"{said}\n" if said else "", file=sys.stderr, flush=True)
         if status:
             raise Ended(("policy-apply",), status, printed)
