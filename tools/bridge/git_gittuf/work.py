@@ -240,5 +240,6 @@ class Work:
         return answer
 
     def end(self):
-        """Keeps what the program answered for the next call."""
-        self.answers.write()
+        """Keeps what the program answered for the next call, of which nothing that was said depends."""
+        with contextlib.suppress(OSError):
+            self.answers.write()
