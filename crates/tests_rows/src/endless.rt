@@ -124,10 +124,10 @@ fn store_of(alloc: Global, size: usize) -> Result<Endless, Memory> {
     })
 }
 
-type Unending = Outside<MemSource, Counter, MemSink, Endless, MemDisk, MemEntropy, MemClock>;
-
-fn objects(alloc: Global, size: usize) -> Result<Unending, Memory> {
-    Ok(Outside {
+/// Exports a store of blobs of so many zero bytes, one after the other without an end. In the place of what was printed
+/// it is told how many bytes that were, and how many objects were read.
+pub fn export(alloc: Global, size: usize) -> Result<Seen, Memory> {
+    let mut outside = Outside {
         source: MemSource::new(Octets::new(alloc)),
         sink: Counter { bytes: 0 },
         faults_out: MemSink::new(alloc, 100)?,
@@ -135,32 +135,17 @@ fn objects(alloc: Global, size: usize) -> Result<Unending, Memory> {
         disk: MemDisk::new(Octets::new(alloc), 0, 0)?,
         entropy: MemEntropy::new(Octets::new(alloc)),
         clock: MemClock::new(Vec::new(alloc)),
-    })
-}
-
-// A function of its own, so that what a run promises stands before nothing else.
-fn status_of(alloc: Global, words: &[String], outside: &mut Unending) -> u8 {
-    run(alloc, words, outside)
-}
-
-fn counts(alloc: Global, bytes: u64, reads: u64) -> Result<Octets, Memory> {
-    let mut text = Octets::new(alloc);
-    append_number(&mut text, bytes)?;
-    text.append(b" bytes of ")?;
-    append_number(&mut text, reads)?;
-    text.append(b" objects read")?;
-    Ok(text)
-}
-
-/// Exports a store of blobs of so many zero bytes, one after the other without an end. In the place of what was printed
-/// it is told how many bytes that were, and how many objects were read.
-pub fn export(alloc: Global, size: usize) -> Result<Seen, Memory> {
-    let mut outside = objects(alloc, size)?;
+    };
     let words = vec![in alloc; String::from_str(alloc, "export")?]?;
-    let status = status_of(alloc, words.as_slice(), &mut outside);
+    let status = run(alloc, words.as_slice(), &mut outside);
+    let mut printed = Octets::new(alloc);
+    append_number(&mut printed, outside.sink.bytes)?;
+    printed.append(b" bytes of ")?;
+    append_number(&mut printed, outside.keeper.reads)?;
+    printed.append(b" objects read")?;
     Ok(Seen {
         status,
-        printed: counts(alloc, outside.sink.bytes, outside.keeper.reads)?,
+        printed,
         said: Octets::from_slice(alloc, outside.faults_out.contents())?,
     })
 }
