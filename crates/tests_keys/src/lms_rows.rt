@@ -123,7 +123,7 @@ fn changes_of(kind: OtsType, q: u32) -> [(usize, u8); 5] {
     let last = LmsType::H5.signature_len(kind).saturating_sub(1);
     [
         (3, 1),
-        (3, q as u8 ^ 32),
+        (3, q.to_be_bytes()[3] ^ 32),
         (7, 7),
         (one_time_len.saturating_add(7), 3),
         (last, 1),
