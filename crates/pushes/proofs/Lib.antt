@@ -1,0 +1,6 @@
+pub mod ObjectLines
+pub mod Fronts
+pub mod Finding
+pub mod EntryLines
+pub mod Whole
+pub mod OneRefusals
