@@ -1,0 +1,2 @@
+-- the place of an id in a list
+pub mod Places
