@@ -1,11 +1,11 @@
-"""The check of tools/test on the rows that crates/tests_rows runs."""
+"""The checks of tools/test on the rows that crates/tests_rows and crates/tests_desk run."""
 
 import os
 
 from checking import TOP, want, want_run
 
-MAKE_ROWS = os.path.join(TOP, "tools", "make-rows")
-KEPT = os.path.join(TOP, "crates", "tests_rows")
+# What makes rows, by the crate that runs them.
+MAKERS = {"tests_rows": "make-rows", "tests_desk": "make-pushes"}
 
 
 def read(folder, name):
@@ -13,13 +13,23 @@ def read(folder, name):
         return file.read()
 
 
+def makes(repositories, crate):
+    """Holds the rows of a crate, and the wanted lines, to those that are made."""
+    folder = repositories.path(crate)
+    os.mkdir(folder)
+    want_run((os.path.join(TOP, "tools", MAKERS[crate]), folder), 0)
+    for name in ("stdin", "stdout"):
+        want(read(folder, name), read(os.path.join(TOP, "crates", crate), name), f"the {name} of {crate}")
+
+
 def makes_the_kept_rows(repositories):
     """make-rows makes the rows and the wanted lines that are kept"""
-    folder = repositories.path("rows")
-    os.mkdir(folder)
-    want_run((MAKE_ROWS, folder), 0)
-    for name in ("stdin", "stdout"):
-        want(read(folder, name), read(KEPT, name), f"the {name} of tests_rows")
+    makes(repositories, "tests_rows")
 
 
-CHECKS = (makes_the_kept_rows,)
+def makes_the_kept_pushes(repositories):
+    """make-pushes makes the rows of pushes and the wanted lines that are kept"""
+    makes(repositories, "tests_desk")
+
+
+CHECKS = (makes_the_kept_rows, makes_the_kept_pushes)
