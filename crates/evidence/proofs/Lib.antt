@@ -1,0 +1,4 @@
+pub mod Bytes
+pub mod KeyLines
+pub mod Sides
+pub mod Breaking
