@@ -1,0 +1,141 @@
+use evidence::{Dossier, DossierFault};
+use octets::Octets;
+use std::alloc::Global;
+use std::test::Fail;
+
+// The text of a dossier of a key of 56 bytes `k`, of `left body` and of no right one.
+const TEXT: &[u8; 165] =
+    b"gittuf-evidence 1\nkey 6b6b6b6b6b6b6b6b6b6b6b6b6b6b6b6b6b6b6b6b6b6b6b6b6b6b6b6b6b6b6b6b6b6b6b6b6b6b6b6b\
+6b6b6b6b6b6b6b6b6b6b6b6b6b6b6b6b\nleft 9\nleft body\nright 0\n\nend\n";
+
+// Where its parts begin: the first line, the key, the left body, the right one, the last line, and the end.
+const PARTS: [usize; 6] = [0, 18, 135, 152, 161, 165];
+
+fn at_of(alloc: Global, text: &[u8]) -> Result<Option<u64>, Fail> {
+    match Dossier::read(alloc, text) {
+        Ok(_) => Ok(None),
+        Err(DossierFault::Malformed { at }) => Ok(Some(at)),
+        Err(DossierFault::Memory) => Err(Fail::from("memory")),
+    }
+}
+
+// Where the part begins that has this place.
+fn part_of(place: usize) -> u64 {
+    let mut found = 0;
+    for part in PARTS {
+        if part <= place {
+            found = part as u64;
+        }
+    }
+    found
+}
+
+fn dossier_of(alloc: Global, public: &[u8], left: &[u8], right: &[u8]) -> Result<Dossier, Fail> {
+    Ok(Dossier {
+        public: Octets::from_slice(alloc, public)?,
+        left: Octets::from_slice(alloc, left)?,
+        right: Octets::from_slice(alloc, right)?,
+    })
+}
+
+#[test]
+fn a_dossier_is_written_and_read(rt: HostRuntime) -> Result<(), Fail> {
+    let alloc = rt.alloc();
+    let dossier = dossier_of(alloc, &[b'k'; 56], b"left body", b"")?;
+    let text = dossier.write(alloc)?;
+    assert!(rt; text.as_slice() == TEXT.as_slice());
+    let Ok(again) = Dossier::read(alloc, text.as_slice()) else {
+        return Err(Fail::from("a dossier"));
+    };
+    assert!(rt; again.public.as_slice() == [b'k'; 56].as_slice());
+    assert!(rt; again.left.as_slice() == b"left body".as_slice());
+    assert!(rt; again.right.is_empty());
+    let long = dossier_of(alloc, &[0; 60], b"\n\n", b"end\n")?;
+    let text = long.write(alloc)?;
+    let Ok(again) = Dossier::read(alloc, text.as_slice()) else {
+        return Err(Fail::from("a dossier of two levels"));
+    };
+    assert!(rt; again.public.as_slice() == [0; 60].as_slice());
+    assert!(rt; again.right.as_slice() == b"end\n".as_slice());
+    Ok(())
+}
+
+#[test]
+fn a_cut_text_is_wrong_where_its_part_begins(rt: HostRuntime) -> Result<(), Fail> {
+    let alloc = rt.alloc();
+    for len in 0..165usize {
+        let cut = TEXT.get(..len).unwrap_or(&[]);
+        assert_eq!(rt; at_of(alloc, cut)?, Some(part_of(len)));
+    }
+    assert_eq!(rt; at_of(alloc, TEXT.get(..165).unwrap_or(&[]))?, None);
+    Ok(())
+}
+
+#[test]
+fn a_changed_byte_is_wrong_where_its_part_begins(rt: HostRuntime) -> Result<(), Fail> {
+    let alloc = rt.alloc();
+    for place in 0..165usize {
+        let mut text = *TEXT;
+        if let Some(byte) = text.get_mut(place) {
+            *byte = b'!';
+        }
+        let found = at_of(alloc, text.get(..165).unwrap_or(&[]))?;
+        // Only a body may have any byte.
+        let in_body = place >= 142 && place < 151;
+        assert_eq!(rt; found, (!in_body).then_some(part_of(place)));
+    }
+    Ok(())
+}
+
+#[test]
+fn other_texts_are_wrong_at_their_line(rt: HostRuntime) -> Result<(), Fail> {
+    let alloc = rt.alloc();
+    assert_eq!(rt; at_of(alloc, b"")?, Some(0));
+    // Something behind the last line.
+    let mut more = Octets::from_slice(alloc, TEXT)?;
+    more.push(b'\n')?;
+    assert_eq!(rt; at_of(alloc, more.as_slice())?, Some(165));
+    let head = b"gittuf-evidence 1\n";
+    let rows: [(&[u8], u64); 4] = [
+        (b"key 6B\n", 18),
+        (b"key \n", 18),
+        (b"keys\n", 18),
+        (b"left 0\n\n", 18),
+    ];
+    for (line, at) in rows {
+        let mut text = Octets::from_slice(alloc, head)?;
+        text.append(line)?;
+        assert_eq!(rt; at_of(alloc, text.as_slice())?, Some(at));
+    }
+    let front = TEXT.get(..135).unwrap_or(&[]);
+    let sides: [(&[u8], u64); 7] = [
+        (b"left 09\nleft body\nright 0\n\nend\n", 135),
+        (b"left \n\nright 0\n\nend\n", 135),
+        (b"left -1\n\nright 0\n\nend\n", 135),
+        (b"left 16777217\n\nright 0\n\nend\n", 135),
+        (b"left 10\nleft body\nright 0\n\nend\n", 135),
+        (b"right 0\n\nleft 0\n\nend\n", 135),
+        (b"left 0\n\nleft 0\n\nend\n", 143),
+    ];
+    for (side, at) in sides {
+        let mut text = Octets::from_slice(alloc, front)?;
+        text.append(side)?;
+        assert_eq!(rt; at_of(alloc, text.as_slice())?, Some(at));
+    }
+    Ok(())
+}
+
+#[test]
+fn a_body_has_at_most_the_limit(rt: HostRuntime) -> Result<(), Fail> {
+    let alloc = rt.alloc();
+    let body = vec![in alloc; 0u8; 16777216]?;
+    let dossier = dossier_of(alloc, &[b'k'; 56], body.as_slice(), b"")?;
+    let text = dossier.write(alloc)?;
+    assert_eq!(rt; at_of(alloc, text.as_slice())?, None);
+    let mut past = Octets::from_slice(alloc, TEXT.get(..135).unwrap_or(&[]))?;
+    past.append(b"left 16777217\n")?;
+    past.append(body.as_slice())?;
+    past.append(b"\0\nright 0\n\nend\n")?;
+    assert_eq!(rt; at_of(alloc, past.as_slice())?, Some(135));
+    Ok(())
+}
