@@ -1,0 +1,55 @@
+-- No number in a line has a fraction, so each line is the text of its value.
+use Rattle.std.proofs.Common.{◌≡◌, ◌∙◌, ℕ, Bool, false, List, refl, ap}
+use Rattle.std.specs.Prelude.{IfOk, Result}
+use Rattle.std.proofs.lemmas.Result.{IfOk-weaker}
+use Rattle.serde_json.specs.Data.{Data}
+use Rattle.serde_json.specs.Written.{has_float}
+use Rattle.json_lines.specs.Values.{hex_data, line_text, number_data}
+use Rattle.json_lines.proofs.Floatless.{list_floatless, option_floatless, text_floatless}
+use Rattle.rsl_chain.specs.declared.entries.Entry.{Entry}
+use Rattle.rsl_chain.specs.declared.entries.EntryBody.{EntryBody}
+use Rattle.rsl_chain.specs.declared.entries.EntryBody.TheVariants.{Reference, Annotation}
+use Rattle.judging.specs.declared.verdicts.EntryVerdict.{EntryVerdict}
+use Rattle.judging.specs.declared.verdicts.EntryVerdict.TheVariants.{Authorised, Refused, Noted}
+use Rattle.judging.specs.declared.verdicts.Verdict.{Verdict}
+use Rattle.judging.specs.declared.verdicts.Verdict.TheVariants.{Accepted, TipDiffers, Violation}
+use Rattle.policy_epochs.specs.Telling.{fault_text}
+use Rattle.entry_rules.specs.declared.faults.Fault.{Fault}
+use Rattle.entry_rules.specs.declared.faults.Fault.TheVariants.{Broken, NoPolicy, NotEpoch, PathRule, RefRule}
+use Rattle.account_lines.specs.Lines.{body_data, fault_data, refusal_data, verdict_data}
+use Rattle.account_lines.specs.declared.rows.EntryRow.{EntryRow}
+
+fault_floatless : (fault : Fault) → has_float (fault_data fault) ≡ false
+unfolding fault_data
+fault_floatless NoPolicy = refl
+fault_floatless (Broken id) = refl
+fault_floatless (RefRule rule got need) = rw (text_floatless rule) refl
+fault_floatless (PathRule path rule got need) = rw (text_floatless path, text_floatless rule) refl
+fault_floatless (NotEpoch why) = rw (text_floatless (fault_text why)) refl
+
+refusal_floatless : (verdict : EntryVerdict Fault) → has_float (refusal_data verdict) ≡ false
+refusal_floatless Authorised = refl
+refusal_floatless (Refused fault) = fault_floatless fault
+refusal_floatless Noted = refl
+
+pub body_floatless : (entry : Entry) (row : EntryRow) (skipped : Bool) (body : EntryBody) → has_float (body_data entry row skipped body) ≡ false
+body_floatless entry row skipped (Reference name target) =
+    rw (
+      option_floatless number_data (λ _. refl) row.epoch,
+      refusal_floatless row.verdict,
+      option_floatless hex_data (λ _. refl) row.from,
+      option_floatless hex_data (λ _. refl) entry.signer,
+      text_floatless name,
+      list_floatless hex_data (λ _. refl) row.signers,
+    ) refl
+body_floatless entry row skipped (Annotation ids skip message) =
+    rw (list_floatless hex_data (λ _. refl) ids, option_floatless number_data (λ _. refl) row.epoch, option_floatless hex_data (λ _. refl) entry.signer, text_floatless message) refl
+
+pub verdict_floatless : (name : List ℕ) (verdict : Verdict Fault) → has_float (verdict_data name verdict) ≡ false
+verdict_floatless name (Accepted count) = rw (text_floatless name) refl
+verdict_floatless name (TipDiffers kept recorded) = rw (text_floatless name) refl
+verdict_floatless name (Violation number fault) = rw (fault_floatless fault, text_floatless name) refl
+
+-- what is written for a value, under the name that the value has here
+pub exact_line : {E : Type 0} (r : Result (List ℕ) E) (v d : Data) → v ≡ d → has_float d ≡ false → IfOk r (λ t. has_float v ≡ false → t ≡ line_text v) → IfOk r (λ t. t ≡ line_text d)
+exact_line r v d is none h = IfOk-weaker r _ _ (λ t made. made (ap has_float is ∙ none) ∙ ap line_text is) h

@@ -1,0 +1,103 @@
+-- The lines that tell an entry and a verdict: objects of JSON, with the fields in the order of their names' bytes.
+use Rattle.std.specs.Prelude.{ℕ, Bool, true, false, List, codes}
+use Rattle.json_lines.specs.Values.{hex_data, line_text, list_data, number_data, option_data, text_data}
+use Rattle.serde_json.specs.Data.{Data, boolean, member, no_members, null, object, string}
+use Rattle.rsl_chain.specs.declared.entries.Entry.{Entry}
+use Rattle.rsl_chain.specs.declared.entries.EntryBody.{EntryBody}
+use Rattle.rsl_chain.specs.declared.entries.EntryBody.TheVariants.{Reference, Annotation}
+use Rattle.judging.specs.declared.verdicts.EntryVerdict.{EntryVerdict}
+use Rattle.judging.specs.declared.verdicts.EntryVerdict.TheVariants.{Authorised, Refused, Noted}
+use Rattle.judging.specs.declared.verdicts.Verdict.{Verdict}
+use Rattle.judging.specs.declared.verdicts.Verdict.TheVariants.{Accepted, TipDiffers, Violation}
+use Rattle.policy_epochs.specs.Telling.{fault_text}
+use Rattle.entry_rules.specs.declared.faults.Fault.{Fault}
+use Rattle.entry_rules.specs.declared.faults.Fault.TheVariants.{Broken, NoPolicy, NotEpoch, PathRule, RefRule}
+use Rattle.account_lines.specs.declared.rows.EntryRow.{EntryRow}
+
+-- ---- faults, with the parts that a verdict's line has
+
+unfoldable pub fault_data : Fault → Data
+fault_data NoPolicy = object (member (codes "kind") (string (codes "no-policy")) no_members)
+fault_data (Broken id) = object (member (codes "id") (hex_data id)
+    (member (codes "kind") (string (codes "broken")) no_members))
+fault_data (RefRule rule got need) = object (member (codes "got") (number_data got)
+    (member (codes "kind") (string (codes "ref-rule"))
+    (member (codes "need") (number_data need) (member (codes "rule") (text_data rule) no_members))))
+fault_data (PathRule path rule got need) = object (member (codes "got") (number_data got)
+    (member (codes "kind") (string (codes "path-rule"))
+    (member (codes "need") (number_data need) (member (codes "path") (text_data path)
+    (member (codes "rule") (text_data rule) no_members)))))
+fault_data (NotEpoch why) = object (member (codes "kind") (string (codes "not-epoch"))
+    (member (codes "why") (text_data (fault_text why)) no_members))
+
+-- ---- entries
+
+-- what is answered of the entry, and its fault, if it has one
+abbrev pub verdict_word : EntryVerdict Fault → List ℕ
+verdict_word Authorised = codes "authorised"
+verdict_word (Refused fault) = codes "refused"
+verdict_word Noted = codes "noted"
+
+abbrev pub refusal_data : EntryVerdict Fault → Data
+refusal_data Authorised = null
+refusal_data (Refused fault) = fault_data fault
+refusal_data Noted = null
+
+-- an entry of a reference; skipped says whether it is skipped after the whole log
+abbrev pub reference_data : Entry → List ℕ → List ℕ → EntryRow → Bool → Data
+reference_data entry name target row skipped =
+    object (member (codes "epoch") (option_data number_data row.epoch)
+    (member (codes "fault") (refusal_data row.verdict)
+    (member (codes "from") (option_data hex_data row.from)
+    (member (codes "id") (hex_data entry.id)
+    (member (codes "key") (option_data hex_data entry.signer)
+    (member (codes "kind") (string (codes "reference"))
+    (member (codes "number") (number_data entry.number)
+    (member (codes "reference") (text_data name)
+    (member (codes "signed") (boolean row.signed)
+    (member (codes "signers") (list_data hex_data row.signers)
+    (member (codes "skipped") (boolean skipped)
+    (member (codes "target") (hex_data target)
+    (member (codes "verdict") (string (verdict_word row.verdict)) no_members)))))))))))))
+
+-- whether an annotation skips what it lists
+abbrev pub annotation_word : Bool → List ℕ
+annotation_word true = codes "skip"
+annotation_word false = codes "note"
+
+abbrev pub annotation_data : Entry → List (List ℕ) → Bool → List ℕ → EntryRow → Data
+annotation_data entry ids skip message row =
+    object (member (codes "entries") (list_data hex_data ids)
+    (member (codes "epoch") (option_data number_data row.epoch)
+    (member (codes "id") (hex_data entry.id)
+    (member (codes "key") (option_data hex_data entry.signer)
+    (member (codes "kind") (string (annotation_word skip))
+    (member (codes "message") (text_data message)
+    (member (codes "number") (number_data entry.number)
+    (member (codes "signed") (boolean row.signed)
+    (member (codes "verdict") (string (verdict_word row.verdict)) no_members)))))))))
+
+abbrev pub body_data : Entry → EntryRow → Bool → EntryBody → Data
+body_data entry row skipped (Reference name target) = reference_data entry name target row skipped
+body_data entry row skipped (Annotation ids skip message) = annotation_data entry ids skip message row
+
+unfoldable pub entry_line : Entry → EntryRow → Bool → List ℕ
+entry_line entry row skipped = line_text (body_data entry row skipped entry.body)
+
+-- ---- verdicts on references
+
+abbrev pub verdict_data : List ℕ → Verdict Fault → Data
+verdict_data name (Accepted count) = object (member (codes "entries") (number_data count)
+    (member (codes "reference") (text_data name)
+    (member (codes "verdict") (string (codes "accepted")) no_members)))
+verdict_data name (TipDiffers kept recorded) = object (member (codes "kept") (hex_data kept)
+    (member (codes "recorded") (hex_data recorded)
+    (member (codes "reference") (text_data name)
+    (member (codes "verdict") (string (codes "tip-differs")) no_members))))
+verdict_data name (Violation number fault) = object (member (codes "fault") (fault_data fault)
+    (member (codes "number") (number_data number)
+    (member (codes "reference") (text_data name)
+    (member (codes "verdict") (string (codes "violation")) no_members))))
+
+unfoldable pub verdict_line : List ℕ → Verdict Fault → List ℕ
+verdict_line name verdict = line_text (verdict_data name verdict)

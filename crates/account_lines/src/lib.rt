@@ -1,0 +1,14 @@
+//! The lines of JSON that tell an entry of the log, as it was judged, and the verdict on a reference.
+//!
+//! What it promises, and where to begin: `README.md` in this crate's folder.
+
+#![tactic(auto)]
+
+mod entries;
+mod faults;
+mod rows;
+mod verdicts;
+
+pub use entries::entry_line;
+pub use rows::EntryRow;
+pub use verdicts::verdict_line;

@@ -1,0 +1,5 @@
+mod Rowed
+mod Taking
+mod Walked
+mod Lines
+mod OneAccount

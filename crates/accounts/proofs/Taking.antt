@@ -1,0 +1,87 @@
+-- A judged log with one entry more.
+use Rattle.std.proofs.Common.{◌≡◌, ◌+◌, ◌&&◌, ◌++◌, ℕ, suc, Bool, cond, is_none, List, [], ◌∷◌, Option, Some, None, length, map, refl, ap, sym, ◌∙◌, arith}
+use Rattle.std.proofs.lemmas.List.{length-map}
+use Rattle.git_object.specs.References.{policy_name}
+use Rattle.rsl_chain.specs.Entries.{Taken, is_of, target_of}
+use Rattle.rsl_chain.specs.declared.entries.EntryBody.{EntryBody}
+use Rattle.rsl_chain.specs.declared.entries.EntryBody.TheVariants.{Reference, Annotation}
+use Rattle.judging.specs.Engines.{taken}
+use Rattle.judging.specs.Logs.{fault_of, last_signers, policy_after, signers_of}
+use Rattle.judging.specs.Verdicts.{body_verdict, verdict_of}
+use Rattle.judging.specs.declared.verdicts.EntryVerdict.{EntryVerdict}
+use Rattle.judging.proofs.Takes.{signers_push}
+use Rattle.entry_rules.specs.RealRules.{real_rules}
+use Rattle.entry_rules.specs.declared.faults.Fault.{Fault}
+use Rattle.verify_ref.specs.Following.{Follows, TakesOne}
+use Rattle.verify_ref.specs.declared.engine.Engine.{Engine}
+use Rattle.account_lines.specs.declared.rows.EntryRow.{EntryRow}
+use Rattle.accounts.specs.Judging.{StandsFor}
+use Rattle.accounts.specs.Rows.{epoch_of, from_of, is_signed, row_of, rows_of}
+use Rattle.accounts.specs.Steps.{is_authorised}
+use Rattle.accounts.specs.declared.judged_log.JudgedLog.{JudgedLog}
+use Rattle.accounts.proofs.Rowed.{epoch_more, rows_more}
+
+authorised_is : (body : EntryBody) (fault : Option Fault) → (is_of body policy_name && is_authorised (body_verdict fault body)) ≡ (is_of body policy_name && is_none fault)
+authorised_is (Reference name target) None = refl
+authorised_is (Reference name target) (Some fault) = refl
+authorised_is (Annotation ids skip message) fault = refl
+
+pub taken_long : (log : List Taken) (engine : Engine) → Follows log engine → taken engine.entries ≡ length log
+taken_long log engine follows =
+    let targets : Taken → List ℕ = λ t. target_of t.entry.body in
+    let many : length (map targets log) ≡ length log = length-map log targets in
+    ap length follows.targets ∙ many
+
+-- what was found of an entry before it was taken, and what was answered then
+pub record IsFound (log : List Taken) (t : Taken) (was now : JudgedLog) (row : EntryRow) : Type 0 where
+  pub rules : now.engine.rules ≡ was.engine.rules
+  pub takes : TakesOne log t now.engine row.verdict
+  pub number : t.entry.number ≡ taken was.engine.entries + 1
+  pub opened : now.epoch ≡ cond (is_of t.entry.body policy_name && is_authorised row.verdict) (Some t.entry.number) was.epoch
+  pub id : row.id ≡ t.entry.id
+  pub epoch : row.epoch ≡ was.epoch
+  pub from : row.from ≡ from_of (real_rules was.engine.rules.anchor) log t.entry.body
+  pub signed : row.signed ≡ is_signed (policy_after (real_rules was.engine.rules.anchor) log) t.entry
+  pub signers : row.signers ≡ last_signers (real_rules now.engine.rules.anchor) (log ++ t ∷ [])
+  pub rows : now.rows ≡ was.rows ++ row ∷ []
+
+module _ (log : List Taken) (t : Taken) (was now : JudgedLog) (row : EntryRow) (stands : StandsFor log was) (found : IsFound log t was now row) where
+  anchor : Option (List (List ℕ))
+  anchor = now.engine.rules.anchor
+
+  same : was.engine.rules.anchor ≡ now.engine.rules.anchor
+  same = sym (ap (λ rules. rules.anchor) found.rules)
+
+  epoch_was : was.epoch ≡ epoch_of (real_rules now.engine.rules.anchor) log
+  epoch_was = stands.epoch ∙ ap (λ (a : Option (List (List ℕ))). epoch_of (real_rules a) log) same
+
+  row_is : row ≡ row_of now.engine.rules.anchor log t
+  row_is =
+      let rules = real_rules now.engine.rules.anchor in
+      let epoch : row.epoch ≡ epoch_of rules log = found.epoch ∙ epoch_was in
+      let from : row.from ≡ from_of rules log t.entry.body = found.from ∙ ap (λ (a : Option (List (List ℕ))). from_of (real_rules a) log t.entry.body) same in
+      let signed : row.signed ≡ is_signed (policy_after rules log) t.entry = found.signed ∙ ap (λ (a : Option (List (List ℕ))). is_signed (policy_after (real_rules a) log) t.entry) same in
+      let signers : row.signers ≡ signers_of rules log t = found.signers ∙ signers_push rules log t in
+      let verdict : row.verdict ≡ verdict_of rules log t = found.takes.answer in
+      λ i. record { id = found.id i; epoch = epoch i; from = from i; signed = signed i; signers = signers i; verdict = verdict i }
+
+  epoch_is : now.epoch ≡ epoch_of (real_rules now.engine.rules.anchor) (log ++ t ∷ [])
+  epoch_is =
+      let rules = real_rules now.engine.rules.anchor in
+      let long = taken_long log was.engine stands.follows in
+      let before = found.number in
+      let number : t.entry.number ≡ suc (length log) = omega arith in
+      found.opened
+      ∙ ap (λ (v : EntryVerdict Fault). cond (is_of t.entry.body policy_name && is_authorised v) (Some t.entry.number) was.epoch) found.takes.answer
+      ∙ ap (λ (b : Bool). cond b (Some t.entry.number) was.epoch) (authorised_is t.entry.body (fault_of rules log (Some t)))
+      ∙ ap (λ (n : ℕ). cond (is_of t.entry.body policy_name && is_none (fault_of rules log (Some t))) (Some n) was.epoch) number
+      ∙ ap (λ (e : Option ℕ). cond (is_of t.entry.body policy_name && is_none (fault_of rules log (Some t))) (Some (suc (length log))) e) epoch_was
+      ∙ sym (epoch_more rules log t)
+
+  pub stands_more : StandsFor (log ++ t ∷ []) now
+  stands_more = record {
+    follows = found.takes.follows;
+    epoch = epoch_is;
+    rows = found.rows ∙ ap (λ (rows : List EntryRow). rows ++ row ∷ []) (stands.rows ∙ ap (λ (a : Option (List (List ℕ))). rows_of a log) same)
+        ∙ ap (λ (r : EntryRow). rows_of now.engine.rules.anchor log ++ r ∷ []) row_is ∙ sym (rows_more now.engine.rules.anchor log t);
+  }

@@ -1,0 +1,25 @@
+use Rattle.std.proofs.Common.{◌≡◌, ◌-◌, List, Some, length, refl, sym, ap, ◌∙◌, arith}
+use Rattle.std.specs.List.{slice_get}
+use Rattle.std.proofs.lemmas.Option.{slice_get_read}
+use Rattle.account_lines.specs.declared.rows.EntryRow.{EntryRow}
+use Rattle.accounts.proofs.Lines.{is_line, no_break}
+use Rattle.accounts.proofs.entry_lines.entry_line.Goals as goal
+
+pub returns-in-Err-clause-unbroken : goal.returns-in-Err-clause-unbroken
+returns-in-Err-clause-unbroken g c = λ r told is.
+    let rows = c.as_slice.result.now in
+    let there : slice_get rows (c.args.number - 1) ≡ Some c.index-as_slice-number.result =
+    slice_get_read rows (length rows) (c.args.number - 1) c.index-as_slice-number.result refl
+    (omega (arith, c.requires.some, c.requires.within, ap length c.as_slice.ensures)) c.index-as_slice-number.is in
+    let at = ap (λ (all : List EntryRow). slice_get all (c.args.number - 1)) (sym c.as_slice.ensures) ∙ there in
+    no_break r c.args.judged.now is c.args.number c.index-as_slice-number.result at c.in-Err.fault (c.in-Err.ensures.broken r told)
+
+pub returns-in-Ok-line_of-clause-line : goal.returns-in-Ok-line_of-clause-line
+returns-in-Ok-line_of-clause-line g c = λ r told is.
+    let rows = c.as_slice.result.now in
+    let there : slice_get rows (c.args.number - 1) ≡ Some c.index-as_slice-number.result =
+    slice_get_read rows (length rows) (c.args.number - 1) c.index-as_slice-number.result refl
+    (omega (arith, c.requires.some, c.requires.within, ap length c.as_slice.ensures)) c.index-as_slice-number.is in
+    let at = ap (λ (all : List EntryRow). slice_get all (c.args.number - 1)) (sym c.as_slice.ensures) ∙ there in
+    is_line r c.args.judged.now is c.args.number c.index-as_slice-number.result at c.in-Ok.entry c.skipped-skipped.result c.in-Ok-line_of.text
+    (c.in-Ok.ensures.entry r told) (c.skipped-skipped.ensures is.log is.stands.follows) c.in-Ok-line_of.ensures

@@ -1,0 +1,55 @@
+-- What is known of each entry of a log once it is judged: by the entries before it, and it alone.
+use Rattle.std.specs.Prelude.{◌&&◌, ◌++◌, ◌∷◌, [], ℕ, Bool, false, List, length, Option, Some, None, is_some}
+use Rattle.std.specs.List.{filter}
+use Rattle.git_object.specs.References.{policy_name}
+use Rattle.rsl_chain.specs.Entries.{Taken}
+use Rattle.rsl_chain.specs.declared.entries.Entry.{Entry}
+use Rattle.rsl_chain.specs.declared.entries.EntryBody.{EntryBody}
+use Rattle.rsl_chain.specs.declared.entries.EntryBody.TheVariants.{Reference, Annotation}
+use Rattle.recovery.specs.Lanes.{last_of}
+use Rattle.judging.specs.Logs.{authorised, entry_at, is_entry_of, numbers, policy_after, prior_target, signers_of}
+use Rattle.judging.specs.Rules.{Rules}
+use Rattle.judging.specs.Verdicts.{verdict_of}
+use Rattle.policy_epochs.specs.declared.policies.Policy.{Policy}
+use Rattle.entry_rules.specs.RealRules.{real_rules}
+use Rattle.entry_rules.specs.Signing.{signer_among}
+use Rattle.entry_rules.specs.declared.faults.Fault.{Fault}
+use Rattle.account_lines.specs.declared.rows.EntryRow.{EntryRow}
+
+-- where the reference of an entry stood before it: the target of its last entry that is not skipped
+abbrev pub from_of : Rules Policy Fault → List Taken → EntryBody → Option (List ℕ)
+from_of rules earlier (Reference name target) = prior_target rules earlier name
+from_of rules earlier (Annotation ids skip message) = None
+
+-- the entry is one of the policy's reference that is authorised, and so brings its policy into force
+abbrev pub opens_at : Rules Policy Fault → List Taken → ℕ → Bool
+opens_at rules log i = is_entry_of (entry_at log i) policy_name && authorised rules log i
+
+-- the number of the last such entry
+abbrev pub epoch_of : Rules Policy Fault → List Taken → Option ℕ
+epoch_of rules log = last_of (filter (opens_at rules log) (numbers (length log)))
+
+-- the key that the entry names is one of the policy, and the signature is good by it
+abbrev pub is_signed : Option Policy → Entry → Bool
+is_signed None entry = false
+is_signed (Some policy) entry = is_some (signer_among policy.keys entry)
+
+-- of the entry that comes after these
+abbrev pub row_of : Option (List (List ℕ)) → List Taken → Taken → EntryRow
+row_of anchor earlier t = record {
+  id = t.entry.id;
+  epoch = epoch_of (real_rules anchor) earlier;
+  from = from_of (real_rules anchor) earlier t.entry.body;
+  signed = is_signed (policy_after (real_rules anchor) earlier) t.entry;
+  signers = signers_of (real_rules anchor) earlier t;
+  verdict = verdict_of (real_rules anchor) earlier t;
+}
+
+-- of each of the later entries, which stand behind the earlier ones
+abbrev pub rows_behind : Option (List (List ℕ)) → List Taken → List Taken → List EntryRow
+rows_behind anchor earlier [] = []
+rows_behind anchor earlier (t ∷ later) = row_of anchor earlier t ∷ rows_behind anchor (earlier ++ t ∷ []) later
+
+-- of each entry of the log
+abbrev pub rows_of : Option (List (List ℕ)) → List Taken → List EntryRow
+rows_of anchor log = rows_behind anchor [] log

@@ -1,0 +1,22 @@
+//! Laws over the definitions of this crate. No call needs these functions: their contracts are the laws.
+
+ghost use Rattle.accounts.specs.Laws.{EpochGreatest, OneLine, OneVerdictLine};
+
+use rsl_chain::laws::logs;
+
+/// A repository has one line at most for the entry of a number, and none where its log breaks.
+pub fn one_line()
+    ensures { OneLine }
+{
+    logs();
+}
+
+/// A repository has one line at most that tells the verdict on a reference.
+pub fn one_verdict_line()
+    ensures { OneVerdictLine }
+{}
+
+/// The epoch that is told of an entry is the last entry before it that brought a policy into force.
+pub fn epoch_greatest()
+    ensures { EpochGreatest }
+{}

@@ -1,0 +1,165 @@
+//! Judging a log in one pass, and keeping what is known of each entry.
+
+ghost use Rattle.std.specs.Prelude.{◌≡◌, ◌≤◌, ◌+◌, ◌++◌, ◌∷◌, [], List, Some, true, false, IfErr, IfOk, OnOk};
+ghost use Rattle.std.specs.List.{AllByRecursion};
+ghost use Rattle.octets.specs.Causes.{HasCause};
+ghost use Rattle.git_object.specs.Repository.{Repository};
+ghost use Rattle.keeper_api.specs.Undisturbed.{Undisturbed};
+ghost use Rattle.rsl_chain.specs.Entries.{Taken};
+ghost use Rattle.rsl_chain.specs.declared.entries.Entry.{Entry};
+ghost use Rattle.rsl_chain.specs.Logs.{IsLogOf, IsNamed, IsUnbroken, entry_at, log_failed};
+ghost use Rattle.tree_paths.specs.Known.{AreKnownIn};
+ghost use Rattle.judging.specs.Engines.{has_taken, taken};
+ghost use Rattle.judging.specs.Reads.{is_bounded};
+ghost use Rattle.entry_rules.specs.RealRules.{real_rules};
+ghost use Rattle.verify_ref.specs.Following.{Follows};
+ghost use Rattle.verify_ref.specs.Logs.{AreEntries, IsAstray};
+ghost use Rattle.verify_ref.specs.Reading.{AreBounded, ReadsVerdict, extending_reads, judging_reads};
+ghost use Rattle.verify_ref.specs.Verdicts.{IsRefusal};
+ghost use Rattle.accounts.specs.Judging.{IsJudgedLog, IsOwn, JudgesNext, StandsFor};
+
+use crate::JudgedLog;
+use crate::rows::{from_of, is_signed, next_epoch, opens};
+use account_lines::EntryRow;
+use git_object::ObjectId;
+use keeper_api::{Keeper, KeeperFault};
+use octets::Items;
+use root_metadata::KeyIds;
+use rsl_chain::{Entry, Log, LogFault, read_entry};
+use std::alloc::Global;
+use verify_ref::Engine;
+
+// Judges the next entry, and keeps what is known of it.
+fn judge_entry<R: Keeper>(
+    alloc: Global,
+    keeper: &mut R,
+    judged: &mut JudgedLog,
+    entry: &Entry,
+) -> Result<(), LogFault>
+    requires next { entry.now.number ≡ taken judged.old.engine.entries + 1 }
+    requires fresh { has_taken judged.old.engine.entries entry.now.id ≡ false }
+    requires known { (r : Repository) → R.content keeper.old ≡ Some r → AreKnownIn r judged.old.engine.known }
+    ensures stands { OnOk result ((r : Repository) → R.content keeper.new ≡ Some r
+        → (log : List Taken) → StandsFor log judged.old
+        → StandsFor (log ++ record { entry = entry.now; repository = r } ∷ []) judged.new) }
+    ensures unbroken { IfErr result IsUnbroken }
+    ensures rules { judged.new.engine.rules ≡ judged.old.engine.rules }
+    ensures known { (r : Repository) → R.content keeper.new ≡ Some r → AreKnownIn r judged.new.engine.known }
+    ensures same { Undisturbed R.Keeper keeper.old keeper.new }
+    ensures cause { HasCause log_failed (R.faults keeper.old) (R.faults keeper.new) result }
+    ensures reads { OnOk result ((r : Repository) (log : List Taken) → R.content keeper.new ≡ Some r
+        → Follows log judged.old.engine
+        → is_bounded (real_rules judged.old.engine.rules.anchor) log (record { entry = entry.now; repository = r }) ≡ true
+        → R.reads keeper.new ≤ R.reads keeper.old + extending_reads (real_rules judged.old.engine.rules.anchor) log
+        (record { entry = entry.now; repository = r })) }
+{
+    let from = from_of(&judged.engine, entry);
+    let signed = is_signed(judged.engine.policy(), entry);
+    let epoch = judged.epoch;
+    let verdict = match judged.engine.extend(alloc, keeper, entry) {
+        Ok(verdict) => verdict,
+        Err(KeeperFault::Failed) => return Err(LogFault::Failed),
+        Err(KeeperFault::Memory) => return Err(LogFault::Memory),
+    };
+    judged.epoch = next_epoch(epoch, opens(entry, &verdict), entry.number);
+    let signers = judged.engine.signers().copy()?;
+    judged.rows.push(EntryRow {
+        id: entry.id,
+        epoch,
+        from,
+        signed,
+        signers,
+        verdict,
+    })?;
+    Ok(())
+}
+
+// Judges the entry at an id, where it is the next.
+fn take<R: Keeper>(
+    alloc: Global,
+    keeper: &mut R,
+    judged: &mut JudgedLog,
+    id: &ObjectId,
+) -> Result<(), LogFault>
+    requires known { (r : Repository) → R.content keeper.old ≡ Some r → AreKnownIn r judged.old.engine.known }
+    ensures taken { OnOk result ((r : Repository) → R.content keeper.new ≡ Some r
+        → JudgesNext r id.now judged.old judged.new) }
+    ensures broken { IfErr result (λ fault. (r : Repository) → R.content keeper.new ≡ Some r
+        → IsAstray r judged.old.engine.entries id.now fault) }
+    ensures rules { judged.new.engine.rules ≡ judged.old.engine.rules }
+    ensures known { (r : Repository) → R.content keeper.new ≡ Some r → AreKnownIn r judged.new.engine.known }
+    ensures same { Undisturbed R.Keeper keeper.old keeper.new }
+    ensures cause { HasCause log_failed (R.faults keeper.old) (R.faults keeper.new) result }
+    ensures reads { OnOk result ((r : Repository) (log : List Taken) (entry : Entry) → R.content keeper.new ≡ Some r
+        → Follows log judged.old.engine → entry_at r id.now ≡ Some entry
+        → is_bounded (real_rules judged.old.engine.rules.anchor) log (record { entry = entry; repository = r }) ≡ true
+        → R.reads keeper.new ≤ R.reads keeper.old
+        + (1 + extending_reads (real_rules judged.old.engine.rules.anchor) log (record { entry = entry; repository = r }))) }
+{
+    let entry = read_entry(alloc, keeper, id)?;
+    if !judged.engine.comes_next(&entry) {
+        return Err(LogFault::Broken { id: *id });
+    }
+    match judge_entry(alloc, keeper, judged, &entry) {
+        Ok(()) => Ok(()),
+        Err(fault) => Err(fault),
+    }
+}
+
+// Judges the entries at these ids, which are a log, one after the other.
+fn take_all<R: Keeper>(
+    alloc: Global,
+    keeper: &mut R,
+    judged: &mut JudgedLog,
+    ids: &[ObjectId],
+) -> Result<(), LogFault>
+    requires none { StandsFor [] judged.old }
+    requires known { (r : Repository) → R.content keeper.old ≡ Some r → AreKnownIn r judged.old.engine.known }
+    ensures stands { OnOk result ((r : Repository) → R.content keeper.new ≡ Some r → (log : List Taken)
+        × AreEntries r ids.now log × AllByRecursion (IsOwn r) log × StandsFor log judged.new) }
+    ensures unbroken { IfErr result (λ fault. (r : Repository) → R.content keeper.new ≡ Some r → IsLogOf r ids.now
+        → IsUnbroken fault) }
+    ensures rules { judged.new.engine.rules ≡ judged.old.engine.rules }
+    ensures same { Undisturbed R.Keeper keeper.old keeper.new }
+    ensures cause { HasCause log_failed (R.faults keeper.old) (R.faults keeper.new) result }
+    ensures reads { OnOk result ((r : Repository) (log : List Taken) → R.content keeper.new ≡ Some r
+        → AreEntries r ids.now log → AreBounded (real_rules judged.old.engine.rules.anchor) log
+        → R.reads keeper.new ≤ R.reads keeper.old + judging_reads (real_rules judged.old.engine.rules.anchor) log) }
+{
+    'ids: for id in ids {
+        match take(alloc, keeper, judged, id) {
+            Ok(()) => {}
+            Err(fault) => return Err(fault),
+        }
+    }
+    Ok(())
+}
+
+/// The log of the store's repository, each entry judged in it, under the policy in force at its number. Where ids are given,
+/// the first policy must have exactly their keys. `Broken` comes exactly where the log is no chain, and names the commit at
+/// which it breaks. The store is as before. Each entry is read twice, once to find the log and once to take it; where no target
+/// of an entry is broken, nothing more is read than what judges them.
+pub fn judge_log<R: Keeper>(
+    alloc: Global,
+    keeper: &mut R,
+    anchor: Option<KeyIds>,
+) -> Result<JudgedLog, LogFault>
+    ensures judged { IfOk result (λ judged. (r : Repository) → R.content keeper.new ≡ Some r
+        → IsJudgedLog anchor r judged) }
+    ensures broken { IfErr result (λ fault. (r : Repository) → R.content keeper.new ≡ Some r → IsRefusal r fault) }
+    ensures same { Undisturbed R.Keeper keeper.old keeper.new }
+    ensures cause { HasCause log_failed (R.faults keeper.old) (R.faults keeper.new) result }
+    ensures reads { OnOk result ((r : Repository) → R.content keeper.new ≡ Some r
+        → ReadsVerdict anchor r (R.reads keeper.old) (R.reads keeper.new)) }
+{
+    let log = Log::load(alloc, keeper)?;
+    let mut judged = JudgedLog {
+        engine: Engine::new(alloc, anchor),
+        epoch: None,
+        rows: Items::new(alloc),
+    };
+    match take_all(alloc, keeper, &mut judged, log.ids.as_slice()) {
+        Ok(()) => Ok(judged),
+        Err(fault) => Err(fault),
+    }
+}

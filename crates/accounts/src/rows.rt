@@ -1,0 +1,79 @@
+//! What an engine knows of the next entry before it takes it.
+
+ghost use Rattle.std.specs.Prelude.{◌≡◌, ◌&&◌, List, Some, cond};
+ghost use Rattle.std.specs.Option.{option_copied};
+ghost use Rattle.rsl_chain.specs.Entries.{Taken, is_of};
+ghost use Rattle.git_object.specs.References.{policy_name};
+ghost use Rattle.entry_rules.specs.RealRules.{real_rules};
+ghost use Rattle.verify_ref.specs.Following.{Follows};
+ghost use Rattle.accounts.specs.Rows.{from_of, is_signed};
+ghost use Rattle.accounts.specs.Steps.{is_authorised};
+
+use entry_rules::{Fault, signer_among};
+use git_object::ObjectId;
+use judging::EntryVerdict;
+use policy_epochs::Policy;
+use rsl_chain::{Entry, EntryBody};
+use verify_ref::Engine;
+
+/// Where the reference of the next entry stands.
+pub(crate) fn from_of(engine: &Engine, entry: &Entry) -> Option<ObjectId>
+    ensures { (log : List Taken) → Follows log engine.now
+        → result ≡ from_of (real_rules engine.now.rules.anchor) log entry.now.body }
+{
+    match &entry.body {
+        EntryBody::Reference { name, target: _ } => engine.prior_target(name),
+        EntryBody::Annotation {
+            ids: _,
+            skip: _,
+            message: _,
+        } => None,
+    }
+}
+
+/// Whether a key of the policy signed an entry.
+pub(crate) fn is_signed(policy: Option<&Policy>, entry: &Entry) -> bool
+    ensures { result ≡ is_signed (option_copied policy.entry) entry.now }
+{
+    match policy {
+        Some(policy) => signer_among(&policy.keys, entry).is_some(),
+        None => false,
+    }
+}
+
+fn is_authorised(verdict: &EntryVerdict<Fault>) -> bool
+    ensures { result ≡ is_authorised verdict.now }
+{
+    match verdict {
+        EntryVerdict::Authorised => true,
+        EntryVerdict::Refused(_) => false,
+        EntryVerdict::Noted => false,
+    }
+}
+
+fn is_policys(entry: &Entry) -> bool
+    ensures { result ≡ is_of entry.now.body policy_name }
+{
+    match &entry.body {
+        EntryBody::Reference { name, target: _ } => name.is_policy(),
+        EntryBody::Annotation {
+            ids: _,
+            skip: _,
+            message: _,
+        } => false,
+    }
+}
+
+/// Whether an entry of which this is answered brings its policy into force.
+pub(crate) fn opens(entry: &Entry, verdict: &EntryVerdict<Fault>) -> bool
+    ensures { result ≡ (is_of entry.now.body policy_name && is_authorised verdict.now) }
+{
+    is_policys(entry) && is_authorised(verdict)
+}
+
+/// The number of the last entry that brought a policy into force, after one of this number that does or does not.
+pub(crate) fn next_epoch(epoch: Option<u64>, opens: bool, number: u64) -> Option<u64>
+    ensures { result ≡ cond opens (Some number) epoch }
+{
+    if opens { Some(number) } else { epoch }
+}

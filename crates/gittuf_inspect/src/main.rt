@@ -1,0 +1,89 @@
+//! The program `gittuf-inspect <store> <words>`: it makes the real objects and tells an account of the log.
+//!
+//! What it promises, and where to begin: `README.md` in this crate's folder.
+
+#![tactic(auto)]
+
+mod running;
+mod words;
+
+use crate::running::inspect;
+use crate::words::{Asked, read_words};
+use command_words::{Store, WordsFault};
+use edge_io::{StdSink, write_all};
+use endings::{Ending, Part, Refusal};
+use keeper_api::{Keeper, MemKeeper};
+use keeper_directory::{DirKeeper, OpenFault};
+use std::env;
+use std::io::ErrorKind;
+use std::process::ExitCode;
+use std::rt::Env;
+
+// The words after the program's name. A word that is not UTF-8 is refused like words outside the grammar.
+fn words_of<R: Env + AllocGlobal>(rt: &R) -> Result<Vec<String>, Refusal> {
+    let args = match env::args(rt) {
+        Ok(args) => args,
+        Err(error) => {
+            return Err(match error.kind() {
+                ErrorKind::OutOfMemory => Refusal::Memory,
+                _ => Refusal::Words,
+            });
+        }
+    };
+    let mut words = Vec::new(rt.alloc());
+    for word in args.skip(1) {
+        if words.push(word).is_err() {
+            return Err(Refusal::Memory);
+        }
+    }
+    Ok(words)
+}
+
+// Says a refusal, and answers its status.
+fn refuse(rt: &HostRuntime, refusal: Refusal) -> u8 {
+    let mut faults_out = StdSink::new(rt.stderr());
+    let _ = write_all(&mut faults_out, refusal.line().as_slice());
+    refusal.status()
+}
+
+// Tells what is asked for over a store and standard output.
+fn tell<R: Keeper>(rt: &HostRuntime, asked: Asked, keeper: &mut R) -> u8 {
+    let mut sink = StdSink::new(rt.stdout());
+    match inspect(rt.alloc(), asked, &mut sink, keeper) {
+        Ending::Refused { refusal } => refuse(rt, refusal),
+        ending => ending.status(),
+    }
+}
+
+// Tells what is asked for over the store in a folder, which is only read.
+fn tell_folder(rt: &HostRuntime, folder: &str, asked: Asked) -> u8 {
+    match DirKeeper::to_read(rt, rt.alloc(), folder) {
+        Ok(keeper) => {
+            let mut keeper = keeper;
+            let status = tell(rt, asked, &mut keeper);
+            if keeper.end(rt.alloc()).is_err() && status < 2 {
+                return refuse(rt, Refusal::Fault { part: Part::Keeper });
+            }
+            status
+        }
+        Err(OpenFault::Failed) => refuse(rt, Refusal::Fault { part: Part::Keeper }),
+        Err(OpenFault::Memory) => refuse(rt, Refusal::Memory),
+    }
+}
+
+fn start(rt: &HostRuntime, words: &[String]) -> u8 {
+    match read_words(rt.alloc(), words) {
+        Ok((Store::Memory, asked)) => tell(rt, asked, &mut MemKeeper::new(rt.alloc())),
+        Ok((Store::Directory(folder), asked)) => tell_folder(rt, folder, asked),
+        Err(WordsFault::Outside) => refuse(rt, Refusal::Words),
+        Err(WordsFault::Memory) => refuse(rt, Refusal::Memory),
+    }
+}
+
+fn main(rt: HostRuntime) -> ExitCode {
+    let status = match words_of(&rt) {
+        Ok(words) => start(&rt, words.as_slice()),
+        Err(refusal) => refuse(&rt, refusal),
+    };
+    ExitCode::from(status)
+}

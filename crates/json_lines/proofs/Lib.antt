@@ -1,0 +1,3 @@
+mod Printable
+mod Wording
+pub mod Floatless

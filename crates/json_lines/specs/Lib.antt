@@ -1,0 +1,2 @@
+-- the values that lines are made of, and the line of a value
+pub mod Values
