@@ -29,7 +29,7 @@ COMPLETION = {
     "share/fish/vendor_completions.d/git-gittuf.fish": "git-gittuf.fish",
 }
 # These are for whoever changes the product, and has it in a checkout.
-NOT_PACKED = {"ARCHITECTURE.md", "CONTRIBUTING.md", "DECISIONS.md", "WRONG-BODIES.md"}
+NOT_PACKED = {"ARCHITECTURE.md", "CONTRIBUTING.md", "DECISIONS.md", "WRONG-BODIES.md", "gittuf-inspect.1"}
 CONTROL = """Package: gittuf
 Version: {version}
 Architecture: amd64
@@ -43,8 +43,6 @@ Description: guard the branches of a Git repository by signatures
  path needs, a signed log records each change, and everyone judges both in a
  clone of one's own. The checker is proved. {built}.
 """
-
-
 
 
 def stripped(body):
@@ -113,7 +111,7 @@ def files_of(programs, about):
                 found[f"{FRONT}/tools/{folder}/{it}"] = (text_of("tools", folder, it), 0o644)
     for path, it in COMPLETION.items():
         found[path] = (text_of("completion", it), 0o644)
-    for it in sorted(os.listdir(os.path.join(TOP, "man"))):
+    for it in sorted({*os.listdir(os.path.join(TOP, "man"))} - NOT_PACKED):
         found[f"share/man/man1/{it}.gz"] = (gzip.compress(text_of("man", it), mtime=0), 0o644)
     for it in sorted({*os.listdir(os.path.join(TOP, "docs"))} - NOT_PACKED):
         found[f"share/doc/gittuf/{it}"] = (text_of("docs", it), 0o644)
