@@ -30,33 +30,17 @@ fn part_of(place: usize) -> u64 {
     found
 }
 
-fn dossier_of(alloc: Global, public: &[u8], left: &[u8], right: &[u8]) -> Result<Dossier, Fail> {
-    Ok(Dossier {
-        public: Octets::from_slice(alloc, public)?,
-        left: Octets::from_slice(alloc, left)?,
-        right: Octets::from_slice(alloc, right)?,
-    })
-}
-
 #[test]
-fn a_dossier_is_written_and_read(rt: HostRuntime) -> Result<(), Fail> {
+fn a_dossier_is_read_and_written(rt: HostRuntime) -> Result<(), Fail> {
     let alloc = rt.alloc();
-    let dossier = dossier_of(alloc, &[b'k'; 56], b"left body", b"")?;
-    let text = dossier.write(alloc)?;
-    assert!(rt; text.as_slice() == TEXT.as_slice());
-    let Ok(again) = Dossier::read(alloc, text.as_slice()) else {
+    let Ok(dossier) = Dossier::read(alloc, TEXT) else {
         return Err(Fail::from("a dossier"));
     };
-    assert!(rt; again.public.as_slice() == [b'k'; 56].as_slice());
-    assert!(rt; again.left.as_slice() == b"left body".as_slice());
-    assert!(rt; again.right.is_empty());
-    let long = dossier_of(alloc, &[0; 60], b"\n\n", b"end\n")?;
-    let text = long.write(alloc)?;
-    let Ok(again) = Dossier::read(alloc, text.as_slice()) else {
-        return Err(Fail::from("a dossier of two levels"));
-    };
-    assert!(rt; again.public.as_slice() == [0; 60].as_slice());
-    assert!(rt; again.right.as_slice() == b"end\n".as_slice());
+    assert!(rt; dossier.public.as_slice() == [b'k'; 56].as_slice());
+    assert!(rt; dossier.left.as_slice() == b"left body".as_slice());
+    assert!(rt; dossier.right.is_empty());
+    let text = dossier.write(alloc)?;
+    assert!(rt; text.as_slice() == TEXT.as_slice());
     Ok(())
 }
 
@@ -125,17 +109,23 @@ fn other_texts_are_wrong_at_their_line(rt: HostRuntime) -> Result<(), Fail> {
     Ok(())
 }
 
+// The text with this line and body in the left one's place.
+fn text_of(alloc: Global, line: &[u8], body: &[u8]) -> Result<Octets, Fail> {
+    let mut text = Octets::from_slice(alloc, TEXT.get(..135).unwrap_or(&[]))?;
+    text.append(line)?;
+    text.append(body)?;
+    text.append(b"\nright 0\n\nend\n")?;
+    Ok(text)
+}
+
 #[test]
 fn a_body_has_at_most_the_limit(rt: HostRuntime) -> Result<(), Fail> {
     let alloc = rt.alloc();
-    let body = vec![in alloc; 0u8; 16777216]?;
-    let dossier = dossier_of(alloc, &[b'k'; 56], body.as_slice(), b"")?;
-    let text = dossier.write(alloc)?;
+    let mut body = vec![in alloc; 0u8; 16777216]?;
+    let text = text_of(alloc, b"left 16777216\n", body.as_slice())?;
     assert_eq!(rt; at_of(alloc, text.as_slice())?, None);
-    let mut past = Octets::from_slice(alloc, TEXT.get(..135).unwrap_or(&[]))?;
-    past.append(b"left 16777217\n")?;
-    past.append(body.as_slice())?;
-    past.append(b"\0\nright 0\n\nend\n")?;
+    body.push(0)?;
+    let past = text_of(alloc, b"left 16777217\n", body.as_slice())?;
     assert_eq!(rt; at_of(alloc, past.as_slice())?, Some(135));
     Ok(())
 }
