@@ -6,6 +6,8 @@ from checking import TOP, want, want_run
 
 # What makes rows, by the crate that runs them.
 MAKERS = {"tests_rows": "make-rows", "tests_desk": "make-pushes"}
+# Keys and signatures are made in Python, which takes a minute and a half of processor time.
+MOST_SECONDS = 900
 
 
 def read(folder, name):
@@ -17,7 +19,7 @@ def makes(repositories, crate):
     """Holds the rows of a crate, and the wanted lines, to those that are made."""
     folder = repositories.path(crate)
     os.mkdir(folder)
-    want_run((os.path.join(TOP, "tools", MAKERS[crate]), folder), 0)
+    want_run((os.path.join(TOP, "tools", MAKERS[crate]), folder), 0, seconds=MOST_SECONDS)
     for name in ("stdin", "stdout"):
         want(read(folder, name), read(os.path.join(TOP, "crates", crate), name), f"the {name} of {crate}")
 

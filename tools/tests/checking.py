@@ -48,13 +48,16 @@ class Skip(Exception):
     """Why a check cannot be made here."""
 
 
-def run(*words, input=b"", folder=None, builds=False):
-    """Runs a program to its end, and returns its status, its output and, where nothing is built, its errors."""
-    errors, most = (None, None) if builds else (subprocess.PIPE, SECONDS)
+def run(*words, input=b"", folder=None, builds=False, seconds=SECONDS):
+    """Runs a program to its end, and returns its status, its output and, where nothing is built, its errors.
+
+    Where nothing is built it has so many seconds.
+    """
+    errors, most = (None, None) if builds else (subprocess.PIPE, seconds)
     try:
         ran = subprocess.run(words, input=input, cwd=folder, stdout=subprocess.PIPE, stderr=errors, timeout=most)
     except subprocess.TimeoutExpired:
-        raise Failure(f"{os.path.basename(words[0])} did not end in {SECONDS} seconds") from None
+        raise Failure(f"{os.path.basename(words[0])} did not end in {most} seconds") from None
     return ran.returncode, ran.stdout, ran.stderr
 
 
