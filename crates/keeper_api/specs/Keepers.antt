@@ -16,10 +16,19 @@ pub record AsBefore {S : Type 0} (before after : Option Repository) (told told_n
   pub left : told_now ≡ true → (r : Repository) → now r → past r
   pub comes : (first : S) → came first → comes_now first
 
--- what told goes on telling, where no fault was counted and the count is not at its end
-pub record TellsOn (before after : Option Repository) (told told_now : Bool) (count count_now : ℕ) : Type 0 where
-  pub content : count < 2 ^ 64 - 1 → count_now ≡ count → IsSome before → IsSome after
-  pub left : count < 2 ^ 64 - 1 → count_now ≡ count → told ≡ true → told_now ≡ true
+-- what told goes on telling, where the medium is clean, no fault was counted and the count is not at its end; a medium
+-- that is clean was clean before
+pub record TellsOn (before after : Option Repository) (told told_now clean clean_now : Bool) (count count_now : ℕ)
+    : Type 0 where
+  pub was_clean : clean_now ≡ true → clean ≡ true
+  pub content : clean_now ≡ true → count < 2 ^ 64 - 1 → count_now ≡ count → IsSome before → IsSome after
+  pub left : clean_now ≡ true → count < 2 ^ 64 - 1 → count_now ≡ count → told ≡ true → told_now ≡ true
+
+-- what tells the same tells on
+pub same_tells : (content : Option Repository) (told clean : Bool) (count count_now : ℕ)
+    → TellsOn content content told told clean clean count count_now
+same_tells content told clean count count_now =
+    record { was_clean = λ now. now; content = λ now before_end same some. some; left = λ now before_end same told. told }
 
 -- what a commit makes of the repository that was held
 abbrev pub Commits : Change → {T : Type 0} → Result T KeeperFault → Repository → Repository → Type 0

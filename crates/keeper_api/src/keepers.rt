@@ -18,15 +18,20 @@ use std::alloc::Global;
 /// A store that holds a repository. A call that the store refuses answers `Failed` and counts one fault, and no
 /// other call counts any; want of memory is `Memory`. No call but `commit` changes what is held.
 pub trait Keeper {
-    /// The repository that is held, where the keeper tells it. Telling ends only where a fault was counted, and never begins.
+    /// The repository that is held, where the keeper tells it. Telling ends only where a fault was counted or the medium is
+    /// not clean, and never begins.
     ghost content: { Self → Option Repository };
 
-    /// Whether the keeper tells what a stop at this moment may leave. Telling ends only where a fault was counted, and never
-    /// begins.
+    /// Whether the keeper tells what a stop at this moment may leave. Telling ends only where a fault was counted or the
+    /// medium is not clean, and never begins.
     ghost tells_left: { Self → Bool };
 
     /// The repositories that a stop at this moment may leave, where the keeper tells it.
     ghost left: { Self → Repository → Type 0 };
+
+    /// Whether the medium that the keeper keeps to has given back so far what was written to it. It may end at any call,
+    /// and never begins; no call can see it.
+    ghost is_clean: { Self → Bool };
 
     /// How many faults were counted.
     ghost faults: { Self → ℕ };
@@ -90,7 +95,7 @@ pub trait Keeper {
     fn commit(&mut self, alloc: Global, change: &Change) -> Result<(), KeeperFault>
         ensures content { Told (Commits change.now result) (content self.old) (content self.new) }
         ensures on { TellsOn (content self.old) (content self.new) (tells_left self.old) (tells_left self.new)
-            (faults self.old) (faults self.new) }
+            (is_clean self.old) (is_clean self.new) (faults self.old) (faults self.new) }
         ensures unmade { IsErrOf result KeeperFault.Memory → (first : Self) → comes first self.old
             → comes first self.new }
         ensures left { Leaves change.now result (content self.old) (tells_left self.old) (tells_left self.new)
@@ -108,8 +113,8 @@ pub trait Keeper {
     /// A keeper comes of itself.
     ghost comes_self: { (keeper : Self) → comes keeper keeper };
 
-    /// What comes of a keeper tells on, where no fault was counted since.
+    /// What comes of a keeper tells on, where its medium is clean and no fault was counted since.
     ghost comes_tells: { (first second : Self) → comes first second
-        → TellsOn (content first) (content second) (tells_left first) (tells_left second) (faults first)
-        (faults second) };
+        → TellsOn (content first) (content second) (tells_left first) (tells_left second) (is_clean first)
+        (is_clean second) (faults first) (faults second) };
 }

@@ -1,6 +1,6 @@
 //! The calls of the keeper in memory.
 
-ghost use Rattle.std.specs.Prelude.{◌≡◌, ◌↔◌, Some, IfOk, IsErrOf, IsOk, IsTrue, None, false, refl};
+ghost use Rattle.std.specs.Prelude.{◌≡◌, ◌↔◌, Some, IfOk, IsErrOf, IsOk, IsTrue, None, true, false, refl};
 ghost use Rattle.std.specs.Option.{option_map, option_copied};
 ghost use Rattle.std.specs.FinMap.{get};
 ghost use Rattle.std.proofs.lemmas.Bool.{false≢true};
@@ -25,6 +25,8 @@ impl Keeper for MemKeeper {
     ghost tells_left = { λ k. false };
 
     ghost left = { λ k r. ⊥ };
+
+    ghost is_clean = { λ k. true };
 
     ghost faults = { λ k. k.calls.faults };
 
@@ -124,5 +126,5 @@ impl Keeper for MemKeeper {
 
     ghost comes_self = { λ k. tt };
 
-    ghost comes_tells = { λ k l came. record { content = λ before_end same told. refl; left = λ before_end same told. told } };
+    ghost comes_tells = { λ k l came. record { was_clean = λ now. now; content = λ now before_end same told. refl; left = λ now before_end same told. told } };
 }

@@ -17,7 +17,8 @@ pub fn commit_change<R: Keeper>(
 ) -> Result<(), KeeperFault>
     ensures ends { ChangeEnds R.Keeper keeper.old keeper.new change.now result }
     ensures on { TellsOn (R.content keeper.old) (R.content keeper.new) (R.tells_left keeper.old)
-        (R.tells_left keeper.new) (R.faults keeper.old) (R.faults keeper.new) }
+        (R.tells_left keeper.new) (R.is_clean keeper.old) (R.is_clean keeper.new) (R.faults keeper.old)
+        (R.faults keeper.new) }
     ensures left { Leaves change.now result (R.content keeper.old) (R.tells_left keeper.old) (R.tells_left keeper.new)
         (R.left keeper.old) (R.left keeper.new) }
     ensures cause { HasCause keeper_failed (R.faults keeper.old) (R.faults keeper.new) result }

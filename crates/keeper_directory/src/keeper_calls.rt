@@ -1,9 +1,10 @@
 //! The calls of the keeper over a folder.
 
-ghost use Rattle.std.specs.Prelude.{◌≡◌, None, false};
+ghost use Rattle.std.specs.Prelude.{◌≡◌, None, true, false};
 ghost use Rattle.std.proofs.lemmas.Bool.{false≢true};
 ghost use Rattle.octets.specs.Causes.{HasCause, one_more};
 ghost use Rattle.keeper_api.specs.Faults.{keeper_failed};
+ghost use Rattle.keeper_api.specs.Keepers.{same_tells};
 
 use crate::DirKeeper;
 use git_object::{Object, ObjectId, RefName};
@@ -22,6 +23,8 @@ where
     ghost tells_left = { λ _. false };
 
     ghost left = { λ _ _. ⊥ };
+
+    ghost is_clean = { λ _. true };
 
     ghost faults = { λ k. k.faults };
 
@@ -82,5 +85,5 @@ where
 
     ghost comes_self = { λ _. tt };
 
-    ghost comes_tells = { λ _ _ came. record { content = λ before_end same told. absurd (false≢true told); left = λ before_end same told. absurd (false≢true told) } };
+    ghost comes_tells = { λ k l came. same_tells None false true k.faults l.faults };
 }

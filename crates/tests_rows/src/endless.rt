@@ -1,9 +1,10 @@
 //! A store without an end, whose export passes the limit of a stream, 2^30 bytes.
 
-ghost use Rattle.std.specs.Prelude.{◌≡◌, ◌≤◌, ◌<◌, length, IfOk, None, false};
+ghost use Rattle.std.specs.Prelude.{◌≡◌, ◌≤◌, ◌<◌, length, IfOk, None, true, false};
 ghost use Rattle.std.proofs.lemmas.Bool.{false≢true};
 ghost use Rattle.octets.specs.Causes.{HasCause, each, one_more};
 ghost use Rattle.keeper_api.specs.Faults.{keeper_failed};
+ghost use Rattle.keeper_api.specs.Keepers.{same_tells};
 
 use crate::lines::append_number;
 use crate::outside::Seen;
@@ -48,6 +49,8 @@ impl Keeper for Endless {
     ghost tells_left = { λ _. false };
 
     ghost left = { λ _ _. ⊥ };
+
+    ghost is_clean = { λ _. true };
 
     ghost faults = { λ _. 0 };
 
@@ -112,7 +115,7 @@ impl Keeper for Endless {
 
     ghost comes_self = { λ _. tt };
 
-    ghost comes_tells = { λ _ _ came. record { content = λ before_end same told. absurd (false≢true told); left = λ before_end same told. absurd (false≢true told) } };
+    ghost comes_tells = { λ _ _ came. same_tells None false true 0 0 };
 }
 
 // A store of blobs of so many zero bytes.
