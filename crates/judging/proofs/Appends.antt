@@ -48,7 +48,7 @@ module _ {P F : Type 0} (rules : Rules P F) where
   pub fault_new : (log : List Taken) (t : Taken) → fault_at rules (log ++ t ∷ []) (suc (length log)) ≡ fault_of rules log (Some t)
   fault_new log t = ap (λ l. fault_of rules l (entry_at (log ++ t ∷ []) (suc (length log)))) (before_new log (t ∷ [])) ∙ ap (fault_of rules log) (entry_new log t)
 
-  skips_old : (log more : List Taken) (a i : ℕ) → 0 < a → a ≤ length log → 0 < i → i ≤ length log → skips rules (before (log ++ more) a) (entry_at (log ++ more) a) (entry_at (log ++ more) i) ≡ skips rules (before log a) (entry_at log a) (entry_at log i)
+  pub skips_old : (log more : List Taken) (a i : ℕ) → 0 < a → a ≤ length log → 0 < i → i ≤ length log → skips rules (before (log ++ more) a) (entry_at (log ++ more) a) (entry_at (log ++ more) i) ≡ skips rules (before log a) (entry_at log a) (entry_at log i)
   skips_old log more a i a0 a1 i0 i1 =
       ap (λ l. skips rules l (entry_at (log ++ more) a) (entry_at (log ++ more) i)) (before_old log more a (omega arith))
       ∙ ap (λ x. skips rules (before log a) x (entry_at (log ++ more) i)) (entry_old log more a a0 a1)

@@ -112,11 +112,11 @@ module _ {P F : Type 0} (rules : Rules P F) (log : List Taken) (t : Taken) (name
   of_body : (other : List ℕ) → is_of t.entry.body other ≡ bytes_eq name other
   of_body other = ap (λ b. is_of b other) body
 
-  skips_nothing : (e : Option Taken) → skips rules log (Some t) e ≡ false
+  pub skips_nothing : (e : Option Taken) → skips rules log (Some t) e ≡ false
   skips_nothing None = refl
   skips_nothing (Some x) = ap (λ b. skips_id b x.entry.id && may_skip rules (policy_after rules log) t.entry x.entry.body) body
 
-  shared : (e : Option Taken) → share (Some t) e ≡ is_entry_of e name
+  pub shared : (e : Option Taken) → share (Some t) e ≡ is_entry_of e name
   shared None = refl
   shared (Some x) = ap (λ b. shares b x.entry.body) body
 

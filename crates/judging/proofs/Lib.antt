@@ -6,4 +6,5 @@ pub mod Places
 pub mod Takes
 pub mod HitLemmas
 pub mod Notes
+pub mod Pendings
 pub mod Forces

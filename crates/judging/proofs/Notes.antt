@@ -74,7 +74,7 @@ module _ {P F : Type 0} (rules : Rules P F) (log : List Taken) (t : Taken) where
   hits id n = nat_lt 0 n && (has_id (entry_at log n) id && may (entry_at log n))
 
   module _ (ids : List (List ℕ)) (skip : Bool) (message : List ℕ) (body : t.entry.body ≡ Annotation ids skip message) where
-    shares_nothing : (e : Option Taken) → share (Some t) e ≡ false
+    pub shares_nothing : (e : Option Taken) → share (Some t) e ≡ false
     shares_nothing None = refl
     shares_nothing (Some x) = ap (λ b. shares b x.entry.body) body
 
@@ -91,7 +91,7 @@ module _ {P F : Type 0} (rules : Rules P F) (log : List Taken) (t : Taken) where
         ∙ ap (λ xs. xs ++ cond (is_of t.entry.body name && not (is_none (fault_of rules log (Some t)))) (suc (length log) ∷ []) []) (keeps (λ i. not (rescues_now rules log t i)) (λ i. ap (λ b. not (b && (completes rules log (Some t) && (nat_lt (above_of rules log (Some t)) i && nat_lt i (suc (length log)))))) (shares_nothing (entry_at log i))) (lane rules log name).pending)
         ∙ ap (λ b. (lane rules log name).pending ++ cond (is_of b name && not (is_none (fault_of rules log (Some t)))) (suc (length log) ∷ []) []) body ∙ append-nil (lane rules log name).pending
 
-    skips_is : (e : Option Taken) → skips rules log (Some t) e ≡ (skip && (list_any (λ id. has_id e id) ids && may e))
+    pub skips_is : (e : Option Taken) → skips rules log (Some t) e ≡ (skip && (list_any (λ id. has_id e id) ids && may e))
     skips_is None = sym (by_ids skip ids) where
       by_ids : (s : Bool) (xs : List (List ℕ)) → (s && (list_any (λ id. false) xs && false)) ≡ false
       by_ids true [] = refl

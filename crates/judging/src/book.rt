@@ -182,6 +182,13 @@ impl<F> Book<F> {
         self.marks.is_pending_after(name, above)
     }
 
+    /// Whether a number of a reference is pending.
+    pub fn is_pending(&self, name: &RefName, number: u64) -> bool
+        ensures { result ≡ is_in number (lane_of self.now.marks name.now).pending }
+    {
+        self.marks.is_pending(name, number)
+    }
+
     /// How many entries a reference has.
     pub fn count(&self, name: &RefName) -> u64
         ensures { result ≡ length (lane_of self.now.marks name.now).pushed }

@@ -1,14 +1,15 @@
 //! One forward pass over a log.
 
 ghost use Rattle.std.specs.Prelude.{◌≡◌, ◌↔◌, ◌<◌, ◌≤◌, ◌+◌, [], ℕ, List, Bool, Option, Some, None, true, false, IfOk};
-ghost use Rattle.std.specs.Prelude.{IsTrue, OnErr, OnOk};
+ghost use Rattle.std.specs.Prelude.{IsTrue, OnErr, OnOk, length};
 ghost use Rattle.std.specs.Option.{option_copied};
 ghost use Rattle.octets.specs.Causes.{HasCause};
 ghost use Rattle.git_object.specs.Repository.{Repository};
 ghost use Rattle.rsl_chain.specs.Entries.{Taken};
 ghost use Rattle.judging.specs.Judges.{KeepsStore, judge_failed};
 ghost use Rattle.judging.specs.Rules.{Rules};
-ghost use Rattle.judging.specs.Logs.{is_entry_of, entry_at, last_signers, policy_after, prior_target, skipped};
+ghost use Rattle.judging.specs.Logs.{entry_at, has_id, is_entry_of, last_signers, pending, policy_after, prior};
+ghost use Rattle.judging.specs.Logs.{prior_target, skipped};
 
 use crate::book::Book;
 use crate::judged::{tip, violation};
@@ -62,6 +63,22 @@ impl<P, F> Engine<P, F> {
         self.book.place(id).is_some()
     }
 
+    /// The number of the entry of an id.
+    pub fn place(&self, id: &ObjectId) -> Option<u64>
+        ensures { (rules : Rules P F) (log : List Taken) → Stands rules log self.now
+            → (i : ℕ) → (result ≡ Some i) ↔ ((0 < i) × (i ≤ length log) × (has_id (entry_at log i) id.now ≡ true)) }
+    {
+        self.book.place(id)
+    }
+
+    /// The number of a reference's last entry that is not skipped.
+    pub fn prior(&self, name: &RefName) -> Option<u64>
+        ensures { (rules : Rules P F) (log : List Taken) → Stands rules log self.now
+            → result ≡ prior rules log name.now }
+    {
+        self.book.prior(name)
+    }
+
     /// The target of a reference's last entry that is not skipped.
     pub fn prior_target(&self, name: &RefName) -> Option<ObjectId>
         ensures { (rules : Rules P F) (log : List Taken) → Stands rules log self.now
@@ -88,6 +105,18 @@ impl<P, F> Engine<P, F> {
             × (skipped rules log number ≡ true)) }
     {
         self.book.is_skipped(number)
+    }
+
+    /// Whether the entry of a number is a reference's that is neither authorised nor rescued.
+    pub fn pending(&self, number: u64) -> bool
+        ensures { (rules : Rules P F) (log : List Taken) → Stands rules log self.now
+            → IsTrue result ↔ ((0 < number) × (name : List ℕ) × (is_entry_of (entry_at log number) name ≡ true)
+            × (pending rules log number ≡ true)) }
+    {
+        match self.book.name_of(number) {
+            Some(name) => self.book.is_pending(name, number),
+            None => false,
+        }
     }
 
     /// The policy in force after the entries taken.

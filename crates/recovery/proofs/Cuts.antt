@@ -1,13 +1,17 @@
 -- What a filter leaves of a list that has three parts.
-use Rattle.std.proofs.Common.{◌≡◌, ◌<◌, ◌≤◌, ◌-◌, ◌⊎◌, ◌||◌, ◌++◌, nat_lt, sym, ◌∙◌, inl, inr, subst, leb, ltb, leb-true, ltb-true, ltb-false, ℕ, suc, zero, Bool, true, false, List, [], ◌∷◌, Option, Some, None, length, get_or, take, drop, refl, ap, arith}
+use Rattle.std.proofs.Common.{◌≡◌, ◌==◌, ◌<◌, ◌≤◌, ◌-◌, ◌⊎◌, ◌||◌, ◌++◌, nat_lt, sym, ◌∙◌, inl, inr, subst, leb, ltb, leb-true, ltb-true, ltb-false, ℕ, suc, zero, Bool, true, false, List, [], ◌∷◌, Option, Some, None, length, get_or, take, drop, refl, ap, arith}
 use Rattle.std.specs.List.{All, AllPairs, AllWithin, filter, list_any, slice_get}
 use Rattle.std.proofs.lemmas.List.Folds.{list_any_at, list_any_none}
 use Rattle.std.proofs.lemmas.List.{get_or_default}
-use Rattle.std.specs.List.Sorted.{IsNonDecreasingBy}
-use Rattle.std.proofs.lemmas.Bool.{cases_lt, le-leb, le-ltb, lt-leb, lt-ltb}
+use Rattle.std.specs.List.Sorted.{IsBinarySearchResult, IsNonDecreasingBy}
+use Rattle.std.specs.Ordering.{nat_cmp}
+use Rattle.std.specs.Prelude.{Err, Ok, Result}
+use Rattle.std.specs.Result.{is_ok}
+use Rattle.std.proofs.lemmas.List.Sorted.{searched}
+use Rattle.std.proofs.lemmas.Bool.{cases_lt, eq-eqb, le-leb, le-ltb, lt-leb, lt-ltb, ne_eqb}
 use Rattle.std.specs.Option.{IfSome}
 use Rattle.std.proofs.lemmas.Option.{get_or_from_slice_get, none-some, slice_get-get_or, slice_get_within}
-use Rattle.recovery.specs.Lanes.{first_of, is_outside, last_of}
+use Rattle.recovery.specs.Lanes.{first_of, is_in, is_outside, last_of}
 use Rattle.std.proofs.lemmas.List.Elements.{All-head, All-tail}
 
 module _ {X : Type 0} (p : X → Bool) where
@@ -112,3 +116,17 @@ there_is_last n ns h = none-some (get_or (n ∷ ns) (length (n ∷ ns) - 1) 0) (
 pub none_passes : (above : ℕ) (ns : List ℕ) → slice_get ns (length ns - 1) ≡ None → list_any (nat_lt above) ns ≡ false
 none_passes above [] h = refl
 none_passes above (n ∷ ns) h = absurd (there_is_last n ns h)
+
+-- ---- a number among those that rise
+pub has_is : (n : ℕ) (ns : List ℕ) (r : Result ℕ ℕ) → AllPairs (λ x y. x < y) ns → IsBinarySearchResult (λ y. nat_cmp y n) ns r → is_ok r ≡ is_in n ns
+has_is n ns (Ok i) rising is =
+    let at = searched ns n (Ok i) is (λ j k le h. non_decreasing ns rising j k 0 le h) in
+    sym (list_any_at (λ m. m == n) ns i 0 at.0 (eq-eqb (get_or ns i 0) n at.1))
+has_is n ns (Err i) rising is =
+    let at = searched ns n (Err i) is (λ j k le h. non_decreasing ns rising j k 0 le h) in
+    sym (list_any_none (λ m. m == n) ns (λ k d h.
+    let e = get_or_default ns k d 0 h in
+    ne_eqb (get_or ns k d) n (λ same. elim (cases_lt k i) [
+      | inl before ↦ absurd (let l = at.1 k before in omega arith)
+      | inr after ↦ absurd (let l = at.2 k after h in omega arith)
+    ])))

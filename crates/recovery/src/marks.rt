@@ -114,6 +114,16 @@ impl Marks {
         }
     }
 
+    /// Whether a number of a reference is pending.
+    pub fn is_pending(&self, name: &RefName, number: u64) -> bool
+        ensures { result ≡ is_in number (lane_of self.now name.now).pending }
+    {
+        match slot_of(&self.names, name) {
+            Some(at) => self.slots[at].pending.has(number),
+            None => false,
+        }
+    }
+
     /// How many numbers of a reference were pushed.
     pub fn count(&self, name: &RefName) -> u64
         ensures { result ≡ length (lane_of self.now name.now).pushed }

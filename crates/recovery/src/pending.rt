@@ -2,7 +2,7 @@
 
 ghost use Rattle.std.specs.Prelude.{◌≡◌, ◌<◌, ◌≤◌, ◌++◌, ◌∷◌, [], nat_lt, IfSome, OnOk, OnErr};
 ghost use Rattle.std.specs.List.{All, filter, list_any};
-ghost use Rattle.recovery.specs.Lanes.{first_of, is_outside};
+ghost use Rattle.recovery.specs.Lanes.{first_of, is_in, is_outside};
 
 use octets::Memory;
 use std::alloc::Global;
@@ -50,6 +50,16 @@ impl Pending {
         match self.numbers.as_slice().last() {
             Some(last) => above < *last,
             None => false,
+        }
+    }
+
+    /// Whether a number is among them.
+    pub fn has(&self, number: u64) -> bool
+        ensures { result ≡ is_in number self.now }
+    {
+        match self.numbers.as_slice().binary_search(&number) {
+            Ok(_) => true,
+            Err(_) => false,
         }
     }
 

@@ -140,6 +140,14 @@ impl Engine {
         self.entries.signers()
     }
 
+    /// The engine of judging that took the entries, lent: it answers what is asked of them under the rules of the anchor. It
+    /// takes no memory.
+    pub fn entries(&self) -> &LogEngine
+        ensures { result.now ≡ self.now.entries }
+    {
+        &self.entries
+    }
+
     /// Lets go what is known of the trees of a store, so that the next one may hold others in their place. It takes no memory.
     pub fn forget(&mut self, alloc: Global)
         ensures known { (r : Repository) → AreKnownIn r self.new.known }
