@@ -10,16 +10,14 @@ mod needs;
 use crate::hints::{hint_at_shared_key, hint_at_slow_key};
 use crate::needs::{Needs, needs_of};
 use command_words::{FrontWords, KeyPlace, Store, after_places};
-use edge_io::{Disk, Failed, FileDisk, MemDisk, OsClock, OsEntropy, StdSink, StdSource, write_all};
+use edge_io::{Disk, Failed, FileDisk, MemDisk, OsClock, OsEntropy, StdSink, StdSource};
 use endings::{Part, Refusal};
 use gittuf_cli::{Outside, run};
 use keeper_api::{Keeper, MemKeeper};
 use keeper_directory::{DirKeeper, OpenFault};
 use octets::Octets;
-use std::env;
-use std::io::ErrorKind;
+use program_start::words_of;
 use std::process::ExitCode;
-use std::rt::Env;
 
 // What a key file in memory has room for: the bytes of the largest key file and of its marks, and the calls of a
 // command.
@@ -27,31 +25,9 @@ const KEY_BYTES: usize = 32_840;
 
 const KEY_CALLS: usize = 1_024;
 
-// The words after the program's name. A word that is not UTF-8 is refused like words outside the grammar.
-fn words_of<R: Env + AllocGlobal>(rt: &R) -> Result<Vec<String>, Refusal> {
-    let args = match env::args(rt) {
-        Ok(args) => args,
-        Err(error) => {
-            return Err(match error.kind() {
-                ErrorKind::OutOfMemory => Refusal::Memory,
-                _ => Refusal::Words,
-            });
-        }
-    };
-    let mut words = Vec::new(rt.alloc());
-    for word in args.skip(1) {
-        if words.push(word).is_err() {
-            return Err(Refusal::Memory);
-        }
-    }
-    Ok(words)
-}
-
 // Says a refusal, and answers its status.
 fn refuse(rt: &HostRuntime, refusal: Refusal) -> u8 {
-    let mut faults_out = StdSink::new(rt.stderr());
-    let _ = write_all(&mut faults_out, refusal.line().as_slice());
-    refusal.status()
+    program_start::refuse(rt.stderr(), &refusal)
 }
 
 // Runs the command of the words over a store, a key file and the standard streams, and gives the store back.

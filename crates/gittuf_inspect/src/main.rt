@@ -10,40 +10,16 @@ mod words;
 use crate::running::inspect;
 use crate::words::{Asked, read_words};
 use command_words::{Store, WordsFault};
-use edge_io::{StdSink, write_all};
+use edge_io::StdSink;
 use endings::{Ending, Part, Refusal};
 use keeper_api::{Keeper, MemKeeper};
 use keeper_directory::{DirKeeper, OpenFault};
-use std::env;
-use std::io::ErrorKind;
+use program_start::words_of;
 use std::process::ExitCode;
-use std::rt::Env;
-
-// The words after the program's name. A word that is not UTF-8 is refused like words outside the grammar.
-fn words_of<R: Env + AllocGlobal>(rt: &R) -> Result<Vec<String>, Refusal> {
-    let args = match env::args(rt) {
-        Ok(args) => args,
-        Err(error) => {
-            return Err(match error.kind() {
-                ErrorKind::OutOfMemory => Refusal::Memory,
-                _ => Refusal::Words,
-            });
-        }
-    };
-    let mut words = Vec::new(rt.alloc());
-    for word in args.skip(1) {
-        if words.push(word).is_err() {
-            return Err(Refusal::Memory);
-        }
-    }
-    Ok(words)
-}
 
 // Says a refusal, and answers its status.
 fn refuse(rt: &HostRuntime, refusal: Refusal) -> u8 {
-    let mut faults_out = StdSink::new(rt.stderr());
-    let _ = write_all(&mut faults_out, refusal.line().as_slice());
-    refusal.status()
+    program_start::refuse(rt.stderr(), &refusal)
 }
 
 // Tells what is asked for over a store and standard output.
