@@ -125,8 +125,8 @@ fn entry_json(alloc: Global, entry: &Entry, row: &EntryRow, skipped: bool) -> Re
     }
 }
 
-/// The line that tells an entry, as it was judged, with its line feed. Of an entry of a reference it says whether that is
-/// skipped.
+/// The line that tells an entry, as it was judged, with its line feed. Of an entry of a reference it says whether that
+/// is skipped.
 #[tactic(auto, unfolding(crate::specs::Lines::entry_line))]
 pub fn entry_line(
     alloc: Global,

@@ -9,10 +9,11 @@ use judging::{EntryVerdict, KeyIds};
 pub struct EntryRow {
     /// Its id.
     pub id: ObjectId,
-    /// The number of the entry that brought the policy into force under which it is judged; None where none is in force.
+    /// The number of the entry that brought the policy into force under which it is judged; None where none is in
+    /// force.
     pub epoch: Option<u64>,
-    /// The target of its reference's last entry before it that is not skipped; None of an annotation, or where there is
-    /// none.
+    /// The target of its reference's last entry before it that is not skipped; None of an annotation, or where there
+    /// is none.
     pub from: Option<ObjectId>,
     /// Whether the key that it names is one of the policy, and its signature is good by it.
     pub signed: bool,

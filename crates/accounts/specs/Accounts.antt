@@ -39,9 +39,9 @@ is_accepted (TipDiffers kept recorded) = false
 is_accepted (Violation number fault) = false
 
 -- this line tells the verdict of the repository on a reference, and whether it is accepted
-pub record IsToldVerdict (anchor : Option (List (List ℕ))) (r : Repository) (name line : List ℕ) (accepted : Bool) : Type 0
-  where
-    pub verdict : Verdict Fault
-    pub judged : IsVerdict r name anchor verdict
-    pub told : line ≡ verdict_line name verdict
-    pub is : accepted ≡ is_accepted verdict
+pub record IsToldVerdict (anchor : Option (List (List ℕ))) (r : Repository) (name line : List ℕ)
+    (accepted : Bool) : Type 0 where
+  pub verdict : Verdict Fault
+  pub judged : IsVerdict r name anchor verdict
+  pub told : line ≡ verdict_line name verdict
+  pub is : accepted ≡ is_accepted verdict

@@ -21,6 +21,7 @@ pub record OneVerdictLine : Type 0 where
 
 -- the epoch that is told is the greatest number of an entry that brought a policy into force
 abbrev pub EpochGreatest : Type 0
-EpochGreatest = (anchor : Option (List (List ℕ))) (log : List Taken) (k : ℕ) → epoch_of (real_rules anchor) log ≡ Some k
+EpochGreatest = (anchor : Option (List (List ℕ))) (log : List Taken) (k : ℕ)
+    → epoch_of (real_rules anchor) log ≡ Some k
     → (0 < k) × (k ≤ length log) × (opens_at (real_rules anchor) log k ≡ true)
     × ((j : ℕ) → k < j → j ≤ length log → opens_at (real_rules anchor) log j ≡ true → ⊥)

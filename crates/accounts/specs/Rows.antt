@@ -1,5 +1,6 @@
 -- What is known of each entry of a log once it is judged: by the entries before it, and it alone.
-use Rattle.std.specs.Prelude.{◌&&◌, ◌++◌, ◌∷◌, [], ℕ, Bool, false, List, length, Option, Some, None, is_some}
+use Rattle.std.specs.Prelude.{◌&&◌, ◌++◌, ◌∷◌, [], ℕ, Bool, false, List, length, is_some}
+use Rattle.std.specs.Prelude.{Option, Some, None}
 use Rattle.std.specs.List.{filter}
 use Rattle.git_object.specs.References.{policy_name}
 use Rattle.rsl_chain.specs.Entries.{Taken}

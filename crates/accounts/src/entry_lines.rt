@@ -29,9 +29,9 @@ fn skipped(engine: &Engine, number: u64) -> bool
     engine.skipped(number)
 }
 
-/// The line of JSON that tells the entry of a number of a judged log, from 1, with its line feed: what it says, under which
-/// policy it was judged, who signed, what is answered of it, and whether it is skipped after the whole log. It reads the entry
-/// once more. `Broken` does not come where the store still holds the repository that was judged.
+/// The line of JSON that tells the entry of a number of a judged log, from 1, with its line feed: what it says, under
+/// which policy it was judged, who signed, what is answered of it, and whether it is skipped after the whole log. It
+/// reads the entry once more. `Broken` does not come where the store still holds the repository that was judged.
 pub fn entry_line<R: Keeper>(
     alloc: Global,
     keeper: &mut R,

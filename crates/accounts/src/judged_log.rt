@@ -6,8 +6,8 @@ use account_lines::EntryRow;
 use octets::Items;
 use verify_ref::Engine;
 
-/// A log that was judged: the engine that took its entries, the number of the last entry that brought a policy into force,
-/// and what is known of each entry, in their order.
+/// A log that was judged: the engine that took its entries, the number of the last entry that brought a policy into
+/// force, and what is known of each entry, in their order.
 #[derive(Drop)]
 pub struct JudgedLog {
     pub(crate) engine: Engine,

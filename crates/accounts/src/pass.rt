@@ -1,6 +1,7 @@
 //! Judging a log in one pass, and keeping what is known of each entry.
 
-ghost use Rattle.std.specs.Prelude.{◌≡◌, ◌≤◌, ◌+◌, ◌++◌, ◌∷◌, [], List, Some, true, false, IfErr, IfOk, OnOk};
+ghost use Rattle.std.specs.Prelude.{◌≡◌, ◌≤◌, ◌+◌, ◌++◌, ◌∷◌, [], List, Some, true, false};
+ghost use Rattle.std.specs.Prelude.{IfErr, IfOk, OnOk};
 ghost use Rattle.std.specs.List.{AllByRecursion};
 ghost use Rattle.octets.specs.Causes.{HasCause};
 ghost use Rattle.git_object.specs.Repository.{Repository};
@@ -49,7 +50,8 @@ fn judge_entry<R: Keeper>(
     ensures cause { HasCause log_failed (R.faults keeper.old) (R.faults keeper.new) result }
     ensures reads { OnOk result ((r : Repository) (log : List Taken) → R.content keeper.new ≡ Some r
         → Follows log judged.old.engine
-        → is_bounded (real_rules judged.old.engine.rules.anchor) log (record { entry = entry.now; repository = r }) ≡ true
+        → is_bounded (real_rules judged.old.engine.rules.anchor) log (record { entry = entry.now; repository = r })
+        ≡ true
         → R.reads keeper.new ≤ R.reads keeper.old + extending_reads (real_rules judged.old.engine.rules.anchor) log
         (record { entry = entry.now; repository = r })) }
 {
@@ -92,9 +94,11 @@ fn take<R: Keeper>(
     ensures cause { HasCause log_failed (R.faults keeper.old) (R.faults keeper.new) result }
     ensures reads { OnOk result ((r : Repository) (log : List Taken) (entry : Entry) → R.content keeper.new ≡ Some r
         → Follows log judged.old.engine → entry_at r id.now ≡ Some entry
-        → is_bounded (real_rules judged.old.engine.rules.anchor) log (record { entry = entry; repository = r }) ≡ true
+        → is_bounded (real_rules judged.old.engine.rules.anchor) log (record { entry = entry; repository = r })
+        ≡ true
         → R.reads keeper.new ≤ R.reads keeper.old
-        + (1 + extending_reads (real_rules judged.old.engine.rules.anchor) log (record { entry = entry; repository = r }))) }
+        + (1 + extending_reads (real_rules judged.old.engine.rules.anchor) log
+        (record { entry = entry; repository = r }))) }
 {
     let entry = read_entry(alloc, keeper, id)?;
     if !judged.engine.comes_next(&entry) {
@@ -117,8 +121,8 @@ fn take_all<R: Keeper>(
     requires known { (r : Repository) → R.content keeper.old ≡ Some r → AreKnownIn r judged.old.engine.known }
     ensures stands { OnOk result ((r : Repository) → R.content keeper.new ≡ Some r → (log : List Taken)
         × AreEntries r ids.now log × AllByRecursion (IsOwn r) log × StandsFor log judged.new) }
-    ensures unbroken { IfErr result (λ fault. (r : Repository) → R.content keeper.new ≡ Some r → IsLogOf r ids.now
-        → IsUnbroken fault) }
+    ensures unbroken { IfErr result (λ fault. (r : Repository) → R.content keeper.new ≡ Some r
+        → IsLogOf r ids.now → IsUnbroken fault) }
     ensures rules { judged.new.engine.rules ≡ judged.old.engine.rules }
     ensures same { Undisturbed R.Keeper keeper.old keeper.new }
     ensures cause { HasCause log_failed (R.faults keeper.old) (R.faults keeper.new) result }
@@ -135,10 +139,10 @@ fn take_all<R: Keeper>(
     Ok(())
 }
 
-/// The log of the store's repository, each entry judged in it, under the policy in force at its number. Where ids are given,
-/// the first policy must have exactly their keys. `Broken` comes exactly where the log is no chain, and names the commit at
-/// which it breaks. The store is as before. Each entry is read twice, once to find the log and once to take it; where no target
-/// of an entry is broken, nothing more is read than what judges them.
+/// The log of the store's repository, each entry judged in it, under the policy in force at its number. Where ids are
+/// given, the first policy must have exactly their keys. `Broken` comes exactly where the log is no chain, and names
+/// the commit at which it breaks. The store is as before. Each entry is read twice, once to find the log and once to
+/// take it; where no target of an entry is broken, nothing more is read than what judges them.
 pub fn judge_log<R: Keeper>(
     alloc: Global,
     keeper: &mut R,
@@ -146,7 +150,8 @@ pub fn judge_log<R: Keeper>(
 ) -> Result<JudgedLog, LogFault>
     ensures judged { IfOk result (λ judged. (r : Repository) → R.content keeper.new ≡ Some r
         → IsJudgedLog anchor r judged) }
-    ensures broken { IfErr result (λ fault. (r : Repository) → R.content keeper.new ≡ Some r → IsRefusal r fault) }
+    ensures broken { IfErr result (λ fault. (r : Repository) → R.content keeper.new ≡ Some r
+        → IsRefusal r fault) }
     ensures same { Undisturbed R.Keeper keeper.old keeper.new }
     ensures cause { HasCause log_failed (R.faults keeper.old) (R.faults keeper.new) result }
     ensures reads { OnOk result ((r : Repository) → R.content keeper.new ≡ Some r

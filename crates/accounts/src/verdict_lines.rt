@@ -39,8 +39,8 @@ fn is_accepted(verdict: &RefVerdict) -> bool
     }
 }
 
-/// The line of JSON that tells the verdict on a reference by a judged log: where the store still holds the repository that
-/// was judged, the verdict of `verify_ref::verify`. It reads the reference's value, and no object.
+/// The line of JSON that tells the verdict on a reference by a judged log: where the store still holds the repository
+/// that was judged, the verdict of `verify_ref::verify`. It reads the reference's value, and no object.
 pub fn tell_verdict<R: Keeper>(
     alloc: Global,
     keeper: &mut R,
