@@ -12,6 +12,7 @@ mod seating;
 mod seats;
 mod steps;
 mod turns;
+mod waiting;
 
 pub use chronicles::Chronicle;
 pub use seats::Seat;

@@ -10,6 +10,7 @@ use crate::chronicles::Chronicle;
 use crate::plays::{Leaving, LeavingWith, ReadingFaults, Taking, WritingFaults};
 use crate::rule::{Board, Token};
 use crate::seats::SeatView;
+use crate::waiting::Sleepers;
 use atomic_table::Badge;
 use std::mem;
 use std::sync::Wait;
@@ -70,7 +71,12 @@ fn put_in<S: Chronicle + Drop>(board: &Board<S>, token: &mut Token<S>, state: S)
 }
 
 /// Waits for the turn, and takes it.
-pub fn take_turn<S: Chronicle + Drop, R: Wait>(rt: &R, board: &Board<S>, token: &mut Token<S>) -> S
+pub fn take_turn<S: Chronicle + Drop, R: Wait>(
+    rt: &R,
+    board: &Board<S>,
+    sleepers: &Sleepers,
+    token: &mut Token<S>,
+) -> S
     requires table { IsOf board.now.shared.table_id token.old.table_id }
     requires seat { (0 < token.old.me.0.number) × (token.old.me.1 ≡ []) }
     ensures table { token.new.table_id ≡ token.old.table_id }
@@ -79,7 +85,7 @@ pub fn take_turn<S: Chronicle + Drop, R: Wait>(rt: &R, board: &Board<S>, token: 
     for _ in rt.forever() {
         let word = board.shared.peek(0);
         if word % 2 == 1 {
-            board.shared.park(rt, 0, (word % (1 << 32)) as u32);
+            sleepers.wait(rt, board, word);
             continue;
         }
         let half = word / 2;
@@ -104,7 +110,6 @@ pub fn give_back<S: Chronicle + Drop>(board: &Board<S>, token: &mut Token<S>, st
     put_in(board, token, state);
     let free = 2 * length;
     board.shared.store::<Leaving<S>>(token, 0, free);
-    board.shared.wake_one(0);
 }
 
 /// Gives the turn back with one member more.
@@ -122,5 +127,4 @@ pub fn give_back_with<S: Chronicle + Drop>(board: &Board<S>, token: &mut Token<S
     put_in(board, token, state);
     let free = 2 * length;
     board.shared.store::<LeavingWith<S>>(token, 0, free);
-    board.shared.wake_one(0);
 }

@@ -10,6 +10,7 @@ use crate::rule::{Board, Telling};
 use crate::seating::{first_look, last_seat, next_seat, open};
 use crate::seats::Seat;
 use crate::steps::{give_back, give_back_with, lift, take_turn};
+use crate::waiting::Sleepers;
 use octets::Memory;
 use std::alloc::Global;
 use std::marker::Model;
@@ -19,6 +20,7 @@ use std::sync::Wait;
 #[derive(Drop)]
 pub struct Turn<S: Chronicle> {
     board: Board<S>,
+    sleepers: Sleepers,
 }
 
 impl<S: Chronicle> Model for Turn<S> {
@@ -53,7 +55,8 @@ impl<S: Chronicle + Drop> Turn<S> {
         }
         let seat = last_seat(token, seats);
         given.push(seat)?;
-        Ok((Turn { board }, given))
+        let sleepers = Sleepers::none();
+        Ok((Turn { board, sleepers }, given))
     }
 
     /// Waits for the turn, and takes it: the state that stands for all that was done until then. The seat may not
@@ -67,7 +70,7 @@ impl<S: Chronicle + Drop> Turn<S> {
         ensures seat { TakesTurn (S.counted result) seat.old seat.new }
     {
         let mut token = lift(&mut seat.badge);
-        let state = take_turn(rt, &self.board, &mut token);
+        let state = take_turn(rt, &self.board, &self.sleepers, &mut token);
         seat.badge = token.into_badge();
         state
     }
@@ -88,6 +91,7 @@ impl<S: Chronicle + Drop> Turn<S> {
         let mut token = lift(&mut seat.badge);
         give_back_with(&self.board, &mut token, state);
         seat.badge = token.into_badge();
+        self.sleepers.wake(&self.board);
     }
 
     /// Gives the turn back with a state that stands for the history that was taken, and whose faults have not fallen.
@@ -104,6 +108,7 @@ impl<S: Chronicle + Drop> Turn<S> {
         let mut token = lift(&mut seat.badge);
         give_back(&self.board, &mut token, state);
         seat.badge = token.into_badge();
+        self.sleepers.wake(&self.board);
     }
 
     /// How many members the history has by now. One load, which waits for nobody: not for the seat that holds the
