@@ -41,7 +41,7 @@ _git_gittuf() {
     fi
     case ${COMP_WORDS[at + 1]} in
         setup) _gittuf_reply -W "--anew --root $(git remote 2> /dev/null)" ;;
-        doctor) _gittuf_reply -W "--take --anyway $(git remote 2> /dev/null)" ;;
+        doctor) _gittuf_reply -W "--take --anyway --json $(git remote 2> /dev/null)" ;;
         key) _gittuf_reply -f -W '--file --height --width --bottom --id --public' ;;
         record | recover | push) _gittuf_reply -W "--anyway $(_gittuf_branches)" ;;
         approve) _gittuf_reply -W "--anyway --delete $(_gittuf_branches)" ;;
@@ -49,7 +49,7 @@ _git_gittuf() {
         verify) _gittuf_reply -W "--root --pinned -v --json $(_gittuf_branches) $(_gittuf_remote_branches)" ;;
         log) _gittuf_reply -W '-v --json' ;;
         report) _gittuf_reply -f -W '-o --root --pinned' ;;
-        explain) _gittuf_reply -f -W "$(_gittuf_branches)" ;;
+        explain) _gittuf_reply -f -W "-v --json $(_gittuf_branches)" ;;
         skip | note) _gittuf_reply -W '-m --anyway' ;;
         policy)
             if [ "$((COMP_CWORD - at))" -eq 2 ]; then
@@ -60,6 +60,8 @@ _git_gittuf() {
                 _gittuf_reply -W --remove
             elif [ "${COMP_WORDS[at + 2]}" = sign ]; then
                 _gittuf_reply -W --id
+            elif [ "${COMP_WORDS[at + 2]}" = show ]; then
+                _gittuf_reply -W --json
             fi
             ;;
     esac

@@ -6,7 +6,7 @@ import subprocess
 import sys
 import time
 
-from checking import BRIDGE, LAUNCHER, Failure, on_terminal, run, want
+from checking import BRIDGE, LAUNCHER, Failure, on_terminal, processor_seconds, run, want
 from guarded_clones import LARGER, MAIN, SMALL, TOOL, another, guarded
 
 STOPS = 20
@@ -83,9 +83,10 @@ other
 
 
 def timed(*words, folder):
-    start = time.monotonic()
+    """What a call takes of the processor, and what it answers."""
+    start = processor_seconds()
     found = run(*words, folder=folder)
-    return time.monotonic() - start, found
+    return processor_seconds() - start, found
 
 
 def is_quick_after_one_commit(repositories):

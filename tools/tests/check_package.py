@@ -8,7 +8,8 @@ import sys
 import tarfile
 
 from checking import TOP, Failure, Skip, run, want
-from guarded_clones import MAIN, SMALL
+from git_gittuf.words import help_of
+from guarded_clones import MAIN, SMALL, TOOL
 
 PACKAGE = os.path.join(TOP, "tools", "package")
 WORDS = ("setup", "key", "policy", "record", "approve", "verify", "recover", "push", "sync", "skip", "note", "log", "explain", "report", "export", "doctor")
@@ -139,8 +140,27 @@ def completes(repositories):
             want(run("zsh", "-n", os.path.join(TOP, "completion", it)), (0, b"", b""), f"what zsh says of {it}")
 
 
+def tells_its_use(repositories):
+    """each word of git gittuf has its part of the page of use by -h, and a slip is told with what is near, by status 2"""
+    repositories.needed()
+    where = repositories.path("project")
+    for it in (("verify",), ("policy", "rule")):
+        status, output, errors = run(TOOL, *it, "-h", folder=where)
+        want((status, output.decode().split()[: len(it)], errors), (0, [*it], b""), f"what {' '.join(it)} -h answers")
+    for it in WORDS:
+        want(help_of([it]).startswith(f"  {it} "), True, f"whether {it} has a part of the page")
+    slips = {
+        ("verfy", "main"): "verfy is no word, and near is verify",
+        ("policy", "sing"): "sing is no word of policy, and near is sign",
+        (): "a word is wanted",
+    }
+    for it, said in slips.items():
+        want(run(TOOL, *it, folder=where), (2, b"", f"git-gittuf: {said}: git gittuf -h says which words are taken\n".encode()), f"what {it} is told")
+
+
 CHECKS = (
     runs_where_it_is_installed,
     has_pages,
+    tells_its_use,
     completes,
 )

@@ -11,7 +11,7 @@ import tarfile
 import time
 
 from check_launcher import bare_environment
-from checking import VERIFY, Failure, Skip, want
+from checking import VERIFY, Failure, Skip, processor_seconds, want
 from made_releases import ARCHIVE, KIT, RELEASED, Checkout, own_processor, packages, programs_here, releases, stand_ins
 from rows_histories import BEFORE, MAIN, MAINTAINER, guarded
 from rows_runs import Anew, Run
@@ -20,7 +20,7 @@ from stream_format import Refused
 PLAIN, NEWER = packages.PLAIN, packages.NEWER
 ACCEPTED = b"accepted refs/heads/main 4 entries\n"
 NOBODY = 65534
-# What the first start may take. A machine with much other work is allowed more, and the figure is printed.
+# What the first start may take of the processor.
 MOST_MS = 1000
 # Each of two programs stands in the package and in the archive.
 MOST_BYTES = 2_500_000
@@ -34,14 +34,14 @@ def runs_without_a_toolchain(repositories):
     os.symlink(os.path.realpath(sys.executable), os.path.join(environment["PATH"], "python3"))
     with open(checkout.path("examples/guarded.stream"), "rb") as file:
         stream = file.read()
-    began = time.perf_counter()
+    began, used = time.perf_counter(), processor_seconds()
     want(checkout.call(*VERIFY, environment=environment, input=stream), (0, ACCEPTED, b""), "the first verdict")
-    taken = 1000 * (time.perf_counter() - began)
-    want(taken <= MOST_MS, True, f"that {taken:.0f} ms are at most {MOST_MS}")
+    taken, used = (1000 * it for it in (time.perf_counter() - began, processor_seconds() - used))
+    want(used <= MOST_MS, True, f"that {used:.0f} ms of the processor are at most {MOST_MS}")
     ran = subprocess.run((checkout.path("tools/test"), "levels"), capture_output=True, env=environment, timeout=300)
     closing = re.search(rb"^\d+ passed, 0 failed(, \d+ skipped)?\n\Z", ran.stdout, re.MULTILINE)
     want((ran.returncode, bool(closing)), (0, True), f"what tools/test answers, {ran.stdout[-300:]!r}")
-    return f"the first verdict after {taken:.0f} ms"
+    return f"the first verdict after {taken:.0f} ms, {used:.0f} of them by the processor"
 
 
 def runs_the_one_for_the_processor(repositories):

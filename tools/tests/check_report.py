@@ -41,13 +41,18 @@ class Page(html.parser.HTMLParser):
 
 
 def reported(repositories, name):
-    """Clones with a violation and an odd name, and the report on them."""
+    """Clones with an approval, a violation that is skipped and an odd name, and the report on them."""
     clones = another(repositories, name)
+    clones.commit("bob")
+    clones.gittuf("bob", "approve", "main", "--anyway")
+    clones.gittuf("bob", "record", "main")
+    clones.gittuf("bob", "push")
     clones.clone("mallory")
     clones.git("branch", ODD, who="mallory")
     clones.gittuf("mallory", "record", ODD)
     clones.commit("mallory")
     clones.gittuf("mallory", "record", "main", "--anyway")
+    clones.gittuf("mallory", "skip", "6", "--anyway")
     path = clones.path("report.html")
     clones.gittuf("mallory", "report", "-o", path, status=1)
     with open(path, encoding="utf-8") as file:
@@ -55,20 +60,22 @@ def reported(repositories, name):
 
 
 def tells_all(repositories):
-    """the report has each verdict with the rule and who is missing, and each entry with who signed it, and runs and fetches nothing"""
+    """the report has each verdict with the rule and who is missing, and each entry with who signed and approved it, and runs and fetches nothing"""
     _, _, text = reported(repositories, "reported")
     page = Page(text)
     want(page.outside, [], "what the page would run or fetch")
     want("default-src 'none'" in text, True, "whether the page forbids it too")
     verdicts = {it[0]: it[1:] for it in page.tables["verdicts"][1:]}
-    want(set(verdicts), {"refs/gittuf/policy", "main", ODD}, "what is judged")
+    want(set(verdicts), {"refs/gittuf/policy", "refs/gittuf/attestations", "main", ODD}, "what is judged")
     want((verdicts["main"][0], verdicts[ODD][0]), ("violation", "accepted"), "the verdicts")
     for part in ("git gittuf recover main", "rule main wants 1 of alice, bob: missing are alice, bob"):
         want(part in verdicts["main"][1], True, f"whether it says {part}: {verdicts['main'][1]}")
     entries = page.tables["log"][1:]
-    want([it[0] for it in entries], ["1", "2", "3", "4"], "the entries")
-    want([it[2] for it in entries][:2], ["alice", "alice"], "who signed the first two")
-    want(f"refs/heads/{ODD}" in entries[2][3], True, f"how a name is shown: {entries[2]}")
+    want([it[0] for it in entries], [str(it) for it in range(1, 8)], "the entries")
+    want([it[2] for it in entries][:4], ["alice", "alice", "bob", "bob"], "who signed the first four")
+    want([it[3] for it in entries], ["", "", "", "bob", "", "", ""], "who approved")
+    want(f"refs/heads/{ODD}" in entries[4][4], True, f"how a name is shown: {entries[4]}")
+    want([it[4].rpartition(", and ")[2] for it in entries[3:6:2]], [entries[3][4], entries[5][4]], "what a stranger's skip skips")
 
 
 def is_read_by_a_browser(repositories):

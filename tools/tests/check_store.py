@@ -1,9 +1,8 @@
 """The checks of tools/test on what the store holds, and on what stays of what was recorded."""
 
 import os
-import time
 
-from checking import Failure, run, want
+from checking import Failure, processor_seconds, run, want
 from git_gittuf import epochs
 from guarded_clones import MAIN, another
 from packs import Pack
@@ -11,7 +10,7 @@ from packs import Pack
 LOG, TARGETS = "refs/gittuf/reference-state-log", "refs/gittuf/targets/"
 MANY = "refs/heads/many"
 FILES, FOLDERS, CHANGES = 20_000, 200, 100
-# What the store of these files may have, and how long its making may take, in files, bytes and seconds.
+# What the store of these files may have, and what its making may take, in files, bytes and seconds of the processor.
 MOST_FILES, MOST_BYTES, MOST_SECONDS = 1_000, 100_000_000, 5
 
 
@@ -65,15 +64,15 @@ def holds_what_judging_reads(repositories):
     clones = with_many(repositories, "few files", FILES, FOLDERS, CHANGES)
     clones.git("clone", "--quiet", "--no-checkout", "server.git", "newcomer", who="")
     clones.git("fetch", "--quiet", "origin", "+refs/gittuf/*:refs/gittuf-remotes/origin/*", who="newcomer")
-    start = time.monotonic()
+    start = processor_seconds()
     clones.gittuf("newcomer", "setup")
-    seconds = time.monotonic() - start
+    seconds = processor_seconds() - start
     want(clones.gittuf("newcomer", "verify", MANY), f"accepted {MANY} {CHANGES} entries\n".encode(), "the verdict of a new clone")
     files, size = store_of(clones, "newcomer")
     want(files <= MOST_FILES and size <= MOST_BYTES, True, f"whether {files} files of {size} bytes are few")
     if seconds > MOST_SECONDS:
         raise Failure(f"setup took {seconds:.1f} s, and {MOST_SECONDS} are allowed")
-    return f"{files} files, {size / 1_000_000:.1f} MB, setup in {seconds:.1f} s"
+    return f"{files} files, {size / 1_000_000:.1f} MB, setup in {seconds:.1f} s of the processor"
 
 
 def makes_an_older_store_small(repositories):

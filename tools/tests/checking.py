@@ -1,11 +1,14 @@
 """What the checks of tools/test share: running programs, and holding what they do to what is wanted."""
 
+import contextlib
 import os
 import pty
+import resource
 import select
 import signal
 import subprocess
 import sys
+import tempfile
 import time
 
 TOP = os.path.dirname(os.path.dirname(os.path.dirname(os.path.realpath(__file__))))
@@ -27,6 +30,8 @@ QUESTION = b"[y/N] "
 SECONDS = 120
 # A script has many lines.
 SCRIPT_SECONDS = 600
+# The environment names the folder that the topics of a run share.
+SHARED = "GITTUF_TEST_SHARED"
 
 
 def programs():
@@ -38,6 +43,32 @@ def programs():
 
 
 PROGRAM, SMALL_PROGRAM = programs()
+
+
+def processor_seconds():
+    """What the programs that have ended so far took of the processor, of which other work on the machine changes little."""
+    used = resource.getrusage(resource.RUSAGE_CHILDREN)
+    return used.ru_utime + used.ru_stime
+
+
+@contextlib.contextmanager
+def shared():
+    """A folder that all topics share, with what users keep in their caches and what is made once for all of them."""
+    if SHARED in os.environ:
+        yield
+        return
+    # What is compiled is to be kept there.
+    os.environ.pop("PYTHONDONTWRITEBYTECODE", None)
+    with tempfile.TemporaryDirectory(prefix="gittuf-test-") as folder:
+        cache = os.path.join(os.path.realpath(folder), "cache")
+        os.mkdir(cache)
+        os.environ.update({SHARED: folder, "XDG_CACHE_HOME": cache})
+        yield
+
+
+def shared_folder():
+    """The folder of a run of tools/test that its topics share, which goes with the run."""
+    return os.environ[SHARED]
 
 
 class Failure(Exception):

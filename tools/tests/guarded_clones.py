@@ -1,10 +1,11 @@
 """Clones of one server that tools/test guards by git gittuf: two maintainers, and whoever else comes."""
 
+import fcntl
 import os
 import shutil
 import sys
 
-from checking import GIT_TO_STREAM, LAUNCHER, TOP, Failure, run, want
+from checking import GIT_TO_STREAM, LAUNCHER, TOP, Failure, run, shared_folder, want
 
 TOOL = os.path.join(TOP, "tools", "git-gittuf")
 MAIN = "refs/heads/main"
@@ -16,13 +17,18 @@ LARGER = ("--height", "10", "--width", "1")
 class Clones:
     """A bare repository as the server and clones of it, in a folder of their own."""
 
-    def __init__(self, repositories, name):
+    def __init__(self, repositories, folder):
         repositories.needed()
-        self.repositories, self.folder = repositories, repositories.path(name)
+        self.repositories, self.folder = repositories, folder
         os.mkdir(self.folder)
+        self.environment()
+        self.git("init", "--quiet", "--bare", "-b", "main", "--object-format=sha256", "server.git", who="")
+
+    def environment(self):
+        """Lets Git find the tool, and the tool a place for what a user has."""
         os.environ["XDG_DATA_HOME"] = os.path.join(self.folder, "data")
         # Git finds the tool by a link in a folder of PATH.
-        links = repositories.path("links")
+        links = self.repositories.path("links")
         if not os.path.isdir(links):
             os.mkdir(links)
             os.symlink(TOOL, os.path.join(links, "git-gittuf"))
@@ -31,7 +37,6 @@ class Clones:
             os.environ["PATH"] = f"{links}:{os.environ['PATH']}"
         # No templates: many files that nothing here uses would be copied.
         os.environ["GIT_TEMPLATE_DIR"] = ""
-        self.git("init", "--quiet", "--bare", "-b", "main", "--object-format=sha256", "server.git", who="")
 
     def path(self, who):
         return os.path.join(self.folder, who)
@@ -133,9 +138,9 @@ class Clones:
             want((found[0], found[1]), (0, b""), f"what git fsck says of {who}")
 
 
-def guarded(repositories, name, size=SMALL):
+def guarded(repositories, name, size=SMALL, place=None):
     """A server and the clones of alice, with a key of this size, and bob, of whom either may change main, with one recorded commit."""
-    clones = Clones(repositories, name)
+    clones = Clones(repositories, place or repositories.path(name))
     clones.git("init", "--quiet", "-b", "main", "--object-format=sha256", "alice", who="")
     clones.git("remote", "add", "origin", "../server.git", who="alice")
     clones.gittuf("alice", "setup")
@@ -158,10 +163,26 @@ def guarded(repositories, name, size=SMALL):
 
 
 def first(repositories):
-    """The clones that all others are copies of, which are made at the first call."""
-    if getattr(repositories, "first_guarded", None) is None:
-        repositories.first_guarded = guarded(repositories, "guarded")
-    return repositories.first_guarded
+    """The clones that all others are copies of, which are made at the first call: once for all topics."""
+    if getattr(repositories, "first_guarded", None) is not None:
+        return repositories.first_guarded
+    repositories.needed()
+    shared = shared_folder()
+    with open(os.path.join(shared, "lock"), "wb") as lock:
+        fcntl.flock(lock, fcntl.LOCK_EX)
+        place, when = (os.path.join(shared, it) for it in ("guarded", "seconds"))
+        if not os.path.exists(when):
+            guarded(repositories, "guarded", place=place)
+            with open(when, "w", encoding="utf-8") as file:
+                file.write(str(repositories.seconds))
+        with open(when, encoding="utf-8") as file:
+            # What is written later is to be another text.
+            repositories.seconds = max(repositories.seconds, int(file.read()))
+    own = Clones.__new__(Clones)
+    own.repositories, own.folder = repositories, place
+    own.environment()
+    repositories.first_guarded = own
+    return own
 
 
 def another(repositories, name):

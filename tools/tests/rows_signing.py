@@ -4,6 +4,7 @@ Secrets come from one seed as in the standard's appendix A, and so does the rand
 number 0xfffd. Nothing here may guard anything: a key's seed is its name.
 """
 
+import functools
 import hashlib
 
 HEIGHT, LEAVES, CHAINS, LAST = 5, 32, 34, 255
@@ -24,19 +25,29 @@ def long(number):
 
 
 class Key:
-    """A key by name. What it signs is signed by the leaf that is told."""
+    """A key by name, whose tree is made when it is first asked for. What it signs is signed by the leaf that is told."""
 
     kind = "lms"
 
     def __init__(self, name):
         self.identifier = sha256(b"identifier of ", name.encode())[:16]
         self.seed = sha256(b"seed of ", name.encode())
-        self.nodes = {LEAVES + leaf: self.leaf_node(leaf) for leaf in range(LEAVES)}
+
+    @functools.cached_property
+    def nodes(self):
+        """The values of the tree's nodes by their numbers, of which the root's is 1."""
+        found = {LEAVES + leaf: self.leaf_node(leaf) for leaf in range(LEAVES)}
         for node in range(LEAVES - 1, 0, -1):
-            children = self.nodes[2 * node], self.nodes[2 * node + 1]
-            self.nodes[node] = sha256(self.identifier, long(node), short(INNER), *children)
-        self.public = LMS_TYPE + OTS_TYPE + self.identifier + self.nodes[1]
-        self.id = sha256(self.public).hex()
+            found[node] = sha256(self.identifier, long(node), short(INNER), found[2 * node], found[2 * node + 1])
+        return found
+
+    @functools.cached_property
+    def public(self):
+        return LMS_TYPE + OTS_TYPE + self.identifier + self.nodes[1]
+
+    @functools.cached_property
+    def id(self):
+        return sha256(self.public).hex()
 
     def derived(self, leaf, number):
         return sha256(self.identifier, long(leaf), short(number), b"\xff", self.seed)

@@ -4,6 +4,8 @@ It is for persons, and beside the verdict, which is the program's. A name stands
 person's key under the policy in force at the entry.
 """
 
+import functools
+
 from git_gittuf import history, listing, looking, signers
 from git_gittuf.repository import ATTESTATIONS, ZEROS
 from git_gittuf.shown import plain
@@ -26,52 +28,67 @@ class Accounts:
                 found.setdefault(it, []).append(entry[0])
         return found
 
+    def skipped_by(self, entry):
+        """The number of the first annotation that skips an entry, or nothing."""
+        return next(iter(self.skips.get(entry[1], ())), None)
+
     def is_skipped(self, entry, before):
         return any(it < before for it in self.skips.get(entry[1], ()))
 
-    def changes_of(self, name):
-        """The entries of a reference, each with the target from which it goes and the approvals' target then."""
-        own, attested, found = [], None, []
+    @functools.cached_property
+    def changes(self):
+        """The entries of each reference, each with the target from which it goes and the approvals' target then."""
+        attested, found = None, {}
         for entry in self.found.entries:
             number, _, kind, rest = entry
-            if kind == b"ref" and rest[0] == name:
-                prior = next((it for it in reversed(own) if not self.is_skipped(it, number)), None)
-                found.append((entry, prior[3][1] if prior else ZEROS, attested))
-                own.append(entry)
-            if kind == b"ref" and rest[0] == ATTESTATIONS:
+            if kind != b"ref":
+                continue
+            own = found.setdefault(rest[0], [])
+            prior = next((it for it, *_ in reversed(own) if not self.is_skipped(it, number)), None)
+            own.append((entry, prior[3][1] if prior else ZEROS, attested))
+            if rest[0] == ATTESTATIONS:
                 attested = rest[1]
         return found
 
-    def approvals_of(self, name, changes):
+    def approvals_of(self, changes):
         """The persons who approved each of these changes, by the numbers of their entries."""
-        trees = self.looked_up([(it[0], b"%s^{tree}" % it[3][1]) for it, _, _ in changes if it[3][1] != ZEROS])
-        rows = [(it[0], source, trees.get(it[0], ZEROS), attested) for it, source, attested in changes if attested]
-        paths = [(number, b"%s:reference-authorizations/%s/%s-%s" % (attested, name, source, tree)) for number, source, tree, attested in rows]
-        blobs = self.looked_up(paths)
+        rows = [it for it in changes if it[2]]
+        trees = self.looked_up([(it[0], b"%s^{tree}" % it[3][1]) for it, *_ in rows if it[3][1] != ZEROS])
+        trees.update({it[0]: ZEROS for it, *_ in rows if it[3][1] == ZEROS})
+        rows = [(it, source, trees[it[0]], attested) for it, source, attested in rows if it[0] in trees]
+        where = b"%s:reference-authorizations/%s/%s-%s"
+        blobs = self.looked_up([(it[0], where % (attested, it[3][0], source, tree)) for it, source, tree, attested in rows])
         texts = {it: body for it, kind, body in self.work.repository.bodies(set(blobs.values())) if kind == b"blob" and body}
-        return {it[0]: self.persons_in(name, it, texts[blobs[it[0]]]) for it in rows if blobs.get(it[0]) in texts}
+        return {it[0][0]: self.persons_in(it, texts[blobs[it[0][0]]]) for it in rows if blobs.get(it[0][0]) in texts}
+
+    @functools.cached_property
+    def approvals(self):
+        """The same of all changes."""
+        return self.approvals_of([it for them in self.changes.values() for it in them])
 
     def looked_up(self, rows):
         """The ids of what Git has by these words, each with the number of an entry."""
+        if not rows:
+            return {}
         given = b"".join(b"%s\n" % it for _, it in rows)
         lines = self.work.repository.asked("look objects up", "cat-file", "--batch-check=%(objectname)", input=given).splitlines()
         return {number: it for (number, _), it in zip(rows, lines) if b" " not in it}
 
-    def persons_in(self, name, row, text):
+    def persons_in(self, row, text):
         """The persons who signed an approval of the change of an entry."""
-        number, source, tree, _ = row
-        people = self.found.people_at(number)
-        signed = signers.of_approval(text, name, source, tree, people.publics)
+        entry, source, tree, _ = row
+        people = self.found.people_at(entry[0])
+        signed = signers.of_approval(text, entry[3][0], source, tree, people.publics)
         return [people.persons[it] for it in signed if it in people.persons]
 
     def of(self, name, line):
         """The objects of all entries of a reference, and at the one of a violation the rule and who is missing."""
-        changes, fault = self.changes_of(name), looking.FAULT.fullmatch(line)
-        approved = self.approvals_of(name, changes)
+        changes, fault = self.changes.get(name, []), looking.FAULT.fullmatch(line)
+        approved = self.approvals_of(changes)
         told = []
         for entry, _, _ in changes:
             it = {**self.found.of(entry), "approved": approved.get(entry[0], [])}
-            it["skipped"] = next(iter(self.skips.get(entry[1], ())), None)
+            it["skipped"] = self.skipped_by(entry)
             if fault and int(fault[2]) == entry[0]:
                 it.update(self.missing_at(entry[0], fault, it))
             told.append(it)
@@ -84,7 +101,8 @@ class Accounts:
             return {"fault": " ".join(filter(None, fault.group(3, 4)))}
         persons, _ = looking.who_is_missing(policy, counts[2], [])
         missing = [it for it in persons if it not in [told["person"], *told["approved"]]]
-        return {"rule": counts[2], "path": counts[1], "wanted": int(counts[4]), "persons": persons, "missing": missing}
+        rule, path = (it and looking.unescaped(it) for it in counts.group(2, 1))
+        return {"rule": rule, "path": path, "wanted": int(counts[4]), "persons": persons, "missing": missing}
 
 
 def names(them):

@@ -3,7 +3,6 @@
 What is kept says who is named, and no more: whether a signature suffices is the program's to say, which reads nothing of it.
 """
 
-import concurrent.futures
 import hashlib
 import os
 
@@ -32,6 +31,9 @@ def looked_at(asked):
     """The same, by all processors where there are many."""
     if len(asked) < MANY:
         return are_good(asked)
+    # Few calls want it, and it takes long to load.
+    import concurrent.futures
+
     pieces = [asked[at : at + PIECE] for at in range(0, len(asked), PIECE)]
     with concurrent.futures.ProcessPoolExecutor(len(os.sched_getaffinity(0))) as pool:
         return [it for piece in pool.map(are_good, pieces) for it in piece]

@@ -1,8 +1,8 @@
-"""The words of git gittuf but those of its policy and of its doctor."""
+"""The words of git gittuf that begin and that sign, but those of its policy."""
 
 import os
 
-from git_gittuf import consents, copying, following, history, keys, leaves, looking, names, policies, remotes, sentences, settings
+from git_gittuf import consents, copying, following, history, keys, leaves, looking, names, remotes, sentences, settings
 from git_gittuf.program import Ended
 from git_gittuf.remotes import is_before
 from git_gittuf.repository import ATTESTATIONS, LOG, ZEROS, Stopped
@@ -190,40 +190,6 @@ def annotate(work, words):
 def export(work, _):
     work.bring()
     return work.run("export", output=None)[0]
-
-
-def name_for(work, word):
-    """The name in one of a policy's two spaces that a word means: a branch or tag before a path."""
-    if word.startswith(("git:", "file:")):
-        return word
-    name = names.own_name(work.repository, word)
-    if name in work.repository.references() or word.startswith("refs/"):
-        return "git:" + os.fsdecode(name)
-    top, folder = work.repository.top, os.path.realpath(os.path.dirname(os.path.abspath(word)))
-    if top and keys.is_inside(folder, top):
-        word = os.path.relpath(os.path.join(folder, os.path.basename(word)), top)
-    return f"file:{word}"
-
-
-def explain(work, words):
-    work.bring()
-    name = name_for(work, words.name)
-    printed = work.asked("explain", name)
-    show(printed)
-    first = printed.split(b" ")[0].strip()
-    if first == b"rule":
-        say(f"A change of {plain(name)} needs the signatures that one of these rules wants.")
-    elif first == b"unprotected":
-        say(f"No rule protects {plain(name)}: anybody may change it{of_its_paths(work, name)}.")
-    else:
-        say("No policy is in force: git gittuf policy init begins one.")
-
-
-def of_its_paths(work, name):
-    """What is said of a branch or tag that no rule protects, where rules protect paths that it may have."""
-    rules = consents.asked_by_paths(policies.in_force(work)) if name.startswith("git:") else []
-    named = ", ".join(plain(it["name"]) for it in rules)
-    return f", but for the paths of {named}, of which its first record counts each that it has as changed" if named else ""
 
 
 def failed(ended):

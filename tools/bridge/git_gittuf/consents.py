@@ -56,7 +56,7 @@ def expect_counts(work, name, value, key, counts):
     """Refuses an approval by somebody whom no rule asks, or who gave it already."""
     policy = policies.in_force(work)
     persons, _ = looking.who_is_missing(policy, counts[2], [])
-    rule = f"rule {plain(counts[2])} wants {counts[4]} of {looking.listing(persons)}"
+    rule = f"rule {plain(looking.unescaped(counts[2]))} wants {counts[4]} of {looking.listing(persons)}"
     expect_asked(work, name, key, f"{rule}, and the rules for {plain(short(name))}")
     given = looking.approvers(work, policy, name, value)
     if key in given:

@@ -1,5 +1,6 @@
 """What is missing or odd in a repository, each with the line that mends it."""
 
+import json
 import os
 import stat
 
@@ -142,7 +143,7 @@ def doctor(work, words):
     found = [*of_key(work.repository), *of_remotes(work, not status), *of_names(work.repository)]
     found += of_log(work, status, printed)
     for what, mends in found:
-        print(plain(f"{what}: {mends}"))
-    if not found:
+        print(json.dumps({"mends": mends, "what": what}) if words.json else plain(f"{what}: {mends}"))
+    if not found and not words.json:
         print("all is well")
     return 1 if found else 0

@@ -65,8 +65,14 @@ def last_counted(work, name):
     return targets[-1] if targets else None
 
 
-def rule_of(policy, name):
-    """A rule of the policy by its name, from whichever of its files."""
+def unescaped(word):
+    """A name as a policy has it, of which the program escapes what is no sign of a word."""
+    return os.fsdecode(urllib.parse.unquote_to_bytes(os.fsencode(word)))
+
+
+def rule_of(policy, word):
+    """The rule of the policy that the program names so, from whichever of its files."""
+    name = unescaped(word)
     files = [policy.files["targets"].says] if "targets" in policy.files else []
     files += [it.says for it in policy.delegated().values()]
     return next((it for says in files for it in says["rules"] if it["name"] == name), None)
@@ -94,8 +100,8 @@ def reason(work, name, value, line, key):
         return f"it would be a violation: {plain(sentences.of_line(line))}"
     policy = policies.in_force(work)
     wanted, missing = who_is_missing(policy, counts[2], [*approvers(work, policy, name, value), key])
-    what = f"a change of {plain(counts[1])}" if fault == "path-rule" else "it"
-    said = f"it would be a violation: rule {plain(counts[2])} wants {counts[4]} of {listing(wanted)} for {what}"
+    what = f"a change of {plain(unescaped(counts[1]))}" if fault == "path-rule" else "it"
+    said = f"it would be a violation: rule {plain(unescaped(counts[2]))} wants {counts[4]} of {listing(wanted)} for {what}"
     if key not in policy.publics():
         return f"{said}, and your key is that of none of the policy's persons"
     return f"{said}; missing is {' or '.join(map(plain, missing)) or 'one more'}, who approves it by {approval_of(name, value)}"
@@ -109,8 +115,9 @@ def approval_of(name, value):
 
 def rules_for(work, what):
     """The rules that a branch or a path reaches, as the program names them."""
-    named = {it.split(b" ")[1] for it in work.asked("explain", what).splitlines() if it.startswith(b"rule ")}
-    return [it for _, it in policies.in_force(work).rules() if os.fsencode(it["name"]) in named]
+    lines = os.fsdecode(work.asked("explain", what)).splitlines()
+    named = {unescaped(it.split(" ")[1]) for it in lines if it.startswith("rule ")}
+    return [it for _, it in policies.in_force(work).rules() if it["name"] in named]
 
 
 def keys_in(policy, rules):
@@ -137,7 +144,7 @@ def is_sure(line, number, listed, work, name, key):
     counts = COUNTS.fullmatch(found[4] or "")
     if found[3] not in ("ref-rule", "path-rule") or not counts:
         return True
-    what = "file:" + os.fsdecode(urllib.parse.unquote_to_bytes(counts[1])) if found[3] == "path-rule" else f"git:{os.fsdecode(name)}"
+    what = f"file:{unescaped(counts[1])}" if found[3] == "path-rule" else f"git:{os.fsdecode(name)}"
     return int(counts[4]) - int(counts[3]) > 1 or key not in keys_for(work, what)
 
 

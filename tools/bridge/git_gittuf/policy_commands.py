@@ -1,10 +1,11 @@
 """The words of `git gittuf policy` that show what is edited, sign it, and bring it into force."""
 
+import json
 import os
 import sys
 import termios
 
-from git_gittuf import commands, keys, leaves, policies, policy_faults, policy_lines, program
+from git_gittuf import commands, keys, leaves, policies, policy_faults, policy_lines, policy_objects, program
 from git_gittuf.program import Ended
 from git_gittuf.repository import POLICY, STAGED, Stopped
 from git_gittuf.shown import plain
@@ -143,15 +144,35 @@ def apply(work, words):
     print(work.change(steps).decode(), end="")
 
 
-def show(work, _):
+def waiting(draft, force):
+    """The files that are to be signed, by their names."""
+    return {name: file for name, file in draft.all_files().items() if waits(draft, force, name)}
+
+
+def object_of(force, draft):
+    """What show prints, as an object."""
+    files = waiting(draft, force)
+    return {
+        "in_force": policy_objects.of_policy(force),
+        "edited": policy_objects.of_policy(draft) if draft is not force else None,
+        "changes": policy_lines.of_change(force, draft),
+        "waiting": [policy_objects.of_signers(draft, *it) for it in files.items()],
+        "id": policies.id_of(force, draft) if files else None,
+    }
+
+
+def show(work, words):
     """Prints the policy in force, what is edited beside it, and who signed that."""
     work.bring()
     draft, force = draft_and_force(work)
+    if words.json:
+        print(json.dumps(object_of(force, draft), sort_keys=True))
+        return
     for line in policy_lines.of_policy(force):
         print(plain(line))
     print_changes(force, draft)
     print_signers(draft, force)
-    if any(waits(draft, force, it) for it in draft.all_files()):
+    if waiting(draft, force):
         print(f"id {policies.id_of(force, draft)}")
 
 
@@ -162,9 +183,7 @@ def print_changes(force, draft):
 
 def print_signers(draft, force):
     """Prints of each file that is to be signed who did."""
-    for name, file in draft.all_files().items():
-        if not waits(draft, force, name):
-            continue
+    for name, file in waiting(draft, force).items():
         role = draft.role(name)
         signed, _ = policy_faults.who_signed(file, role, draft)
         print(plain(f"{name} is signed by {len(signed)} of {role['threshold']}{': ' if signed else ''}{policy_lines.words(signed)}"))

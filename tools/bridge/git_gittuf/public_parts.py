@@ -1,6 +1,5 @@
 """The public part of a key, made again from its key file by RFC 8554: no leaf signs for that, and nobody else is asked."""
 
-import concurrent.futures
 import hashlib
 import os
 import struct
@@ -36,6 +35,9 @@ def part_of_leaves(words, first, count):
 
 def root_of(identifier, seed, height, width):
     """The root of a key's tree."""
+    # Few calls want it, and it takes long to load.
+    import concurrent.futures
+
     parts = range(0, 2**height, PART)
     values, progress = [], program.Progress()
     words = (identifier, seed, height, width)

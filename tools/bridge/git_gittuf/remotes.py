@@ -114,4 +114,5 @@ def standing(repository, references):
 
 def move(repository, moves):
     lines = b"".join(b"update %s\0%s\0%s\0" % (name, value, own) for name, (own, value) in moves.items())
+    repository.listed = None
     repository.asked("move the references below refs/gittuf/", "update-ref", "--stdin", "-z", input=lines)

@@ -6,7 +6,7 @@ import subprocess
 import types
 
 from git_gittuf import accounts, listing, names, policies, policy_lines, program, sentences, trust, verifying
-from git_gittuf.repository import LOG, Stopped
+from git_gittuf.repository import LOG, ZEROS, Stopped
 from git_gittuf.shown import plain
 
 STYLE = """
@@ -15,13 +15,15 @@ body{font:16px/1.5 system-ui,sans-serif;margin:0 auto;max-width:70rem;padding:1r
 h1{font-size:1.5rem;line-height:1.25}h2{font-size:1.15rem;margin-top:2rem}code{font:.85em ui-monospace,monospace;overflow-wrap:anywhere}
 table{border-collapse:collapse;width:100%;table-layout:fixed}th,td{text-align:left;padding:.25rem .5rem;border-bottom:1px solid #ddd;vertical-align:top}
 .verdicts th:nth-child(1){width:12rem}.verdicts th:nth-child(2){width:6.5rem}.verdicts th:nth-child(4){width:16rem}
-.log th:nth-child(1){width:4.5rem}.log th:nth-child(2){width:12rem}.log th:nth-child(3){width:11rem}.log th:nth-child(5){width:8.5rem}
+.log th:nth-child(1){width:4.5rem}.log th:nth-child(2){width:12rem}.log th:nth-child(3){width:9rem}.log th:nth-child(4){width:9rem}
+.log th:nth-child(6){width:8.5rem}
 .log td:nth-child(2){white-space:nowrap}.good{color:#0a6b2d}.bad{color:#a01010;font-weight:600}li{margin:.2rem 0}
 .line{display:flex;font-size:.8rem}.line span{min-width:0;overflow:hidden;padding:.2rem;print-color-adjust:exact;-webkit-print-color-adjust:exact}
 @media screen and (max-width:45rem){
 body{font-size:15px;padding:.6rem}table,tbody,tr,td{display:block}thead{display:none}tr{padding:.4rem 0;border-bottom:1px solid #bbb}
 td{border:0;padding:.05rem 0}td:empty{display:none}.log td:nth-child(1){font-weight:600}.log td:nth-child(1)::before{content:"Entry "}
-.log td:nth-child(3)::before{content:"signed by "}.log td:nth-child(5)::before{content:"id "}.verdicts td:nth-child(1){font-weight:600}}
+.log td:nth-child(3)::before{content:"signed by "}.log td:nth-child(4)::before{content:"approved by "}
+.log td:nth-child(6)::before{content:"id "}.verdicts td:nth-child(1){font-weight:600}}
 @media print{@page{margin:14mm}html{font-size:10px}body{font-size:1rem;line-height:1.35;max-width:none;padding:0}
 th,td{padding:.1rem .4rem}tr{break-inside:avoid}h2{break-after:avoid}.log th:nth-child(2){width:13rem}}
 """
@@ -68,13 +70,17 @@ def verdicts(work, root, account):
     return rows, worst
 
 
-def row_of(told, people):
+def row_of(entry, account):
+    """An entry with who signed and approved it, and what it says."""
+    told, people = account.found.of(entry), account.found.people_at(entry[0])
     if told["kind"] == "ref":
-        what = f"{text(told['ref'])} stands at <code>{told['target'][:12]}</code>"
+        stands = "is gone" if told["target"] == ZEROS.decode() else f"stands at <code>{told['target'][:12]}</code>"
+        by = account.skipped_by(entry)
+        what = f"{text(told['ref'])} {stands}{f', and entry {by} says skip' if by else ''}"
     else:
         what = f"{told['kind']} of {', '.join(text(it) for it in told['entries'])}{': ' + text(told['message']) if told['message'] else ''}"
-    who = text(people.shown(told["key"]))
-    return [told["number"], text(told["time"] or ""), who, what, f"<code>{told['id'][:12]}</code>"]
+    approved = ", ".join(map(text, account.approvals.get(entry[0], [])))
+    return [told["number"], text(told["time"] or ""), text(people.shown(told["key"])), approved, what, f"<code>{told['id'][:12]}</code>"]
 
 
 def about_tool():
@@ -84,8 +90,9 @@ def about_tool():
 
 def page(work, root, source):
     found = listing.Listing(work, work.asked("log"))
-    rows, worst = verdicts(work, root, accounts.Accounts(work, found))
-    entries = [row_of(found.of(it), found.people_at(it[0])) for it in found.entries]
+    account = accounts.Accounts(work, found)
+    rows, worst = verdicts(work, root, account)
+    entries = [row_of(it, account) for it in found.entries]
     named = text(os.path.basename(work.repository.top or work.repository.git_dir))
     seen = "the first policy that was seen here, which nobody vouched for"
     rests = {trust.GIVEN: "the ids that were given", "gittuf.root": "the setting gittuf.root"}.get(source, seen)
@@ -99,11 +106,11 @@ def page(work, root, source):
         "<h2>The policy that is in force now</h2>",
         "<ul>" + "".join(f"<li>{text(it)}</li>" for it in policy_lines.of_policy(policies.in_force(work)) or ["None."]) + "</ul>",
         "<h2>The log</h2>",
-        table("log", ("Entry", "Time", "Signed by", "What", "Id"), entries),
+        table("log", ("Entry", "Time", "Signed by", "Approved by", "What", "Id"), entries),
         "<h2>What this rests on</h2>",
         f"<p>The verdicts are those of the program, which is proved to give them: {text(about_tool())}. This page, and git gittuf, are not"
-        " proved. Times are what who signed said. A name stands beside an entry where its signature is good by that person's key, and says"
-        " not that it sufficed; the verdict does. docs/CONCEPTS.md says what is trusted.</p>",
+        " proved. Times are what who signed said. A name stands beside an entry where a signature of it, or of an approval of its change, is good"
+        " by that person's key, and says not that it sufficed; the verdict does. docs/CONCEPTS.md says what is trusted.</p>",
     ]
     sealed = f'<meta http-equiv="Content-Security-Policy" content="{SEALED}">'
     width = '<meta name="viewport" content="width=device-width,initial-scale=1">'

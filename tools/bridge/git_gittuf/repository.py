@@ -58,6 +58,8 @@ class Repository:
         status, top, _ = asked_here("--show-toplevel")
         self.top = None if status else os.path.realpath(top)
         self.folder = os.path.join(self.common, "gittuf")
+        # Whether the references are looked at as they are at one time, and how they are.
+        self.at_one_time, self.listed = False, None
         self.expect_format()
         expect_no_part(self.top or self.git_dir, *self.where)
 
@@ -90,6 +92,11 @@ class Repository:
 
     def all_references(self):
         """The names below refs/ with the ids at which they stand."""
+        if self.listed is None or not self.at_one_time:
+            self.listed = self.list_references()
+        return dict(self.listed)
+
+    def list_references(self):
         with Git(*self.where, "for-each-ref", "--format=%(refname) %(objectname)") as ran:
             lines = ran.output.read().splitlines()
             status, said = ran.end()

@@ -4,7 +4,7 @@ import argparse
 import difflib
 import re
 
-from git_gittuf import commands, doctor, listing, policy_commands, policy_edits, pushing, recovering, reporting, verifying
+from git_gittuf import commands, doctor, explaining, listing, policy_commands, policy_edits, pushing, recovering, reporting, verifying
 from git_gittuf.repository import Stopped
 from git_gittuf.shown import plain
 
@@ -23,7 +23,7 @@ Begin
       [--bottom H]              these heights; --id and --public print a word of it
       [--id | --public]
   doctor [--take [REMOTE]]      say what is missing or odd, each with the line that mends it; --take gives up what was
-      [--anyway]                recorded here and not pushed, where another was faster, and goes to the last entry
+      [--anyway] [--json]       recorded here and not pushed, where another was faster, and goes to the last entry
                                 up to which the remote's log is whole, or without REMOTE the log here; entries of
                                 others it gives up only with --anyway
 
@@ -37,7 +37,7 @@ The policy, edited at refs/gittuf/policy-staging until it is applied
       [--[no-]terminating]      --remove takes it out. With --file NAME it stands in the file that goes on from the rule
       [--before RULE]           NAME, whose persons sign that file. The rules root and targets have no pattern: they say
       [--file NAME] [--remove]  who signs the policy, and its rules
-  policy show                   print the policy in force, what is edited, who signed that, and its id
+  policy show [--json]          print the policy in force, what is edited, who signed that, and its id
   policy sign [--id ID]         print what is edited and sign it: at a terminal it asks before, and elsewhere it wants
                                 the id of what policy show printed
   policy discard                give up what is edited
@@ -64,7 +64,7 @@ Every day
   log [-v | --json]             print the log, a line for each entry; -v and --json say who signed it, when, and what it says
   report [-o FILE]              write a page of HTML for an auditor: the verdicts, the log with who signed it, the policy,
       [--root ..] [--pinned]    and what this rests on
-  explain NAME                  print the rules that protect a branch or a path
+  explain NAME [-v] [--json]    print the rules that protect a branch or a path; -v and --json say whom they ask
   export                        print the stream of the store, without the content of files
 
 What verify and the commands that sign print, and their statuses, are those of the program: gittuf --help has them. On
@@ -124,6 +124,8 @@ def policy_words(parser):
         it = words.add_parser(name)
         it.set_defaults(work=getattr(policy_commands, name))
         it.set_defaults(reads=name == "show")
+        if name == "show":
+            it.add_argument("--json", action="store_true")
     it.add_argument("--anyway", action="store_true")
 
 
@@ -182,6 +184,7 @@ def words_of_begin(take):
     take["setup"].add_argument("--root", type=key_ids)
     key_words(take["key"])
     take["doctor"].add_argument("--take", metavar="REMOTE", nargs="?", const="")
+    take["doctor"].add_argument("--json", action="store_true")
     take["doctor"].set_defaults(work=doctor.doctor)
     policy_words(take["policy"])
 
@@ -212,10 +215,11 @@ def words_of_judging(take):
         take[name].add_argument("--root", type=key_ids)
         take[name].add_argument("--pinned", action="store_true")
     take["log"].set_defaults(work=listing.log)
-    for name in ("verify", "log"):
+    for name in ("verify", "log", "explain"):
         take[name].add_argument("-v", "--verbose", action="store_true")
         take[name].add_argument("--json", action="store_true")
     take["explain"].add_argument("name")
+    take["explain"].set_defaults(work=explaining.explain)
     for name in ("doctor", "verify", "log", "explain", "export", "report"):
         take[name].set_defaults(reads=True)
 

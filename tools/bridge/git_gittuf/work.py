@@ -28,6 +28,7 @@ class Work:
 
     def __init__(self, reads=False):
         self.repository = Repository()
+        self.repository.at_one_time = reads
         try:
             os.makedirs(self.repository.folder, exist_ok=True)
             self.lock = Lock(self.repository.folder, seconds_to_wait(self.repository))
@@ -53,13 +54,16 @@ class Work:
         held = self.lock.how
         if held != ALONE:
             self.lock.take()
+            # Others may have changed something until then.
             self.kept.changes += 1
+            self.repository.listed = None
         try:
             yield
         finally:
             if held != ALONE:
                 self.lock.take(held)
                 self.kept.changes += 1
+                self.repository.listed = None
 
     def follow(self, changed):
         """Lets the log, the policy and the approvals go on to where a remote has them. Returns whether they moved."""

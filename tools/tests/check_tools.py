@@ -1,0 +1,134 @@
+"""The checks of tools/test on the bridge to Git, and on what all tools have in common."""
+
+import os
+import shutil
+
+from checking import EMPTY_TREE, GIT_TO_STREAM, LAUNCHER, STREAM_TO_GIT, TOP, VERIFY, Failure, run, want, want_refusal, want_run
+
+
+def tells_the_tip(repositories):
+    """the program tells the true tip of a Git repository"""
+    repositories.needed()
+    tip = repositories.git("rev-parse", "refs/heads/main").decode().strip()
+    line = f"tip-differs refs/heads/main kept {tip} recorded {'0' * 64}\n"
+    want_run((LAUNCHER, *VERIFY), 1, line.encode(), input=repositories.stream_of())
+
+
+def goes_both_ways(repositories):
+    """a stream that became a Git repository comes back byte for byte"""
+    repositories.needed()
+    first = repositories.stream_of()
+    for kind in (b"blob", b"tree", b"commit", b"tag"):
+        if b" %s " % kind not in first:
+            raise Failure(f"the stream has no {kind.decode()}")
+    repositories.from_stream(first, "copy.git")
+    second = repositories.stream_of("copy.git")
+    want(second.count(EMPTY_TREE), 1, "the number of empty trees in the second stream")
+    want(second.replace(EMPTY_TREE, b""), first, "the second stream without the empty tree")
+    repositories.from_stream(second, "again.git")
+    want(repositories.stream_of("again.git"), second, "the third stream")
+
+
+def is_sound(repositories):
+    """git fsck --strict passes on a repository made from a stream, and git log reads it"""
+    repositories.needed()
+    repositories.from_stream(repositories.stream_of(), "sound.git")
+    repositories.git("fsck", "--strict", name="sound.git")
+    log = ("log", "--format=%H %T %P %s")
+    want(repositories.git(*log, name="sound.git"), repositories.git(*log), "the log of the copy")
+
+
+def refuses_other_repositories(repositories):
+    """git-to-stream refuses what is no SHA-256 repository"""
+    repositories.needed()
+    run("git", "init", "--quiet", repositories.path("sha1"))
+    want_refusal((GIT_TO_STREAM, repositories.path("sha1")), b"git fast-export --all | git fast-import")
+    os.mkdir(repositories.path("plain"))
+    os.environ["GIT_CEILING_DIRECTORIES"] = repositories.folder
+    try:
+        want_refusal((GIT_TO_STREAM, repositories.path("plain")), b"not a repository")
+    finally:
+        del os.environ["GIT_CEILING_DIRECTORIES"]
+    want_refusal((GIT_TO_STREAM, repositories.path("nowhere")), b"no such folder")
+
+
+def refuses_clones(repositories):
+    """git-to-stream refuses a shallow clone, a partial one, and a repository that lacks an object"""
+    source = f"file://{repositories.needed()}"
+    repositories.git("config", "uploadpack.allowFilter", "true")
+    for name, words, part in (
+        ("shallow.git", ("--depth=1",), b"a shallow clone"),
+        ("partial.git", ("--filter=blob:none",), b"a partial clone"),
+    ):
+        repositories.git("clone", "--quiet", "--bare", *words, source, name, name="")
+        want_refusal((GIT_TO_STREAM, repositories.path(name)), part)
+    blob = repositories.git("rev-parse", "refs/heads/main:README").decode().strip()
+    shutil.copytree(repositories.needed(), repositories.path("lacking"), symlinks=True)
+    os.remove(os.path.join(repositories.path("lacking"), ".git", "objects", blob[:2], blob[2:]))
+    status, output, errors = run(GIT_TO_STREAM, repositories.path("lacking"))
+    want((status, output, b"lacks an object" in errors), (1, b"", True), "the status, the output and what is said")
+
+
+def comes_from_sha1(repositories):
+    """a repository in SHA-1 comes over by git fast-export, as git-to-stream --help says"""
+    repositories.needed()
+    repositories.git("init", "--quiet", "-b", "main", "--object-format=sha256", "from-sha1", name="")
+    repositories.git("init", "--quiet", "-b", "main", "old", name="")
+    repositories.git("commit", "--quiet", "--allow-empty", "--message", "of old", name="old")
+    text = repositories.git("fast-export", "--all", "--signed-tags=strip", name="old")
+    repositories.git("fast-import", "--quiet", name="from-sha1", input=text)
+    want(repositories.stream_of("from-sha1").count(b" commit "), 1, "the number of commits that came over")
+
+
+def tools_tell_their_use(repositories):
+    """every tool answers --help on standard output with its usage"""
+    for folder, _, names in sorted(os.walk(os.path.join(TOP, "tools"))):
+        for name in sorted(names):
+            tool = os.path.join(folder, name)
+            if os.access(tool, os.X_OK):
+                status, output, errors = run(tool, "--help")
+                want((status, output[:7], errors), (0, b"usage: ", b""), f"what {name} --help answers")
+
+
+def refuses_damage(repositories):
+    """git-to-stream ends without its last line where an object is damaged"""
+    repositories.needed()
+    shutil.copytree(repositories.needed(), repositories.path("damaged"), symlinks=True)
+    tip = repositories.git("rev-parse", "refs/heads/main").decode().strip()
+    file = os.path.join(repositories.path("damaged"), ".git", "objects", tip[:2], tip[2:])
+    os.remove(file)
+    open(file, "wb").close()
+    status, output, errors = run(GIT_TO_STREAM, repositories.path("damaged"))
+    want((status, output.endswith(b"end\n")), (1, False), "the status, and whether the last line is there")
+    want(errors.count(b"\n"), 1, "the number of lines on standard error")
+
+
+def leaves_nothing(repositories):
+    """stream-to-git leaves nothing where the stream is refused"""
+    repositories.needed()
+    stream, place = repositories.stream_of(), repositories.path("refused.git")
+    before = sorted(os.listdir(repositories.folder))
+    refusals = {
+        b"cut after": [b"", stream[:-1], stream[: len(stream) // 2]],
+        b"follows the line end": [stream + b"\n"],
+        b"whose id is": [stream.replace(b"A project.", b"a project.")],
+        b"refs/heads/main": [b"gittuf-stream 1\nref refs/heads/main %s\nend\n" % (b"1" * 64)],
+    }
+    for part, streams in refusals.items():
+        for it in streams:
+            want_refusal((STREAM_TO_GIT, place), part, input=it)
+    want(sorted(os.listdir(repositories.folder)), before, "the folder afterwards")
+    want_refusal((STREAM_TO_GIT, repositories.needed()), b"not empty", input=stream)
+
+
+CHECKS = (
+    tells_the_tip,
+    goes_both_ways,
+    is_sound,
+    refuses_other_repositories,
+    refuses_clones,
+    comes_from_sha1,
+    refuses_damage,
+    leaves_nothing,
+    tools_tell_their_use,
+)

@@ -1,0 +1,130 @@
+"""Random days of four persons over one server: two whom the rule of main asks, one whom none asks, and one who attacks.
+
+Whatever they do, each verdict of a clone is the program's on the whole stream of that clone, and no word ends but by a
+status that the pages tell.
+"""
+
+import random
+
+from checking import GIT_TO_STREAM, LAUNCHER, Failure, run, want
+from guarded_clones import MAIN, another
+
+LOG = "refs/gittuf/reference-state-log"
+PERSONS = ("alice", "bob", "carol", "mallory")
+STATUSES = range(7)
+# So many steps lie between two looks at a clone.
+BETWEEN = 4
+
+
+class Days:
+    """The clones of the four, and what is drawn for them from a seed."""
+
+    def __init__(self, repositories, seed):
+        self.clones, self.drawn = another(repositories, f"days {seed}"), random.Random(seed)
+        root = self.clones.gittuf("alice", "key", "--id").decode().strip()
+        for who in PERSONS[2:]:
+            self.clones.clone(who)
+            self.clones.git("config", "gittuf.firstRoot", root, who=who)
+        self.did, self.verdicts = [], 0
+
+    def git(self, who, *words):
+        """Does something that Git may refuse."""
+        run("git", "-C", self.clones.path(who), *words)
+
+    def gittuf(self, who, *words):
+        """Calls a word of git gittuf, which may be refused, by a status and in sentences."""
+        status, output, errors = run("git", "-C", self.clones.path(who), "gittuf", *words)
+        if status not in STATUSES or b"Traceback" in errors:
+            raise Failure(f"after {self.did} git gittuf {' '.join(words)} of {who} ended with {status}: {errors.decode()[-400:]}")
+        return output.decode()
+
+    def changes(self, who):
+        name = self.drawn.choice(("README", "docs/page", f"of-{who}"))
+        self.clones.repositories.seconds += 60
+        self.clones.write(who, name, f"{who} {self.clones.repositories.seconds}\n")
+        self.git(who, "commit", "--quiet", "--message", f"change {name}")
+
+    def takes(self, who):
+        self.git(who, "fetch", "--quiet")
+        self.git(who, "merge", "--quiet", "--ff-only", "origin/main")
+
+    def works(self, who):
+        self.takes(who)
+        self.changes(who)
+        self.gittuf(who, "record", "main")
+        self.gittuf(who, "push")
+
+    def records_late(self, who):
+        self.changes(who)
+        self.gittuf(who, "record", "main")
+
+    def begins_a_branch(self, who):
+        self.git(who, "branch", "--force", "topic", "HEAD")
+        self.gittuf(who, "record", "topic")
+        self.gittuf(who, "push", "topic")
+
+    def tags(self, who):
+        self.git(who, "tag", "--force", "v1")
+        self.gittuf(who, "record", "v1")
+
+    def goes_back(self, who):
+        self.git(who, "reset", "--quiet", "--hard", "HEAD~1")
+
+    def annotates(self, who):
+        word = self.drawn.choice(("note", "skip"))
+        self.gittuf(who, word, str(self.drawn.randint(1, 9)), "-m", f"by {who}")
+
+    def recovers(self, who):
+        told = self.gittuf(who, "recover", "main")
+        if "entry" in told:
+            self.git(who, "revert", "--no-edit", "HEAD")
+            self.gittuf(who, "recover", "main")
+
+    def approves(self, who):
+        self.gittuf(who, "approve", "main", *(("--anyway",) if self.drawn.random() < 0.3 else ()))
+
+    def syncs(self, who):
+        self.gittuf(who, "sync")
+
+    def attacks(self, _):
+        """What somebody does who may write to the server, and whom no rule asks."""
+        way = self.drawn.randrange(4)
+        self.changes("mallory")
+        if way == 0:
+            self.gittuf("mallory", "record", "main", "--anyway")
+            self.gittuf("mallory", "push", "--anyway")
+        elif way == 1:
+            self.git("mallory", "push", "--quiet", "--force", "origin", "main")
+        elif way == 2:
+            self.gittuf("mallory", "skip", str(self.drawn.randint(1, 9)), "--anyway")
+            self.gittuf("mallory", "push", "--anyway")
+        else:
+            self.git("mallory", "push", "--quiet", "origin", f"HEAD:{LOG}")
+
+    WAYS = (works, works, works, takes, records_late, begins_a_branch, tags, goes_back, annotates, recovers, approves, syncs, attacks)
+
+    def step(self):
+        who, way = self.drawn.choice(PERSONS), self.drawn.choice(self.WAYS)
+        self.did.append(f"{who} {way.__name__}")
+        way(self, who)
+
+    def look(self, who):
+        """Holds each verdict of a clone on what is there to the program's on its whole stream."""
+        names = self.clones.git("for-each-ref", "--format=%(refname)", "refs/heads", "refs/tags", who=who).decode().split()
+        stream = run(GIT_TO_STREAM, self.clones.path(who))[1]
+        for name in names:
+            found = self.gittuf(who, "verify", name)
+            whole = run(LAUNCHER, "-", "-", "verify-ref", name, "--stdin", input=stream)[1].decode()
+            want(found, whole, f"the verdict of {who} on {name} after {self.did}")
+            self.verdicts += 1
+
+    def pass_by(self, steps):
+        for it in range(1, steps + 1):
+            self.step()
+            if it % BETWEEN == 0:
+                self.look(self.drawn.choice(PERSONS))
+        for who in PERSONS:
+            self.look(who)
+        self.clones.sound(*PERSONS)
+        entries = len(self.clones.git("rev-list", LOG, who="alice").split())
+        return f"{steps} steps, {entries} entries, {self.verdicts} verdicts on {MAIN} and others"
