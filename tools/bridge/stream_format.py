@@ -8,6 +8,7 @@
 An id is the SHA-256, in lower-case hexadecimal, of the kind, a space, the size in decimal, a zero byte and the body.
 """
 
+import functools
 import hashlib
 import os
 import re
@@ -27,28 +28,26 @@ MAX_COMPONENTS = 16
 PIECE = 1 << 20
 
 ID = rb"[0-9a-f]{64}"
-NOT_IN_NAMES = re.compile(rb"\.\.|@\{|[\x00-\x20\x7f~^:?*\[\\]")
+# What a name may not hold; the second line says what no part of it may be, begin with or end with.
+NOT_IN_NAMES = re.compile(
+    rb"\.\.|@\{|[\x00-\x20\x7f~^:?*\[\\]"
+    rb"|//|/\.|\.lock(?:/|\Z)|[./]\Z"
+)
 
 
 class Refused(Exception):
     """Why the work ended early, in one line for the person who called."""
 
 
+@functools.lru_cache(maxsize=1 << 16)
 def is_reference_name(name):
     """Whether a stream takes these bytes as the name of a reference."""
     try:
         name.decode("utf-8")
     except UnicodeDecodeError:
         return False
-    components = name.split(b"/")
-    return (
-        name.startswith(b"refs/")
-        and len(name) <= MAX_NAME
-        and len(components) <= MAX_COMPONENTS
-        and all(it and not it.startswith(b".") and not it.endswith(b".lock") for it in components)
-        and not NOT_IN_NAMES.search(name)
-        and not name.endswith(b".")
-    )
+    is_short = len(name) <= MAX_NAME and name.count(b"/") < MAX_COMPONENTS
+    return is_short and name.startswith(b"refs/") and not NOT_IN_NAMES.search(name)
 
 
 def hash_of(kind, size):

@@ -99,9 +99,15 @@ class Days:
             self.gittuf("mallory", "skip", str(self.drawn.randint(1, 9)), "--anyway")
             self.gittuf("mallory", "push", "--anyway")
         else:
-            self.git("mallory", "push", "--quiet", "origin", f"HEAD:{LOG}")
+            odd = run("git", "-C", self.clones.path("mallory"), "commit-tree", "-p", LOG, "-m", "odd", "HEAD^{tree}")[1].decode().strip()
+            self.git("mallory", "push", "--quiet", "origin", f"{odd}:{LOG}")
 
-    WAYS = (works, works, works, takes, records_late, begins_a_branch, tags, goes_back, annotates, recovers, approves, syncs, attacks)
+    def mends(self, who):
+        """Sets the log of the server to one's own, which so may lose what others recorded."""
+        self.git(who, "push", "--quiet", "--force", "origin", f"{LOG}:{LOG}")
+
+    WAYS = (works, works, works, takes, records_late, begins_a_branch, tags, goes_back, annotates, recovers, approves, syncs, mends)
+    WAYS += (attacks, attacks)
 
     def step(self):
         who, way = self.drawn.choice(PERSONS), self.drawn.choice(self.WAYS)
@@ -110,6 +116,8 @@ class Days:
 
     def look(self, who):
         """Holds each verdict of a clone on what is there to the program's on its whole stream."""
+        # What was fetched is followed first.
+        self.gittuf(who, "log")
         names = self.clones.git("for-each-ref", "--format=%(refname)", "refs/heads", "refs/tags", who=who).decode().split()
         stream = run(GIT_TO_STREAM, self.clones.path(who))[1]
         for name in names:
