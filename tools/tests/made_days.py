@@ -109,8 +109,7 @@ class Days:
     WAYS = (works, works, works, takes, records_late, begins_a_branch, tags, goes_back, annotates, recovers, approves, syncs, mends)
     WAYS += (attacks, attacks)
 
-    def step(self):
-        who, way = self.drawn.choice(PERSONS), self.drawn.choice(self.WAYS)
+    def step(self, who, way):
         self.did.append(f"{who} {way.__name__}")
         way(self, who)
 
@@ -127,8 +126,10 @@ class Days:
             self.verdicts += 1
 
     def pass_by(self, steps):
+        for who in PERSONS[:2]:
+            self.step(who, Days.works)
         for it in range(1, steps + 1):
-            self.step()
+            self.step(self.drawn.choice(PERSONS), self.drawn.choice(self.WAYS))
             if it % BETWEEN == 0:
                 self.look(self.drawn.choice(PERSONS))
         for who in PERSONS:
