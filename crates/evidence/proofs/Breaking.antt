@@ -1,6 +1,6 @@
 -- A text breaks at one place, and a dossier's text nowhere.
-use Rattle.std.proofs.Common.{◌≡◌, ◌⊎◌, ◌+◌, ◌++◌, ℕ, List, [], length, refl, sym, ap, subst, ◌∙◌, inl, inr}
-use Rattle.evidence.specs.Breaks.{BreaksBehind, BreaksIn, BreaksKey, BreaksLast, BreaksLeft, BreaksRight, IsBreak, IsEndLine, IsHeader, IsKeyLine, IsSide, OneDossier, OverRuns}
+use Rattle.std.proofs.Common.{◌≡◌, ◌+◌, ◌++◌, ℕ, List, [], length, refl, sym, ap, subst, ◌∙◌, inl, inr}
+use Rattle.evidence.specs.Breaks.{BreaksIn, BreaksKey, BreaksLast, BreaksLeft, BreaksRight, IsBreak, IsEndLine, IsHeader, IsKeyLine, IsSide, OneDossier, OverRuns}
 use Rattle.evidence.specs.Dossiers.{IsDossierText, IsSpelled, end_line, header, key_line, left_word, right_word, side_text}
 use Rattle.evidence.specs.Parts.{HasParts}
 use Rattle.evidence.specs.declared.dossiers.Dossier.{Dossier}

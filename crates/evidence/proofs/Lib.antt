@@ -2,3 +2,9 @@ pub mod Bytes
 pub mod KeyLines
 pub mod Sides
 pub mod Breaking
+pub mod KeyLengths
+pub mod SignatureParts
+pub mod Using
+pub mod Clean
+pub mod Walking
+pub mod Found
