@@ -1,0 +1,4 @@
+pub mod Order
+pub mod Turns
+pub mod Endings
+pub mod Reaching
