@@ -1,0 +1,3 @@
+pub mod Tips
+pub mod Taking
+pub mod StepLaws
