@@ -49,9 +49,11 @@ module _ (most : ℕ) (parents : Parents) (root from : List ℕ) where
     pub finds : (id : List ℕ) (found : List (List ℕ)) → slice_get ids at ≡ Some id → parents id ≡ Some found → id ≡ from → count < most → IsDescent most parents root from Yes
     finds id found here some same less =
         let order = order_at parents root from at ids count walk id found here some in
-        let within = found_within most (commits parents walk.front) order.0 id (let e = walk.count_is in omega (arith, e, less)) in
-        (at, ap (λ (xs : List (List ℕ)). has_id (take most xs) from) order.1
-        ∙ subst (λ (x : List ℕ). has_id (take most (commits parents walk.front ++ id ∷ order.0)) x ≡ true) same within)
+        let within = found_within most (commits parents walk.front) order.0 id (let e = walk.count_is in omega (arith, e, less)) in (
+          at,
+          ap (λ (xs : List (List ℕ)). has_id (take most xs) from) order.1
+              ∙ subst (λ (x : List ℕ). has_id (take most (commits parents walk.front ++ id ∷ order.0)) x ≡ true) same within,
+        )
 
     -- one commit more has its turn than is looked at
     pub is_too_far : (id : List ℕ) (found : List (List ℕ)) → slice_get ids at ≡ Some id → parents id ≡ Some found → count ≡ most → IsDescent most parents root from TooFar
@@ -69,9 +71,9 @@ module _ (most : ℕ) (parents : Parents) (root from : List ℕ) where
             let front = ancestors_front parents root at n in
             let swap : at + n ≡ n + at = omega arith in
             let whole : ancestors parents root (at + n) ≡ commits parents walk.front ++ (id ∷ rest ++ front.0) =
-                ap (ancestors parents root) swap ∙ front.1 ∙ ap (λ (xs : List (List ℕ)). xs ++ front.0) order ∙ joined rest front.0 in
+            ap (ancestors parents root) swap ∙ front.1 ∙ ap (λ (xs : List (List ℕ)). xs ++ front.0) order ∙ joined rest front.0 in
             let cut : take most (ancestors parents root (at + n)) ≡ commits parents walk.front =
-                ap (take most) whole ∙ take_at (commits parents walk.front) (id ∷ rest ++ front.0) most all in
+            ap (take most) whole ∙ take_at (commits parents walk.front) (id ∷ rest ++ front.0) most all in
             true≢false (sym (later at n has.1) ∙ ap (λ (xs : List (List ℕ)). has_id xs from) cut ∙ walk.none)
           where
             joined : (xs ys : List (List ℕ)) → (commits parents walk.front ++ id ∷ xs) ++ ys ≡ commits parents walk.front ++ (id ∷ xs ++ ys)
@@ -79,14 +81,15 @@ module _ (most : ℕ) (parents : Parents) (root from : List ℕ) where
 
     -- each that was met had its turn
     pub is_no : length ids ≤ at → count ≤ most → IsDescent most parents root from No
-    is_no all few =
-        (λ has. not_within most (commits parents walk.front) from walk.none (sym (ap (λ (xs : List (List ℕ)). has_id (take most xs) from) (same has.0)) ∙ later at has.0 has.1),
-        λ more.
-        let front = ancestors_front parents root more.0 at in
-        let e = ap length (same more.0) in
-        let f = ap length front.1 ∙ length-append (ancestors parents root more.0) front.0 in
-        let g = walk.count_is in
-        omega (arith, e, f, g, few, more.1))
+    is_no all few = (
+      λ has. not_within most (commits parents walk.front) from walk.none (sym (ap (λ (xs : List (List ℕ)). has_id (take most xs) from) (same has.0)) ∙ later at has.0 has.1),
+      λ more.
+          let front = ancestors_front parents root more.0 at in
+          let e = ap length (same more.0) in
+          let f = ap length front.1 ∙ length-append (ancestors parents root more.0) front.0 in
+          let g = walk.count_is in
+          omega (arith, e, f, g, few, more.1),
+    )
       where
         whole : ids ≡ walk.front
         whole = by_rest walk.rest walk.parts
@@ -107,7 +110,7 @@ module _ (most : ℕ) (parents : Parents) (root from : List ℕ) where
     pub is_walked : (before now : ℕ) → count ≤ most → at ≤ length ids → now ≤ before + length ids → IsWalked most parents root before now
     is_walked before now few within once =
         let front : take at (met parents root at) ≡ walk.front =
-            ap (take at) (sym walk.met_is ∙ walk.parts) ∙ take_at walk.front walk.rest at walk.at_is in
+        ap (take at) (sym walk.met_is ∙ walk.parts) ∙ take_at walk.front walk.rest at walk.at_is in
         let size : length (met parents root at) ≡ length ids = ap length (sym walk.met_is) in
         record {
           turns = at;

@@ -63,20 +63,21 @@ module _ (parents : Parents) (root : List ℕ) where
       let before = met_front n more in
       let turn = turn_front (met parents root (more + n)) (slice_get (met parents root (more + n)) (more + n)) in
       let step : met parents root (suc more + n) ≡ met parents root (more + n) ++ turn.0 =
-          ap (met parents root) (let e : suc more + n ≡ suc (more + n) = omega arith in e) ∙ met_suc (more + n) ∙ turn.1 in
+      ap (met parents root) (let e : suc more + n ≡ suc (more + n) = omega arith in e) ∙ met_suc (more + n) ∙ turn.1 in
       (before.0 ++ turn.0, step ∙ ap (λ (xs : List (List ℕ)). xs ++ turn.0) before.1 ∙ append_assoc (met parents root n) before.0 turn.0)
 
   pub ancestors_front : (n more : ℕ) → Front (ancestors parents root n) (ancestors parents root (more + n))
   ancestors_front n more =
-      let front = met_front n more in
-      (filter (is_commit parents) front.0,
-      ap (filter (is_commit parents)) front.1 ∙ filter-append (is_commit parents) (met parents root n) front.0)
+      let front = met_front n more in (
+        filter (is_commit parents) front.0,
+        ap (filter (is_commit parents)) front.1 ∙ filter-append (is_commit parents) (met parents root n) front.0,
+      )
 
   pub met_closed : (n more : ℕ) → length (met parents root n) ≤ n → met parents root (more + n) ≡ met parents root n
   met_closed n zero all = ap (met parents root) (let e : zero + n ≡ n = omega arith in e)
   met_closed n (suc more) all =
       let same = met_closed n more all in
       let past : slice_get (met parents root (more + n)) (more + n) ≡ None =
-          slice_get_past (met parents root (more + n)) (more + n) (let e = ap length same in omega (arith, e, all)) in
+      slice_get_past (met parents root (more + n)) (more + n) (let e = ap length same in omega (arith, e, all)) in
       ap (met parents root) (let e : suc more + n ≡ suc (more + n) = omega arith in e) ∙ met_suc (more + n)
       ∙ ap (after_turn parents (met parents root (more + n))) past ∙ same

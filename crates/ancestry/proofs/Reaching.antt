@@ -185,10 +185,10 @@ module _ (parents : Parents) (root : List ℕ) where
       let k = at.0 in
       let more = met_front parents root n k in
       let later : slice_get (met parents root (k + n)) k ≡ Some id =
-          ap (λ (xs : List (List ℕ)). slice_get xs k) more.1 ∙ get_front (met parents root n) more.0 k at.2 ∙ at.1 in
+      ap (λ (xs : List (List ℕ)). slice_get xs k) more.1 ∙ get_front (met parents root n) more.0 k at.2 ∙ at.1 in
       let swap : k + n ≡ n + k = omega arith in
       let long : k < length (met parents root (n + k)) =
-          (let e = ap length (ap (met parents root) (sym swap) ∙ more.1) ∙ length-append (met parents root n) more.0 in let less = at.2 in omega (arith, e, less)) in
+      (let e = ap length (ap (met parents root) (sym swap) ∙ more.1) ∙ length-append (met parents root n) more.0 in let less = at.2 in omega (arith, e, less)) in
       let front = met_front parents root k n in
       (k, by_size k n (sym (ap (λ (m : ℕ). slice_get (met parents root m) k) swap) ∙ later) long front.0 front.1)
     where
@@ -206,8 +206,8 @@ module _ (parents : Parents) (root : List ℕ) where
       let old = reached_met x before in
       let turn = turn_of old.0 x old.1 in
       let step : met parents root (suc turn.0) ≡ with_new (met parents root turn.0) ids =
-          met_suc parents root turn.0 ∙ ap (after_turn parents (met parents root turn.0)) turn.1
-          ∙ ap (λ (o : Option (List (List ℕ))). with_new (met parents root turn.0) (parents_or_none o)) some in
+      met_suc parents root turn.0 ∙ ap (after_turn parents (met parents root turn.0)) turn.1
+      ∙ ap (λ (o : Option (List (List ℕ))). with_new (met parents root turn.0) (parents_or_none o)) some in
       (suc turn.0, ap (λ (xs : List (List ℕ)). has_id xs parent) step ∙ new_has (met parents root turn.0) ids parent has)
 
   all_reached : (id : List ℕ) → ((n : ℕ) × (has_id (ancestors parents root n) id ≡ true)) → Reached parents root id × (is_commit parents id ≡ true)

@@ -125,6 +125,7 @@ module _ (parents : Parents) (root from : List ℕ) where
     pub order_at : (id : List ℕ) (found : List (List ℕ)) → slice_get ids at ≡ Some id → parents id ≡ Some found
         → (more : List (List ℕ)) × (ancestors parents root at ≡ commits parents walk.front ++ id ∷ more)
     order_at id found here some =
-        let more = next_of id here in
-        (commits parents more.0,
-        ap (commits parents) (sym walk.met_is ∙ parts_next id more.0 more.1) ∙ one_more parents walk.front more.0 id found some)
+        let more = next_of id here in (
+          commits parents more.0,
+          ap (commits parents) (sym walk.met_is ∙ parts_next id more.0 more.1) ∙ one_more parents walk.front more.0 id found some,
+        )
