@@ -1,0 +1,4 @@
+pub mod Keeps
+pub mod Settles
+pub mod Loads
+pub mod Fronts
