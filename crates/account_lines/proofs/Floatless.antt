@@ -18,6 +18,7 @@ use Rattle.entry_rules.specs.declared.faults.Fault.{Fault}
 use Rattle.entry_rules.specs.declared.faults.Fault.TheVariants.{Broken, NoPolicy, NotEpoch, PathRule, RefRule}
 use Rattle.account_lines.specs.Lines.{body_data, fault_data, refusal_data, verdict_data}
 use Rattle.account_lines.specs.declared.rows.EntryRow.{EntryRow}
+use Rattle.account_lines.specs.declared.rows.Later.{Later}
 
 fault_floatless : (fault : Fault) → has_float (fault_data fault) ≡ false
 unfolding fault_data
@@ -32,17 +33,20 @@ refusal_floatless Authorised = refl
 refusal_floatless (Refused fault) = fault_floatless fault
 refusal_floatless Noted = refl
 
-pub body_floatless : (entry : Entry) (row : EntryRow) (skipped : Bool) (body : EntryBody) → has_float (body_data entry row skipped body) ≡ false
-body_floatless entry row skipped (Reference name target) =
+pub body_floatless : (entry : Entry) (row : EntryRow) (later : Later) (body : EntryBody) → has_float (body_data entry row later body) ≡ false
+body_floatless entry row later (Reference name target) =
     rw (
       option_floatless number_data (λ _. refl) row.epoch,
       refusal_floatless row.verdict,
       option_floatless hex_data (λ _. refl) row.from,
       option_floatless hex_data (λ _. refl) entry.signer,
+      option_floatless number_data (λ _. refl) row.prior,
       text_floatless name,
+      option_floatless number_data (λ _. refl) later.rescuer,
       list_floatless hex_data (λ _. refl) row.signers,
+      option_floatless number_data (λ _. refl) later.skipper,
     ) refl
-body_floatless entry row skipped (Annotation ids skip message) =
+body_floatless entry row later (Annotation ids skip message) =
     rw (list_floatless hex_data (λ _. refl) ids, option_floatless number_data (λ _. refl) row.epoch, option_floatless hex_data (λ _. refl) entry.signer, text_floatless message) refl
 
 pub verdict_floatless : (name : List ℕ) (verdict : Verdict Fault) → has_float (verdict_data name verdict) ≡ false

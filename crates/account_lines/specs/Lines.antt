@@ -1,7 +1,7 @@
 -- The lines that tell an entry and a verdict: objects of JSON, with the fields in the order of their names' bytes.
 use Rattle.std.specs.Prelude.{ℕ, Bool, true, false, List, codes}
 use Rattle.json_lines.specs.Values.{hex_data, line_text, list_data, number_data, option_data, text_data}
-use Rattle.serde_json.specs.Data.{Data, boolean, member, no_members, null, object, string}
+use Rattle.serde_json.specs.Data.{Data, Members, boolean, member, no_members, null, object, string}
 use Rattle.rsl_chain.specs.declared.entries.Entry.{Entry}
 use Rattle.rsl_chain.specs.declared.entries.EntryBody.{EntryBody}
 use Rattle.rsl_chain.specs.declared.entries.EntryBody.TheVariants.{Reference, Annotation}
@@ -13,6 +13,7 @@ use Rattle.policy_epochs.specs.Telling.{fault_text}
 use Rattle.entry_rules.specs.declared.faults.Fault.{Fault}
 use Rattle.entry_rules.specs.declared.faults.Fault.TheVariants.{Broken, NoPolicy, NotEpoch, PathRule, RefRule}
 use Rattle.account_lines.specs.declared.rows.EntryRow.{EntryRow}
+use Rattle.account_lines.specs.declared.rows.Later.{Later}
 
 -- ---- faults, with the parts that a verdict's line has
 
@@ -43,9 +44,22 @@ refusal_data Authorised = null
 refusal_data (Refused fault) = fault_data fault
 refusal_data Noted = null
 
--- an entry of a reference; skipped says whether it is skipped after the whole log
-abbrev pub reference_data : Entry → List ℕ → List ℕ → EntryRow → Bool → Data
-reference_data entry name target row skipped =
+-- what is known of an entry of a reference
+abbrev pub known_members : Entry → EntryRow → Members
+known_members entry row =
+    member (codes "epoch") (option_data number_data row.epoch)
+    (member (codes "fault") (refusal_data row.verdict)
+    (member (codes "from") (option_data hex_data row.from)
+    (member (codes "id") (hex_data entry.id)
+    (member (codes "key") (option_data hex_data entry.signer)
+    (member (codes "prior") (option_data number_data row.prior)
+    (member (codes "signed") (boolean row.signed)
+    (member (codes "signers") (list_data hex_data row.signers)
+    (member (codes "verdict") (string (verdict_word row.verdict)) no_members))))))))
+
+-- an entry of a reference, with that and what later entries make of it
+abbrev pub reference_data : Entry → List ℕ → List ℕ → EntryRow → Later → Data
+reference_data entry name target row later =
     object (member (codes "epoch") (option_data number_data row.epoch)
     (member (codes "fault") (refusal_data row.verdict)
     (member (codes "from") (option_data hex_data row.from)
@@ -53,12 +67,14 @@ reference_data entry name target row skipped =
     (member (codes "key") (option_data hex_data entry.signer)
     (member (codes "kind") (string (codes "reference"))
     (member (codes "number") (number_data entry.number)
+    (member (codes "prior") (option_data number_data row.prior)
     (member (codes "reference") (text_data name)
+    (member (codes "rescued") (option_data number_data later.rescuer)
     (member (codes "signed") (boolean row.signed)
     (member (codes "signers") (list_data hex_data row.signers)
-    (member (codes "skipped") (boolean skipped)
+    (member (codes "skipped") (option_data number_data later.skipper)
     (member (codes "target") (hex_data target)
-    (member (codes "verdict") (string (verdict_word row.verdict)) no_members)))))))))))))
+    (member (codes "verdict") (string (verdict_word row.verdict)) no_members)))))))))))))))
 
 -- whether an annotation skips what it lists
 abbrev pub annotation_word : Bool → List ℕ
@@ -77,12 +93,12 @@ annotation_data entry ids skip message row =
     (member (codes "signed") (boolean row.signed)
     (member (codes "verdict") (string (verdict_word row.verdict)) no_members)))))))))
 
-abbrev pub body_data : Entry → EntryRow → Bool → EntryBody → Data
-body_data entry row skipped (Reference name target) = reference_data entry name target row skipped
-body_data entry row skipped (Annotation ids skip message) = annotation_data entry ids skip message row
+abbrev pub body_data : Entry → EntryRow → Later → EntryBody → Data
+body_data entry row later (Reference name target) = reference_data entry name target row later
+body_data entry row later (Annotation ids skip message) = annotation_data entry ids skip message row
 
-unfoldable pub entry_line : Entry → EntryRow → Bool → List ℕ
-entry_line entry row skipped = line_text (body_data entry row skipped entry.body)
+unfoldable pub entry_line : Entry → EntryRow → Later → List ℕ
+entry_line entry row later = line_text (body_data entry row later entry.body)
 
 -- ---- verdicts on references
 

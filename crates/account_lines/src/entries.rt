@@ -3,12 +3,12 @@
 ghost use Rattle.std.specs.Prelude.{◌≡◌, Bool, List, IfOk};
 ghost use Rattle.std.specs.Option.{option_copied};
 ghost use Rattle.serde_json.specs.Data.{boolean, member, no_members, null, string};
-ghost use Rattle.serde_json.specs.View.{view};
-ghost use Rattle.account_lines.specs.Lines.{annotation_data, annotation_word, body_data, entry_line, reference_data};
-ghost use Rattle.account_lines.specs.Lines.{refusal_data, verdict_word};
+ghost use Rattle.serde_json.specs.View.{members_view, view};
+ghost use Rattle.account_lines.specs.Lines.{annotation_data, annotation_word, body_data, entry_line, known_members};
+ghost use Rattle.account_lines.specs.Lines.{reference_data, refusal_data, verdict_word};
 
-use crate::EntryRow;
 use crate::faults::fault_json;
+use crate::{EntryRow, Later};
 use entry_rules::Fault;
 use git_object::{Ids, ObjectId, RefName};
 use json_lines::{hex_json, line, list_json, number_json, option_json, text_json, word_json};
@@ -38,25 +38,17 @@ fn refusal_json(alloc: Global, verdict: &EntryVerdict<Fault>) -> Result<Value, M
     }
 }
 
-fn reference_json(
-    alloc: Global,
-    entry: &Entry,
-    name: &RefName,
-    target: &ObjectId,
-    row: &EntryRow,
-    skipped: bool,
-) -> Result<Value, Memory>
-    ensures { IfOk result (λ value. view value ≡ reference_data entry.now name.now target.now row.now skipped) }
+// The fields of what is known of an entry of a reference.
+fn known_fields(alloc: Global, entry: &Entry, row: &EntryRow) -> Result<Map<String, Value>, Memory>
+    ensures { IfOk result (λ fields. members_view fields.entries ≡ known_members entry.now row.now) }
 {
     let epoch = option_json(alloc, row.epoch.as_ref())?;
     let fault = refusal_json(alloc, &row.verdict)?;
     let from = option_json(alloc, row.from.as_ref())?;
     let id = hex_json(alloc, entry.id.as_bytes())?;
     let key = option_json(alloc, entry.signer.as_ref())?;
-    let kind = word_json(alloc, "reference")?;
-    let name = text_json(alloc, name.text())?;
+    let prior = option_json(alloc, row.prior.as_ref())?;
     let signers = list_json(alloc, row.signers.as_slice())?;
-    let target = hex_json(alloc, target.as_bytes())?;
     let verdict = word_json(alloc, verdict_word(&row.verdict))?;
     let mut fields = Map::new(alloc);
     put(&mut fields, alloc, "epoch", epoch)?;
@@ -64,14 +56,35 @@ fn reference_json(
     put(&mut fields, alloc, "from", from)?;
     put(&mut fields, alloc, "id", id)?;
     put(&mut fields, alloc, "key", key)?;
+    put(&mut fields, alloc, "prior", prior)?;
+    put(&mut fields, alloc, "signed", Value::from(row.signed))?;
+    put(&mut fields, alloc, "signers", signers)?;
+    put(&mut fields, alloc, "verdict", verdict)?;
+    Ok(fields)
+}
+
+fn reference_json(
+    alloc: Global,
+    entry: &Entry,
+    name: &RefName,
+    target: &ObjectId,
+    row: &EntryRow,
+    later: &Later,
+) -> Result<Value, Memory>
+    ensures { IfOk result (λ value. view value ≡ reference_data entry.now name.now target.now row.now later.now) }
+{
+    let kind = word_json(alloc, "reference")?;
+    let name = text_json(alloc, name.text())?;
+    let rescuer = option_json(alloc, later.rescuer.as_ref())?;
+    let skipper = option_json(alloc, later.skipper.as_ref())?;
+    let target = hex_json(alloc, target.as_bytes())?;
+    let mut fields = known_fields(alloc, entry, row)?;
     put(&mut fields, alloc, "kind", kind)?;
     put(&mut fields, alloc, "number", number_json(entry.number))?;
     put(&mut fields, alloc, "reference", name)?;
-    put(&mut fields, alloc, "signed", Value::from(row.signed))?;
-    put(&mut fields, alloc, "signers", signers)?;
-    put(&mut fields, alloc, "skipped", Value::from(skipped))?;
+    put(&mut fields, alloc, "rescued", rescuer)?;
+    put(&mut fields, alloc, "skipped", skipper)?;
     put(&mut fields, alloc, "target", target)?;
-    put(&mut fields, alloc, "verdict", verdict)?;
     Ok(Value::Object(fields))
 }
 
@@ -112,12 +125,12 @@ fn annotation_json(
     Ok(Value::Object(fields))
 }
 
-fn entry_json(alloc: Global, entry: &Entry, row: &EntryRow, skipped: bool) -> Result<Value, Memory>
-    ensures { IfOk result (λ value. view value ≡ body_data entry.now row.now skipped entry.now.body) }
+fn entry_json(alloc: Global, entry: &Entry, row: &EntryRow, later: &Later) -> Result<Value, Memory>
+    ensures { IfOk result (λ value. view value ≡ body_data entry.now row.now later.now entry.now.body) }
 {
     match &entry.body {
         EntryBody::Reference { name, target } => {
-            reference_json(alloc, entry, name, target, row, skipped)
+            reference_json(alloc, entry, name, target, row, later)
         }
         EntryBody::Annotation { ids, skip, message } => {
             annotation_json(alloc, entry, ids, *skip, message, row)
@@ -125,17 +138,17 @@ fn entry_json(alloc: Global, entry: &Entry, row: &EntryRow, skipped: bool) -> Re
     }
 }
 
-/// The line that tells an entry, as it was judged, with its line feed. Of an entry of a reference it says whether that
-/// is skipped.
+/// The line that tells an entry, as it was judged, with its line feed. Of an entry of a reference it says by which
+/// later entries that is skipped and rescued.
 #[tactic(auto, unfolding(crate::specs::Lines::entry_line))]
 pub fn entry_line(
     alloc: Global,
     entry: &Entry,
     row: &EntryRow,
-    skipped: bool,
+    later: &Later,
 ) -> Result<Octets, Memory>
-    ensures { IfOk result (λ text. text ≡ entry_line entry.now row.now skipped) }
+    ensures { IfOk result (λ text. text ≡ entry_line entry.now row.now later.now) }
 {
-    let value = entry_json(alloc, entry, row, skipped)?;
+    let value = entry_json(alloc, entry, row, later)?;
     line(alloc, &value)
 }

@@ -10,5 +10,5 @@ mod rows;
 mod verdicts;
 
 pub use entries::entry_line;
-pub use rows::EntryRow;
+pub use rows::{EntryRow, Later};
 pub use verdicts::verdict_line;

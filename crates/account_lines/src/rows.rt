@@ -12,8 +12,10 @@ pub struct EntryRow {
     /// The number of the entry that brought the policy into force under which it is judged; None where none is in
     /// force.
     pub epoch: Option<u64>,
-    /// The target of its reference's last entry before it that is not skipped; None of an annotation, or where there
-    /// is none.
+    /// The number of its reference's last entry before it that is not skipped then; None of an annotation, or where
+    /// there is none.
+    pub prior: Option<u64>,
+    /// The target of that entry.
     pub from: Option<ObjectId>,
     /// Whether the key that it names is one of the policy, and its signature is good by it.
     pub signed: bool,
@@ -21,4 +23,13 @@ pub struct EntryRow {
     pub signers: KeyIds,
     /// Whether it is authorised, refused for a fault, or an annotation.
     pub verdict: EntryVerdict<Fault>,
+}
+
+/// What later entries make of an entry of a reference.
+#[derive(Clone, Copy)]
+pub struct Later {
+    /// The number of the first annotation that skips it.
+    pub skipper: Option<u64>,
+    /// The number of the first entry that rescues it, where it is refused.
+    pub rescuer: Option<u64>,
 }

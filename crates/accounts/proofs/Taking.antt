@@ -16,7 +16,8 @@ use Rattle.verify_ref.specs.Following.{Follows, TakesOne}
 use Rattle.verify_ref.specs.declared.engine.Engine.{Engine}
 use Rattle.account_lines.specs.declared.rows.EntryRow.{EntryRow}
 use Rattle.accounts.specs.Judging.{StandsFor}
-use Rattle.accounts.specs.Rows.{epoch_of, from_of, is_signed, row_of, rows_of}
+use Rattle.by_whom.specs.Keeping.{Knows}
+use Rattle.accounts.specs.Rows.{epoch_of, from_of, is_signed, prior_of, row_of, rows_of}
 use Rattle.accounts.specs.Steps.{is_authorised}
 use Rattle.accounts.specs.declared.judged_log.JudgedLog.{JudgedLog}
 use Rattle.accounts.proofs.Rowed.{epoch_more, rows_more}
@@ -40,10 +41,12 @@ pub record IsFound (log : List Taken) (t : Taken) (was now : JudgedLog) (row : E
   pub opened : now.epoch ≡ cond (is_of t.entry.body policy_name && is_authorised row.verdict) (Some t.entry.number) was.epoch
   pub id : row.id ≡ t.entry.id
   pub epoch : row.epoch ≡ was.epoch
+  pub prior : row.prior ≡ prior_of (real_rules was.engine.rules.anchor) log t.entry.body
   pub from : row.from ≡ from_of (real_rules was.engine.rules.anchor) log t.entry.body
   pub signed : row.signed ≡ is_signed (policy_after (real_rules was.engine.rules.anchor) log) t.entry
   pub signers : row.signers ≡ last_signers (real_rules now.engine.rules.anchor) (log ++ t ∷ [])
   pub rows : now.rows ≡ was.rows ++ row ∷ []
+  pub later : Knows (real_rules now.engine.rules.anchor) (log ++ t ∷ []) now.later
 
 module _ (log : List Taken) (t : Taken) (was now : JudgedLog) (row : EntryRow) (stands : StandsFor log was) (found : IsFound log t was now row) where
   anchor : Option (List (List ℕ))
@@ -59,11 +62,12 @@ module _ (log : List Taken) (t : Taken) (was now : JudgedLog) (row : EntryRow) (
   row_is =
       let rules = real_rules now.engine.rules.anchor in
       let epoch : row.epoch ≡ epoch_of rules log = found.epoch ∙ epoch_was in
+      let prior : row.prior ≡ prior_of rules log t.entry.body = found.prior ∙ ap (λ (a : Option (List (List ℕ))). prior_of (real_rules a) log t.entry.body) same in
       let from : row.from ≡ from_of rules log t.entry.body = found.from ∙ ap (λ (a : Option (List (List ℕ))). from_of (real_rules a) log t.entry.body) same in
       let signed : row.signed ≡ is_signed (policy_after rules log) t.entry = found.signed ∙ ap (λ (a : Option (List (List ℕ))). is_signed (policy_after (real_rules a) log) t.entry) same in
       let signers : row.signers ≡ signers_of rules log t = found.signers ∙ signers_push rules log t in
       let verdict : row.verdict ≡ verdict_of rules log t = found.takes.answer in
-      λ i. record { id = found.id i; epoch = epoch i; from = from i; signed = signed i; signers = signers i; verdict = verdict i }
+      λ i. record { id = found.id i; epoch = epoch i; prior = prior i; from = from i; signed = signed i; signers = signers i; verdict = verdict i }
 
   epoch_is : now.epoch ≡ epoch_of (real_rules now.engine.rules.anchor) (log ++ t ∷ [])
   epoch_is =
@@ -82,6 +86,7 @@ module _ (log : List Taken) (t : Taken) (was now : JudgedLog) (row : EntryRow) (
   stands_more = record {
     follows = found.takes.follows;
     epoch = epoch_is;
+    later = found.later;
     rows = found.rows ∙ ap (λ (rows : List EntryRow). rows ++ row ∷ []) (stands.rows ∙ ap (λ (a : Option (List (List ℕ))). rows_of a log) same)
         ∙ ap (λ (r : EntryRow). rows_of now.engine.rules.anchor log ++ r ∷ []) row_is ∙ sym (rows_more now.engine.rules.anchor log t);
   }

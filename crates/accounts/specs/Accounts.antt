@@ -3,21 +3,29 @@ use Rattle.std.specs.Prelude.{◌≡◌, ℕ, Bool, true, false, List, Option, S
 use Rattle.git_object.specs.Repository.{Repository}
 use Rattle.rsl_chain.specs.Entries.{Taken}
 use Rattle.rsl_chain.specs.Logs.{IsLogOf}
-use Rattle.judging.specs.Logs.{before, entry_at, skipped}
+use Rattle.judging.specs.Logs.{before, entry_at}
 use Rattle.judging.specs.declared.verdicts.Verdict.{Verdict}
 use Rattle.judging.specs.declared.verdicts.Verdict.TheVariants.{Accepted, TipDiffers, Violation}
 use Rattle.entry_rules.specs.RealRules.{real_rules}
 use Rattle.entry_rules.specs.declared.faults.Fault.{Fault}
 use Rattle.verify_ref.specs.Logs.{AreEntries}
 use Rattle.verify_ref.specs.Verdicts.{IsVerdict}
+use Rattle.by_whom.specs.Firsts.{rescuer_of, skipper_of}
 use Rattle.account_lines.specs.Lines.{entry_line, verdict_line}
+use Rattle.account_lines.specs.declared.rows.Later.{Later}
 use Rattle.accounts.specs.Rows.{row_of}
 
--- the line of the entry of a number of a log, which this is: what is known of it by the entries before it, and whether
--- it is skipped after the whole log
+-- what later entries of a log make of the entry of a number
+abbrev pub later_of : Option (List (List ℕ)) → List Taken → ℕ → Later
+later_of anchor log number = record {
+  skipper = skipper_of (real_rules anchor) log number;
+  rescuer = rescuer_of (real_rules anchor) log number;
+}
+
+-- the line of the entry of a number of a log, which this is: what is known of it by the entries before it, and what
+-- later ones make of it
 abbrev pub line_of : Option (List (List ℕ)) → List Taken → ℕ → Taken → List ℕ
-line_of anchor log number t =
-    entry_line t.entry (row_of anchor (before log number) t) (skipped (real_rules anchor) log number)
+line_of anchor log number t = entry_line t.entry (row_of anchor (before log number) t) (later_of anchor log number)
 
 -- this is the line of the entry of a number
 pub record IsLine (anchor : Option (List (List ℕ))) (log : List Taken) (number : ℕ) (text : List ℕ) : Type 0 where

@@ -8,6 +8,7 @@ use Rattle.rsl_chain.specs.Logs.{IsLogOf, entry_at}
 use Rattle.entry_rules.specs.RealRules.{real_rules}
 use Rattle.verify_ref.specs.Following.{Follows}
 use Rattle.verify_ref.specs.Logs.{AreEntries}
+use Rattle.by_whom.specs.Keeping.{Knows}
 use Rattle.accounts.specs.Rows.{epoch_of, rows_of}
 use Rattle.accounts.specs.declared.judged_log.JudgedLog.{JudgedLog}
 
@@ -16,6 +17,7 @@ pub record StandsFor (log : List Taken) (judged : JudgedLog) : Type 0 where
   pub follows : Follows log judged.engine
   pub epoch : judged.epoch ≡ epoch_of (real_rules judged.engine.rules.anchor) log
   pub rows : judged.rows ≡ rows_of judged.engine.rules.anchor log
+  pub later : Knows (real_rules judged.engine.rules.anchor) log judged.later
 
 -- the entry at the id is judged, as the next
 pub record JudgesNext (r : Repository) (id : List ℕ) (was now : JudgedLog) : Type 0 where

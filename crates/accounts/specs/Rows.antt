@@ -1,6 +1,6 @@
 -- What is known of each entry of a log once it is judged: by the entries before it, and it alone.
-use Rattle.std.specs.Prelude.{◌&&◌, ◌++◌, ◌∷◌, [], ℕ, Bool, false, List, length, is_some}
-use Rattle.std.specs.Prelude.{Option, Some, None}
+use Rattle.std.specs.Prelude.{◌&&◌, ◌++◌, ◌∷◌, [], ℕ, Bool, false, List, length}
+use Rattle.std.specs.Prelude.{Option, Some, None, is_some}
 use Rattle.std.specs.List.{filter}
 use Rattle.git_object.specs.References.{policy_name}
 use Rattle.rsl_chain.specs.Entries.{Taken}
@@ -8,7 +8,8 @@ use Rattle.rsl_chain.specs.declared.entries.Entry.{Entry}
 use Rattle.rsl_chain.specs.declared.entries.EntryBody.{EntryBody}
 use Rattle.rsl_chain.specs.declared.entries.EntryBody.TheVariants.{Reference, Annotation}
 use Rattle.recovery.specs.Lanes.{last_of}
-use Rattle.judging.specs.Logs.{authorised, entry_at, is_entry_of, numbers, policy_after, prior_target, signers_of}
+use Rattle.judging.specs.Logs.{authorised, entry_at, is_entry_of, numbers, policy_after, prior}
+use Rattle.judging.specs.Logs.{prior_target, signers_of}
 use Rattle.judging.specs.Rules.{Rules}
 use Rattle.judging.specs.Verdicts.{verdict_of}
 use Rattle.policy_epochs.specs.declared.policies.Policy.{Policy}
@@ -16,6 +17,11 @@ use Rattle.entry_rules.specs.RealRules.{real_rules}
 use Rattle.entry_rules.specs.Signing.{signer_among}
 use Rattle.entry_rules.specs.declared.faults.Fault.{Fault}
 use Rattle.account_lines.specs.declared.rows.EntryRow.{EntryRow}
+
+-- the number of the last entry of an entry's reference before it that is not skipped
+abbrev pub prior_of : Rules Policy Fault → List Taken → EntryBody → Option ℕ
+prior_of rules earlier (Reference name target) = prior rules earlier name
+prior_of rules earlier (Annotation ids skip message) = None
 
 -- where the reference of an entry stood before it: the target of its last entry that is not skipped
 abbrev pub from_of : Rules Policy Fault → List Taken → EntryBody → Option (List ℕ)
@@ -40,6 +46,7 @@ abbrev pub row_of : Option (List (List ℕ)) → List Taken → Taken → EntryR
 row_of anchor earlier t = record {
   id = t.entry.id;
   epoch = epoch_of (real_rules anchor) earlier;
+  prior = prior_of (real_rules anchor) earlier t.entry.body;
   from = from_of (real_rules anchor) earlier t.entry.body;
   signed = is_signed (policy_after (real_rules anchor) earlier) t.entry;
   signers = signers_of (real_rules anchor) earlier t;

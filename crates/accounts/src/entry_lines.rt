@@ -1,37 +1,26 @@
 //! The line of an entry of a judged log.
 
-ghost use Rattle.std.specs.Prelude.{◌≡◌, ◌≤◌, ◌<◌, ◌+◌, List, Some, length, IfErr, IfOk};
+ghost use Rattle.std.specs.Prelude.{◌≡◌, ◌≤◌, Some, length, IfErr, IfOk};
 ghost use Rattle.octets.specs.Causes.{HasCause, one_more};
 ghost use Rattle.git_object.specs.Repository.{Repository};
 ghost use Rattle.keeper_api.specs.Undisturbed.{Undisturbed};
-ghost use Rattle.rsl_chain.specs.Entries.{Taken};
 ghost use Rattle.rsl_chain.specs.Logs.{IsUnbroken, log_failed};
-ghost use Rattle.judging.specs.Logs.{skipped};
-ghost use Rattle.entry_rules.specs.RealRules.{real_rules};
-ghost use Rattle.verify_ref.specs.Following.{Follows};
 ghost use Rattle.accounts.specs.Accounts.{IsLine};
 ghost use Rattle.accounts.specs.Judging.{IsJudgedLog};
 
 use crate::JudgedLog;
-use account_lines::entry_line as line_of;
+use account_lines::{Later, entry_line as line_of};
+use entry_rules::Fault;
 use keeper_api::Keeper;
 use octets::Octets;
+use policy_epochs::Policy;
 use rsl_chain::{LogFault, read_entry};
 use std::alloc::Global;
-use verify_ref::Engine;
-
-// Whether the entry of a number is skipped, by the entries taken.
-fn skipped(engine: &Engine, number: u64) -> bool
-    requires { 0 < number }
-    ensures { (log : List Taken) → Follows log engine.now
-        → result ≡ skipped (real_rules engine.now.rules.anchor) log number }
-{
-    engine.skipped(number)
-}
 
 /// The line of JSON that tells the entry of a number of a judged log, from 1, with its line feed: what it says, under
-/// which policy it was judged, who signed, what is answered of it, and whether it is skipped after the whole log. It
-/// reads the entry once more. `Broken` does not come where the store still holds the repository that was judged.
+/// which policy it was judged, who signed, what is answered of it, and by which later entries it is skipped and
+/// rescued. It reads the entry once more. `Broken` does not come where the store still holds the repository that was
+/// judged.
 pub fn entry_line<R: Keeper>(
     alloc: Global,
     keeper: &mut R,
@@ -54,8 +43,11 @@ pub fn entry_line<R: Keeper>(
         Ok(entry) => entry,
         Err(fault) => return Err(fault),
     };
-    let skipped = skipped(&judged.engine, number);
-    match line_of(alloc, &entry, row, skipped) {
+    let later = Later {
+        skipper: judged.later.skipper::<Policy, Fault>(number),
+        rescuer: judged.later.rescuer::<Policy, Fault>(number),
+    };
+    match line_of(alloc, &entry, row, &later) {
         Ok(text) => Ok(text),
         Err(_) => Err(LogFault::Memory),
     }

@@ -20,11 +20,14 @@ ghost use Rattle.verify_ref.specs.Verdicts.{IsRefusal};
 ghost use Rattle.accounts.specs.Judging.{IsJudgedLog, IsOwn, JudgesNext, StandsFor};
 
 use crate::JudgedLog;
-use crate::rows::{from_of, is_signed, next_epoch, opens};
+use crate::rows::{from_of, is_signed, next_epoch, opens, prior_of};
 use account_lines::EntryRow;
+use by_whom::{ByWhom, open_to};
+use entry_rules::Fault;
 use git_object::ObjectId;
 use keeper_api::{Keeper, KeeperFault};
 use octets::Items;
+use policy_epochs::Policy;
 use root_metadata::KeyIds;
 use rsl_chain::{Entry, Log, LogFault, read_entry};
 use std::alloc::Global;
@@ -55,7 +58,9 @@ fn judge_entry<R: Keeper>(
         → R.reads keeper.new ≤ R.reads keeper.old + extending_reads (real_rules judged.old.engine.rules.anchor) log
         (record { entry = entry.now; repository = r })) }
 {
+    let prior = prior_of(&judged.engine, entry);
     let from = from_of(&judged.engine, entry);
+    let numbers = open_to(alloc, judged.engine.entries(), entry)?;
     let signed = is_signed(judged.engine.policy(), entry);
     let epoch = judged.epoch;
     let verdict = match judged.engine.extend(alloc, keeper, entry) {
@@ -65,9 +70,13 @@ fn judge_entry<R: Keeper>(
     };
     judged.epoch = next_epoch(epoch, opens(entry, &verdict), entry.number);
     let signers = judged.engine.signers().copy()?;
+    judged
+        .later
+        .take(judged.engine.entries(), entry, numbers.as_slice())?;
     judged.rows.push(EntryRow {
         id: entry.id,
         epoch,
+        prior,
         from,
         signed,
         signers,
@@ -162,6 +171,7 @@ pub fn judge_log<R: Keeper>(
         engine: Engine::new(alloc, anchor),
         epoch: None,
         rows: Items::new(alloc),
+        later: ByWhom::new::<Policy, Fault>(alloc),
     };
     match take_all(alloc, keeper, &mut judged, log.ids.as_slice()) {
         Ok(()) => Ok(judged),

@@ -6,7 +6,7 @@ ghost use Rattle.rsl_chain.specs.Entries.{Taken, is_of};
 ghost use Rattle.git_object.specs.References.{policy_name};
 ghost use Rattle.entry_rules.specs.RealRules.{real_rules};
 ghost use Rattle.verify_ref.specs.Following.{Follows};
-ghost use Rattle.accounts.specs.Rows.{from_of, is_signed};
+ghost use Rattle.accounts.specs.Rows.{from_of, is_signed, prior_of};
 ghost use Rattle.accounts.specs.Steps.{is_authorised};
 
 use entry_rules::{Fault, signer_among};
@@ -15,6 +15,21 @@ use judging::EntryVerdict;
 use policy_epochs::Policy;
 use rsl_chain::{Entry, EntryBody};
 use verify_ref::Engine;
+
+/// The number of the last entry of the next entry's reference that is not skipped.
+pub(crate) fn prior_of(engine: &Engine, entry: &Entry) -> Option<u64>
+    ensures { (log : List Taken) → Follows log engine.now
+        → result ≡ prior_of (real_rules engine.now.rules.anchor) log entry.now.body }
+{
+    match &entry.body {
+        EntryBody::Reference { name, target: _ } => engine.entries().prior(name),
+        EntryBody::Annotation {
+            ids: _,
+            skip: _,
+            message: _,
+        } => None,
+    }
+}
 
 /// Where the reference of the next entry stands.
 pub(crate) fn from_of(engine: &Engine, entry: &Entry) -> Option<ObjectId>

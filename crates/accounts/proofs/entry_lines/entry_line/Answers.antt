@@ -1,6 +1,7 @@
 use Rattle.std.proofs.Common.{◌≡◌, ◌-◌, List, Some, length, refl, sym, ap, ◌∙◌, arith}
 use Rattle.std.specs.List.{slice_get}
 use Rattle.std.proofs.lemmas.Option.{slice_get_read}
+use Rattle.entry_rules.specs.RealRules.{real_rules}
 use Rattle.account_lines.specs.declared.rows.EntryRow.{EntryRow}
 use Rattle.accounts.proofs.Lines.{is_line, no_break}
 use Rattle.accounts.proofs.entry_lines.entry_line.Goals as goal
@@ -21,5 +22,8 @@ returns-in-Ok-line_of-clause-line g c = λ r told is.
     slice_get_read rows (length rows) (c.args.number - 1) c.index-as_slice-number.result refl
     (omega (arith, c.requires.some, c.requires.within, ap length c.as_slice.ensures)) c.index-as_slice-number.is in
     let at = ap (λ (all : List EntryRow). slice_get all (c.args.number - 1)) (sym c.as_slice.ensures) ∙ there in
-    is_line r c.args.judged.now is c.args.number c.index-as_slice-number.result at c.in-Ok.entry c.skipped-skipped.result c.in-Ok-line_of.text
-    (c.in-Ok.ensures.entry r told) (c.skipped-skipped.ensures is.log is.stands.follows) c.in-Ok-line_of.ensures
+    let rules = real_rules c.args.judged.now.engine.rules.anchor in
+    let skipper = c.skipper.ensures rules is.log c.requires.some is.stands.later in
+    let rescuer = c.rescuer.ensures rules is.log c.requires.some is.stands.later in
+    is_line r c.args.judged.now is c.args.number c.index-as_slice-number.result at c.in-Ok.entry (record { skipper = c.skipper.result; rescuer = c.rescuer.result }) c.in-Ok-line_of.text
+    (c.in-Ok.ensures.entry r told) (λ i. record { skipper = skipper i; rescuer = rescuer i }) c.in-Ok-line_of.ensures

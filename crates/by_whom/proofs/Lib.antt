@@ -1,0 +1,4 @@
+mod Firsts
+mod Steps
+mod Skipped
+mod Takes
