@@ -1,4 +1,4 @@
-//! Tests of dossiers.
+//! Tests of dossiers, and of what they show.
 //!
 //! What it promises, and where to begin: `README.md` in this crate's folder.
 
@@ -6,3 +6,5 @@
 
 #[cfg(test)]
 mod dossier_rows;
+#[cfg(test)]
+mod finding_rows;
