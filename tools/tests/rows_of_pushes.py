@@ -1,10 +1,11 @@
-"""Rows on pushes and on lists of things under ids: what is read, and the line that must come of it.
+"""Rows on pushes, on lists of things under ids and on desks: what is read, and the line that must come of it.
 
 A row is a line as crates/tests_desk/src/records.rt reads it, and its answer a line, or nothing.
 """
 
 import hashlib
 
+import rows_of_desks
 from rows_histories import LOG, MAIN, History
 from rows_objects import EMPTY_TREE, ZEROS, object_id
 
@@ -124,7 +125,7 @@ def lists():
     yield (*(pop for _ in range(20)), find(19, 19), find(20, None), none(20, 20), put(20), find(20, 20))
 
 
-ROWS = (whole, broken, too_large, lists)
+ROWS = (whole, broken, too_large, lists, *rows_of_desks.ROWS)
 
 
 def files():

@@ -1,5 +1,7 @@
 //! The lines that tell answers.
 
+use desk_log::Settled;
+use desk_steps::Reply;
 use git_object::ObjectId;
 use itoa::Buffer;
 use octets::{Memory, Octets};
@@ -47,5 +49,57 @@ pub fn refusal_line(alloc: Global, fault: &PushFault) -> Result<Octets, Memory> 
         PushFault::Malformed { at } => word_number(alloc, b"malformed", *at),
         PushFault::TooLarge { length } => word_number(alloc, b"too large", *length),
         PushFault::Memory => word(alloc, b"memory"),
+    }
+}
+
+// A line of a word, a number and another line.
+fn word_number_line(
+    alloc: Global,
+    text: &[u8],
+    number: u64,
+    more: Octets,
+) -> Result<Octets, Memory> {
+    let mut digits = Buffer::new();
+    let mut line = Octets::from_slice(alloc, text)?;
+    line.append(b" ")?;
+    line.append(digits.format(number).as_bytes())?;
+    line.append(b" ")?;
+    line.append(more.as_slice())?;
+    Ok(line)
+}
+
+/// The line of a desk's reply.
+pub fn reply_line(alloc: Global, reply: Reply) -> Result<Octets, Memory> {
+    match reply {
+        Reply::Done { number, id } => {
+            word_number_line(alloc, b"done", number, word_id(alloc, b"id", &id)?)
+        }
+        Reply::Already { number } => word_number(alloc, b"already", number),
+        Reply::Stale { number, id } => {
+            word_number_line(alloc, b"stale", number, word_id(alloc, b"tip", &id)?)
+        }
+        Reply::Misnumbered { number, expected } => word_number_line(
+            alloc,
+            b"misnumbered",
+            number,
+            word_number(alloc, b"expected", expected)?,
+        ),
+        Reply::Incomplete { id } => word_id(alloc, b"incomplete", &id),
+        Reply::Malformed { at } => word_number(alloc, b"malformed", at),
+        Reply::TooLarge { length } => word_number(alloc, b"too large", length),
+        Reply::Moved { found, expected: _ } => word_id(alloc, b"moved", &found),
+        Reply::Fault => word(alloc, b"fault"),
+        Reply::Memory => word(alloc, b"memory"),
+    }
+}
+
+/// The line of what became of a doubt.
+pub fn settled_line(alloc: Global, settled: Settled) -> Result<Octets, Memory> {
+    match settled {
+        Settled::Clear => word(alloc, b"clear"),
+        Settled::TookIn { id } => word_id(alloc, b"took in", &id),
+        Settled::Moved { found, expected: _ } => word_id(alloc, b"moved", &found),
+        Settled::Fault => word(alloc, b"fault"),
+        Settled::Memory => word(alloc, b"memory"),
     }
 }

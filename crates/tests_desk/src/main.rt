@@ -1,10 +1,11 @@
-//! Reads and writes pushes, and keeps things under ids, row by row, and prints a line for each answer.
+//! Reads and writes pushes, keeps things under ids, and pushes to a desk, row by row, and prints a line for each answer.
 //!
 //! What it promises, and where to begin: `README.md` in this crate's folder.
 
 #![tactic(auto)]
 
 mod answers;
+mod desks;
 mod records;
 mod scene;
 
@@ -49,7 +50,7 @@ impl From<ReadFault> for Stop {
 
 // Runs all rows, one record after the other, and prints what each answers.
 fn play<K: Sink>(alloc: Global, rows: &[u8], out: &mut K) -> Result<(), Stop> {
-    let mut scene = Scene::new(alloc);
+    let mut scene = Scene::new(alloc)?;
     let mut rest = rows;
     for _ in 0..u64::MAX {
         if rest.is_empty() {

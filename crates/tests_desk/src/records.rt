@@ -22,6 +22,76 @@ pub enum Record<'a> {
     Find { id: ObjectId },
     /// The id of the thing at this place, and how many there are.
     At { place: u64 },
+    /// A desk over an empty store.
+    Desk,
+    /// A stop, after which the desk is loaded from its store.
+    Stop,
+    /// The call of the store with this number, counted from now, fails.
+    Fail { call: u64 },
+    /// And where it is a commit, it is kept.
+    Keep { call: u64 },
+    /// The text is pushed by a seat.
+    Step { seat: u64 },
+    /// What would be answered of that.
+    Check,
+    /// A doubt is settled.
+    Settle,
+    /// How many entries the desk has.
+    Tip,
+    /// The id of the entry of this number.
+    Number { number: u64 },
+    /// The seat of the entry at this place.
+    Seat { place: u64 },
+    /// The value of a reference in the desk's store.
+    Value { name: &'a [u8] },
+}
+
+// The record of a line of one word that asks something of a desk.
+fn asked<'a>(line: &'a [u8]) -> Option<Record<'a>> {
+    if line == b"desk".as_slice() {
+        return Some(Record::Desk);
+    }
+    if line == b"stop".as_slice() {
+        return Some(Record::Stop);
+    }
+    if line == b"check".as_slice() {
+        return Some(Record::Check);
+    }
+    if line == b"settle".as_slice() {
+        return Some(Record::Settle);
+    }
+    if line == b"tip".as_slice() {
+        return Some(Record::Tip);
+    }
+    None
+}
+
+// The record of a line that asks something of a desk.
+fn of_desk<'a>(line: &'a [u8]) -> Option<Record<'a>> {
+    if let Some(digits) = strip_front(line, b"fail ") {
+        let call = read_decimal(digits)?;
+        return Some(Record::Fail { call });
+    }
+    if let Some(digits) = strip_front(line, b"keep ") {
+        let call = read_decimal(digits)?;
+        return Some(Record::Keep { call });
+    }
+    if let Some(digits) = strip_front(line, b"step ") {
+        let seat = read_decimal(digits)?;
+        return Some(Record::Step { seat });
+    }
+    if let Some(digits) = strip_front(line, b"number ") {
+        let number = read_decimal(digits)?;
+        return Some(Record::Number { number });
+    }
+    if let Some(digits) = strip_front(line, b"seat ") {
+        let place = read_decimal(digits)?;
+        return Some(Record::Seat { place });
+    }
+    if let Some(name) = strip_front(line, b"value ") {
+        return Some(Record::Value { name });
+    }
+    asked(line)
 }
 
 // The record of a line that has no text behind it.
@@ -64,6 +134,9 @@ pub fn first_record<'a>(rows: &'a [u8]) -> Option<(Record<'a>, &'a [u8])> {
     let (line, rest) = split_line(rows)?;
     if let Some(digits) = strip_front(line, b"text ") {
         return text_record(digits, rest);
+    }
+    if let Some(record) = of_desk(line) {
+        return Some((record, rest));
     }
     match plain(line) {
         Some(record) => Some((record, rest)),

@@ -1,6 +1,7 @@
-//! A text, and a list of things under ids.
+//! A text, a list of things under ids, and a desk.
 
 use crate::answers::{push_line, refusal_line, word, word_id, word_number};
+use crate::desks::Desk;
 use crate::records::Record;
 use git_object::ObjectId;
 use octets::{Memory, Octets};
@@ -13,15 +14,18 @@ use std::alloc::Global;
 pub struct Scene {
     text: Octets,
     list: Placed<ObjectId>,
+    desk: Desk,
 }
 
 impl Scene {
-    /// No text, and nothing in the list.
-    pub fn new(alloc: Global) -> Scene {
-        Scene {
+    /// No text, nothing in the list, and a desk over an empty store.
+    pub fn new(alloc: Global) -> Result<Scene, Memory> {
+        let desk = Desk::new(alloc)?;
+        Ok(Scene {
             text: Octets::new(alloc),
             list: Placed::new(alloc),
-        }
+            desk,
+        })
     }
 
     /// Does what a record says, and answers its line, which may be empty.
@@ -47,6 +51,20 @@ impl Scene {
             }
             Record::Find { id } => self.find(alloc, &id),
             Record::At { place } => self.at(alloc, place),
+            Record::Desk => {
+                self.desk = Desk::new(alloc)?;
+                Ok(Octets::new(alloc))
+            }
+            Record::Stop => self.desk.stop(alloc),
+            Record::Fail { call } => self.desk.fail(alloc, call, false),
+            Record::Keep { call } => self.desk.fail(alloc, call, true),
+            Record::Step { seat } => self.desk.step(alloc, seat, self.text.as_slice()),
+            Record::Check => self.desk.check(alloc, self.text.as_slice()),
+            Record::Settle => self.desk.settle(alloc),
+            Record::Tip => self.desk.tip(alloc),
+            Record::Number { number } => self.desk.number(alloc, number),
+            Record::Seat { place } => self.desk.seat(alloc, place),
+            Record::Value { name } => self.desk.value(alloc, name),
         }
     }
 
