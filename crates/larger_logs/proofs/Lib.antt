@@ -1,0 +1,5 @@
+pub mod Alike
+pub mod Staying
+pub mod Epochs
+pub mod Gated
+pub mod Passing
