@@ -1,7 +1,7 @@
 -- An entry without fault has none in a larger repository.
-use Rattle.std.proofs.Common.{◌≡◌, ◌||◌, ◌+◌, ◌++◌, ℕ, suc, zero, Bool, true, false, cond, not, List, [], ◌∷◌, map, Option, Some, None, refl, sym, ap, ◌∙◌, arith}
+use Rattle.std.proofs.Common.{◌≡◌, ◌+◌, ◌++◌, ℕ, suc, zero, Bool, true, false, cond, not, List, [], ◌∷◌, Option, Some, None, refl, sym, ap, ◌∙◌, arith}
 use Rattle.std.specs.Prelude.{option_and_then, if◌then◌else◌, slice_get}
-use Rattle.std.specs.List.{AllByRecursion, filter, list_any}
+use Rattle.std.specs.List.{AllByRecursion, filter}
 use Rattle.std.specs.Option.{option_map, option_map_or}
 use Rattle.std.specs.Ordering.{is_gt}
 use Rattle.std.proofs.lemmas.Bool.{false≢true, true≢false}
@@ -20,16 +20,16 @@ use Rattle.rule_delegations.specs.declared.places.RuleRef.{RuleRef}
 use Rattle.rule_delegations.specs.Chains.{rule_at}
 use Rattle.rule_delegations.specs.Forests.{place_named, rules_of}
 use Rattle.rule_delegations.specs.Reached.{Name, rule_matches}
-use Rattle.rule_delegations.specs.Walks.{Found, at_rule, below_link, is_enough, nothing, one_rule, passes_at, then_found, walk, walk_rules}
+use Rattle.rule_delegations.specs.Walks.{Found, at_rule, below_link, is_enough, nothing, one_rule, then_found, walk, walk_rules}
 use Rattle.dsse_envelope.specs.declared.envelope.Envelope.{Envelope}
 use Rattle.approvals.specs.Lookups.{approval_at, signers_of}
 use Rattle.tree_paths.specs.Repositories.{readings_of}
 use Rattle.tree_paths.specs.States.{Ended, Faulty, Gone, Sound, is_sound, walk_of}
 use Rattle.policy_epochs.specs.declared.policies.Policy.{Policy}
 use Rattle.entry_rules.specs.Changing.{changed, is_unmet, least_of, least_unmet, lesser}
-use Rattle.entry_rules.specs.Faults.{body_fault, change_fault, entry_fault, first_told, next_fault, path_fault, ref_fault, rules_fault, signers_for, told_of}
-use Rattle.entry_rules.specs.Meeting.{file_name, first_place, git_name, is_none_of, meets, passes, reached}
-use Rattle.entry_rules.specs.Signing.{approved, approved_to, joined, signer_among, tree_in}
+use Rattle.entry_rules.specs.Faults.{body_fault, change_fault, entry_fault, first_told, path_fault, ref_fault, rules_fault, signers_for, told_of}
+use Rattle.entry_rules.specs.Meeting.{file_name, first_place, git_name, meets, passes, reached}
+use Rattle.entry_rules.specs.Signing.{approved, joined, signer_among, tree_in}
 use Rattle.entry_rules.specs.declared.faults.Fault.{Fault}
 use Rattle.entry_rules.specs.declared.faults.Fault.TheVariants.{Broken, PathRule, RefRule}
 use Rattle.keeper_api.specs.Growing.{Keeps, Larger}

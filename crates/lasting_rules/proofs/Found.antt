@@ -1,8 +1,6 @@
 -- What is found at a path of a target is found in a larger repository.
-use Rattle.std.proofs.Common.{◌≡◌, ℕ, Bool, true, false, List, [], ◌∷◌, Option, Some, None, refl, sym, ap, ◌∙◌}
-use Rattle.std.specs.Prelude.{option_and_then, if◌then◌else◌}
+use Rattle.std.proofs.Common.{◌≡◌, ℕ, List, [], ◌∷◌, Option, Some, None, refl, ap, ◌∙◌}
 use Rattle.std.specs.Option.{option_map}
-use Rattle.dsse_envelope.specs.declared.envelope.Envelope.{Envelope}
 use Rattle.git_object.specs.Names.{components}
 use Rattle.git_object.specs.Repository.{Repository, object_at}
 use Rattle.tree_paths.specs.Blobs.{blob_at, small_blob}

@@ -1,5 +1,5 @@
 -- The rules of entries last.
-use Rattle.std.proofs.Common.{◌≡◌, ℕ, List, Option, Some, None, Result, Ok, Err, refl, sym, ap, ◌∙◌}
+use Rattle.std.proofs.Common.{◌≡◌, ℕ, List, Option, Some, None, Result, Ok, Err, refl, ap, ◌∙◌}
 use Rattle.git_object.specs.Repository.{Repository}
 use Rattle.rsl_chain.specs.Entries.{target_of}
 use Rattle.tree_paths.specs.Repositories.{readings_of}
@@ -9,7 +9,6 @@ use Rattle.policy_epochs.specs.declared.policies.Policy.{Policy}
 use Rattle.policy_reading.specs.Policies.{policy_of}
 use Rattle.entry_rules.specs.RealRules.{epoch_by, real_rules}
 use Rattle.entry_rules.specs.Signing.{tree_in}
-use Rattle.entry_rules.specs.declared.faults.Fault.{Fault}
 use Rattle.entry_rules.specs.declared.faults.Fault.TheVariants.{NotEpoch}
 use Rattle.keeper_api.specs.Growing.{Keeps, Larger}
 use Rattle.tree_paths.proofs.GrowingPeels.{walk_same}

@@ -1,9 +1,8 @@
 -- A policy that is valid in a repository is valid, and the same, in a larger one.
-use Rattle.std.proofs.Common.{◌≡◌, ℕ, Bool, true, false, List, [], ◌∷◌, Option, Some, None, Result, Ok, Err, refl, sym, ap, ◌∙◌, inl, inr}
+use Rattle.std.proofs.Common.{◌≡◌, ℕ, List, [], ◌∷◌, Option, Some, None, Result, Ok, Err, refl, sym, ap, ◌∙◌, inl, inr}
 use Rattle.std.specs.Prelude.{◌⊎◌, codes}
 use Rattle.std.specs.List.{find}
-use Rattle.git_object.specs.Objects.{Pair}
-use Rattle.git_object.specs.Repository.{Repository, object_at}
+use Rattle.git_object.specs.Repository.{Repository}
 use Rattle.git_object.specs.declared.trees.TreeEntry.{TreeEntry}
 use Rattle.tree_paths.specs.Readings.{Trees}
 use Rattle.tree_paths.specs.Repositories.{readings_of}
