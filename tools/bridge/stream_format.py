@@ -74,12 +74,14 @@ class Git:
 
     # Files that each git has open too, as the lock of a call that is to last as long as what it started.
     kept_open = ()
+    # What each git is told beside, as where the objects of a push stand that is not taken yet.
+    told_too = {}
 
     def __init__(self, *words, input=subprocess.DEVNULL):
         # What it said, a line each, is here once it has ended.
         self.said, self.lines = tempfile.TemporaryFile(), []
         try:
-            how = {"stdin": input, "stdout": subprocess.PIPE, "stderr": self.said, "env": environment()}
+            how = {"stdin": input, "stdout": subprocess.PIPE, "stderr": self.said, "env": {**environment(), **self.told_too}}
             how["pass_fds"] = self.kept_open
             self.process = subprocess.Popen(["git", *words], bufsize=PIECE, **how)
         except FileNotFoundError:

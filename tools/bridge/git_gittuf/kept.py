@@ -32,7 +32,8 @@ class Kept:
         self.folder = os.path.join(folder, "kept")
         self.objects = os.path.join(self.folder, "objects")
         self.small = os.path.join(folder, "small")
-        self.added = []
+        self.trial = os.path.join(folder, "trial")
+        self.added, self.tried = [], []
         # How often something here was, or may have been, changed.
         self.changes = 0
 
@@ -123,12 +124,39 @@ class Kept:
         self.added.append(path)
 
     def put(self, object_id, kind, body):
+        self.tried.append(object_id)
         self.write(os.path.join(self.objects, object_id.decode()), b"%s %d\0%s" % (kind, len(body), body))
 
     def take_out(self, object_id):
         """Removes an object again."""
         self.changes += 1
         os.remove(os.path.join(self.objects, object_id.decode()))
+
+    def is_tried(self):
+        """Whether a trial was stopped before its end, which may have left what Git has not."""
+        return os.path.exists(self.trial)
+
+    def end_trial(self):
+        if self.is_tried():
+            os.remove(self.trial)
+
+    @contextlib.contextmanager
+    def tried_out(self):
+        """Takes all objects and references that are put in meanwhile away again. A stop in between leaves a mark of that."""
+        held, self.tried = self.references(), []
+        with open(self.trial, "wb"):
+            # That it is there is all that it says.
+            pass
+        try:
+            yield
+        finally:
+            # Where a change of the references was not whole the mark stays, by which the store is made again.
+            if "commit.lock" not in self.marks():
+                with self.opened():
+                    self.set_references(self.references(), held)
+                    for it in self.tried:
+                        self.take_out(it)
+                self.end_trial()
 
     def write_out(self):
         """Waits until what was put in stands on the disk, before a reference says that it is there."""

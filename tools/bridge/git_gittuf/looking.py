@@ -57,12 +57,16 @@ def approvers(work, policy, name, value):
     return [] if status else signers.of_approval(text, name, last, tree, policy.publics())
 
 
-def last_counted(work, name):
-    """The target of the last entry of a reference that is not skipped, or nothing."""
-    listed = entries_of(work)
-    gone = history.skipped(work.repository, listed)
+def last_of(repository, listed, name):
+    """The target of the last entry of a reference among these that is not skipped, or nothing."""
+    gone = history.skipped(repository, listed)
     targets = [rest[1] for _, it, kind, rest in listed if kind == b"ref" and rest[0] == name and it not in gone]
     return targets[-1] if targets else None
+
+
+def last_counted(work, name):
+    """The same of the whole log."""
+    return last_of(work.repository, entries_of(work), name)
 
 
 def unescaped(word):

@@ -1,14 +1,19 @@
 """`git gittuf push` and `git gittuf sync`: branches go with the log that records them, or not at all."""
 
 import os
+import sys
 
 from git_gittuf import history, names, remotes, seen, syncing, verifying
 from git_gittuf.repository import ATTESTATIONS, LOG, POLICY, STAGED, TARGETS, ZEROS, Stopped
-from git_gittuf.shown import plain, quoted
+from git_gittuf.hook_calls import ANYWAY
+from git_gittuf.shown import plain, plain_lines, quoted
 from git_gittuf.telling import say
+from stream_format import Git
 
 # Another may be faster so often.
 TRIES = 8
+# How the lines begin that hooks of git gittuf say, here and at the remote.
+HOOKS_SAY = ("git-gittuf: ", "remote: git-gittuf: ")
 OWN_NAMES = (LOG, POLICY, ATTESTATIONS, STAGED)
 
 
@@ -63,16 +68,21 @@ def specs(work, remote, found, anyway):
 def pushed(work, remote, found, anyway):
     """Pushes at once, or nothing; returns whether that was done, and what git said of why not."""
     options, words = specs(work, remote, found, anyway)
+    settings = ("-c", f"{ANYWAY}=true") if anyway else ()
     with work.unlocked():
-        status, output, said = work.repository.git("push", "--porcelain", "--atomic", *options, "--", remote, *words)
+        with Git(*work.repository.where, *settings, "push", "--porcelain", "--atomic", *options, "--", remote, *words) as ran:
+            output = ran.output.read()
+            status, said = ran.end()
     if not status:
         return True, ""
     refused = [os.fsdecode(it) for it in output.splitlines() if it.startswith(b"!")]
-    if not refused:
+    judged = [it.strip() for it in ran.lines if it.startswith(HOOKS_SAY)]
+    if not refused and not judged:
         raise Stopped(f"git does not push to {plain(remote)}: {plain(said)}")
     # The others are refused for these alone.
     refused = [it for it in refused if "(atomic push failed)" not in it] or refused
-    return False, "; ".join(it.rpartition("\t")[2] + " " + it.split("\t")[1].rpartition(":")[2] for it in refused)
+    why = "; ".join(it.rpartition("\t")[2] + " " + it.split("\t")[1].rpartition(":")[2] for it in refused)
+    return False, why if not judged else "\n".join([*judged, ""])
 
 
 def push(work, words):
@@ -95,6 +105,9 @@ def push(work, words):
         if not syncing.sync(work, remote, anyway):
             raise Stopped("nothing is pushed: what is said above comes first", 3)
         if before == work.repository.own_references():
+            if why.startswith(HOOKS_SAY):
+                print(plain_lines(os.fsencode(why)), end="", file=sys.stderr, flush=True)
+                raise Stopped(f"{plain(remote)} gets nothing of it, for what is said above", 3)
             way = "git gittuf doctor says more" if "refs/gittuf/" in why else "git pull brings what is there"
             raise Stopped(f"{plain(remote)} does not take it: {plain(why)}; {way}", 3)
         say("Another was faster: what is here was recorded anew after that, and is pushed again.")

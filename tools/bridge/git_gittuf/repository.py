@@ -7,6 +7,7 @@ import subprocess
 import tempfile
 
 import stream_format
+from git_gittuf.shown import quoted
 from git_repositories import expect_no_part
 from stream_format import Git, Refused, git
 
@@ -60,6 +61,8 @@ class Repository:
         self.folder = os.path.join(self.common, "gittuf")
         # Whether the references are looked at as they are at one time, and how they are.
         self.at_one_time, self.listed = False, None
+        # Where references are to stand by a push that is judged, or None where they are to go.
+        self.pushed = {}
         self.expect_format()
         expect_no_part(self.top or self.git_dir, *self.where)
 
@@ -74,11 +77,23 @@ class Repository:
             have, want = (".".join(map(str, it)) for it in (version_of_git(), OLDEST_GIT))
             raise Stopped(f"git is too old: this is {have}, and {want} or newer is wanted, which knows object ids of SHA-256")
         if found == "sha1":
+            self.expect_commits()
             raise Stopped(
                 f"{self.top or self.git_dir} has object ids of SHA-1, which are not safe to sign. It becomes a repository"
                 " of SHA-256, with new ids, by: git init -b main --object-format=sha256 ../new &&"
                 " git fast-export --all --signed-tags=strip | git -C ../new fast-import"
             )
+
+    def expect_commits(self):
+        """Refuses a repository of SHA-1 that has nothing yet, as git clone makes of an empty one in SHA-256."""
+        if git(*self.where, "rev-list", "--all", "--max-count=1")[1]:
+            return
+        url = git(*self.where, "remote", "get-url", "origin")[1].decode(errors="replace").strip()
+        adds = f" && git -C ../new remote add origin {quoted(url)}" if url else ""
+        raise Stopped(
+            f"{self.top or self.git_dir} has object ids of SHA-1, as a clone of what has no commit yet has by this git, and nothing in it:"
+            f" git init -b main --object-format=sha256 ../new{adds} begins one of SHA-256"
+        )
 
     def git(self, *words, input=b""):
         return git(*self.where, *words, input=input)
@@ -91,10 +106,11 @@ class Repository:
         return output
 
     def all_references(self):
-        """The names below refs/ with the ids at which they stand."""
+        """The names below refs/ with the ids at which they stand, or would after a push that is judged."""
         if self.listed is None or not self.at_one_time:
             self.listed = self.list_references()
-        return dict(self.listed)
+        found = {**self.listed, **self.pushed}
+        return {name: value for name, value in found.items() if value}
 
     def list_references(self):
         with Git(*self.where, "for-each-ref", "--format=%(refname) %(objectname)") as ran:

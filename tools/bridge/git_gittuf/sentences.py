@@ -55,10 +55,17 @@ def of_tip(name, words):
 
 
 def of_violation(name, words):
+    """What an entry did that is not lawful, and what leads out of that."""
+    way = f" Who may change {name.shown} calls git gittuf recover {name.word}, which leads back to the files that it had before."
+    return of_unlawful(name, words) + {"ref-rule": way, "path-rule": way, "not-epoch": of_back(name, words)}.get(words[3], "")
+
+
+def of_back(name, words):
+    return f" git gittuf skip {words[2]} and git gittuf record {name.whole} take it back."
+
+
+def of_unlawful(name, words):
     number, fault = words[2], words[3]
-    way = (
-        f" Who may change {name.shown} calls git gittuf recover {name.word}, which leads back to the files that it had before."
-    )
     if fault == "no-policy":
         return (
             f"Entry {number} was recorded while no policy was in force, or none whose first keys are those of --root,"
@@ -67,13 +74,20 @@ def of_violation(name, words):
     if fault == "broken":
         return f"What entry {number} recorded, or what stood before, lacks the object {words[4][:12]}: git fetch may bring it."
     if fault == "ref-rule":
-        return f"Entry {number} moved {name.shown}, and of the {words[7]} persons whom rule {words[4]} wants {words[5]} signed that.{way}"
+        return f"Entry {number} moved {name.shown}, and of the {of_persons(words[7])} rule {words[4]} wants {words[5]} signed that."
     if fault == "path-rule":
-        return f"Entry {number} changed {words[4]}, and of the {words[8]} persons whom rule {words[5]} wants {words[6]} signed that.{way}"
-    return (
-        f"Entry {number} recorded a policy that does not follow the one in force, which goes on: {' '.join(words[4:])}. git"
-        f" gittuf skip {number} and git gittuf record {name.whole} take it back."
-    )
+        return f"Entry {number} changed {words[4]}, and of the {of_persons(words[8])} rule {words[5]} wants {words[6]} signed that."
+    return f"Entry {number} recorded a policy that does not follow the one in force, which goes on: {' '.join(words[4:])}."
+
+
+def of_persons(count):
+    return "one person whom" if count == "1" else f"{count} persons whom"
+
+
+def of_fault(line):
+    """The sentence on what is not lawful in a line of a violation, without what leads out of it."""
+    words = line.split(" ")
+    return of_unlawful(Name(words[1]), words)
 
 
 # What is added where nobody said whose the first policy is.

@@ -4,7 +4,7 @@ import argparse
 import difflib
 import re
 
-from git_gittuf import commands, doctor, explaining, listing, policy_commands, policy_edits, pushing, recovering, reporting, verifying
+from git_gittuf import commands, doctor, explaining, hook_calls, hooks, listing, policy_commands, policy_edits, pushing, recovering, reporting, verifying
 from git_gittuf.repository import Stopped
 from git_gittuf.shown import plain
 
@@ -66,6 +66,10 @@ Every day
       [--root ..] [--pinned]    and what this rests on
   explain NAME [-v] [--json]    print the rules that protect a branch or a path; -v and --json say whom they ask
   export                        print the stream of the store, without the content of files
+  hook install [--server]       let git push be refused where it would leave something unlawful, before it leaves this
+                                clone, or in a server's repository before it is taken; a hook that stands there is
+                                called first. git -c gittuf.anyway=true push leaves a clone all the same
+  hook --remove                 take these hooks away
 
 What verify and the commands that sign print, and their statuses, are those of the program: gittuf --help has them. On
 a terminal a sentence says what a line means. Where git gittuf itself cannot go on it says why: status 2 the words, 3
@@ -79,7 +83,7 @@ what was asked for, 4 what is outside, as a repository that is none, or another 
 
 WORDS = (
     "setup", "key", "doctor", "record", "approve", "verify", "recover", "push", "sync", "skip", "note", "log", "explain",
-    "report", "export", "policy",
+    "report", "export", "policy", "hook",
 )  # fmt: skip
 STEPS = ("init", "person", "rotate", "rule", "show", "sign", "discard", "apply")
 
@@ -206,6 +210,13 @@ def words_of_signing(take):
         take[name].add_argument("--anyway", action="store_true")
 
 
+def words_of_hooks(take):
+    take["hook"].add_argument("step", nargs="?", choices=("install", hooks.CLONE, hooks.SERVER), metavar="install")
+    take["hook"].add_argument("more", nargs="*")
+    take["hook"].add_argument("--server", action="store_true")
+    take["hook"].add_argument("--remove", action="store_true")
+
+
 def words_of_judging(take):
     take["verify"].add_argument("branches", nargs="*")
     take["verify"].set_defaults(work=verifying.verify)
@@ -233,6 +244,9 @@ def read(words):
     for name in WORDS:
         take[name] = all_words.add_parser(name)
         take[name].set_defaults(work=getattr(commands, name, None))
-    for add in (words_of_begin, words_of_signing, words_of_judging):
+    for add in (words_of_begin, words_of_signing, words_of_judging, words_of_hooks):
         add(take)
-    return parser.parse_args(words)
+    asked = parser.parse_args(words)
+    if asked.word == "hook":
+        asked.work = hook_calls.call if asked.step in (hooks.CLONE, hooks.SERVER) else hooks.change
+    return asked

@@ -44,7 +44,7 @@ class Work:
         self.is_ahead = False
         # What remotes have that does not fit what is here, once that was looked at: remote, name, how it stands.
         self.unfit = None
-        if not reads or not self.kept.is_there() or self.kept.marks() or self.journal.is_there():
+        if not reads or not self.kept.is_there() or self.kept.marks() or self.kept.is_tried() or self.journal.is_there():
             with self.alone():
                 self.mend()
 
@@ -86,9 +86,10 @@ class Work:
         noted, marks = self.journal.read(), self.kept.marks()
         if noted:
             self.repository.remove_locks()
-        if "commit.lock" in marks and noted:
-            # The program was stopped in a change, and may have left files half written.
+        if "commit.lock" in marks and noted or self.kept.is_tried():
+            # The program was stopped in a change, and may have left files half written; or a trial left what Git has not.
             self.kept.remove()
+        self.kept.end_trial()
         self.kept.unmark()
         self.kept.make()
         if noted and noted[1] is not None and "commit.lock" not in marks:
@@ -168,6 +169,17 @@ class Work:
                     self.kept.set_references({name: value}, way)
                     for it in added:
                         self.kept.take_out(it[0])
+
+    @contextlib.contextmanager
+    def pushed(self, moves):
+        """Lets the store be for a while as it would be after a push: with these references moved, and all that they need."""
+        states, self.repository.pushed, self.is_ahead = {it for it in moves.values() if it}, moves, True
+        try:
+            with self.kept.tried_out():
+                copying.bring(self.repository, self.kept, program.Progress(), maybe=sorted(states))
+                yield
+        finally:
+            self.repository.pushed, self.is_ahead = {}, False
 
     def log_at(self, value):
         """What the program prints of the log where it stands at this commit, or nothing where that is none."""

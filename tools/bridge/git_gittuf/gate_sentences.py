@@ -1,0 +1,41 @@
+"""Why a push is refused, in a sentence for the person who pushes, from the program's line, with the way on."""
+
+import os
+
+from git_gittuf import sentences
+from git_gittuf.names import short
+from git_gittuf.shown import plain, quoted
+
+GIVE_UP = "git gittuf doctor --take and the name of the remote gives up what was recorded here and is not there yet"
+
+
+def of_broken(printed):
+    """The line and the sentence of a log that is none."""
+    line = os.fsdecode(printed).strip()
+    return line, f"the log would be none from {line.split(' ')[-1][:12]} on: git gittuf doctor says more"
+
+
+def of_tip(line, numbers):
+    """Of a reference that would stand elsewhere than the log says, where the push has these entries of it."""
+    words = line.split(" ")
+    name, kept, recorded = sentences.Name(words[1]), words[3], words[5]
+    stands = f"stand at {kept[:12]}" if int(kept, 16) else "be gone"
+    way = f"git gittuf push {name.word} takes it with the log that records it"
+    if numbers:
+        says = f"stands at {recorded[:12]}" if int(recorded, 16) else "is gone"
+        return f"entry {numbers[-1]} says that {name.shown} {says}, and by this push it would {stands}: {way}"
+    records = f"git gittuf record {name.word} records that, and {way}"
+    if not int(recorded, 16):
+        return f"{name.shown} would {stands}, a rule protects it, and no entry says that it does: {records}"
+    return f"{name.shown} would {stands}, and the log has it at {recorded[:12]}: {records}"
+
+
+def of_violation(line):
+    """Of an entry of the push that is not lawful."""
+    return f"{sentences.of_fault(line)} {GIVE_UP}."
+
+
+def of_older(name, number):
+    """Of a reference that stands in violation already, and would after the push."""
+    shown, word = plain(short(name)), quoted(short(name))
+    return f"{shown} stands in violation since entry {number}, and this push would not end it: git gittuf recover {word} leads out"

@@ -1,0 +1,182 @@
+"""What a push would leave, judged before it is taken: nothing of it is, where it would leave something unlawful.
+
+Each reference that a push moves is judged, and each of which its entries speak, as far as a rule protects it or the log
+speaks of it. The program judges, over the store as it would be after the push.
+"""
+
+import os
+
+from git_gittuf import damage, epochs, following, gate_sentences, history, looking, verifying
+from git_gittuf.program import Ended
+from git_gittuf.remotes import is_before
+from git_gittuf.repository import ATTESTATIONS, LOG, OWN, POLICY, STAGED, TARGETS, ZEROS, Stopped
+from git_gittuf.shown import plain_name
+from git_gittuf.telling import tell
+from stream_format import is_reference_name
+
+# The status of the program where the log is none.
+BROKEN = 3
+
+
+class Damaged(Exception):
+    """The store was damaged, and the answer is of that."""
+
+
+class Push:
+    """A push: where each reference stands at the place that it goes to, and where it is to stand there, or None for nowhere.
+
+    The log before and after it is named beside, since a push may leave it where it is.
+    """
+
+    def __init__(self, moves, log):
+        self.moves, self.log = moves, log
+
+    def after(self):
+        """Where references are to stand, the log too."""
+        return {**{name: new for name, (_, new) in self.moves.items()}, LOG: self.log[1]}
+
+
+def of_log(work, push):
+    """In a sentence why the log may not go where the push takes it, or nothing."""
+    repository, (old, new) = work.repository, push.log
+    if old == new or old is None:
+        return None
+    if new is None:
+        return "the log is not to go: what it says is wanted for each verdict"
+    if not repository.are_commits([old]):
+        return f"the log there stands at {old.decode()[:12]}, which is not here: git fetch, and then git gittuf push"
+    if not repository.are_commits([new]):
+        return f"the log is to stand at {new.decode()[:12]}, which is no commit"
+    if is_before(repository, old, new):
+        return None
+    if is_before(repository, new, old):
+        return f"the log would go back from entry {following.count_of(repository, old)} to entry {following.count_of(repository, new)}"
+    return "the log goes on from another entry than the last one there: git gittuf sync records anew what is still lawful, and git gittuf push"
+
+
+def spoken_of(work, log):
+    """The references of which the entries speak that a log has more than before."""
+    old, new = log
+    printed = work.log_at(new) if new and old != new and work.repository.are_commits([new]) else None
+    if printed is None:
+        return []
+    count = following.count_of(work.repository, old) if old and work.repository.are_commits([old]) else 0
+    listed = [rest[0] for _, _, kind, rest in history.entries(printed)[count:] if kind == b"ref"]
+    return [it for it in dict.fromkeys(listed) if it not in (LOG, STAGED)]
+
+
+class Gate:
+    """What is judged of a push, while the store is as it would be after that."""
+
+    def __init__(self, work, push):
+        self.work, self.push = work, push
+        old, new = push.log
+        status, printed = self.asked("log")
+        self.broken = gate_sentences.of_broken(printed) if status == BROKEN else None
+        self.entries = history.entries(printed) if not status else ()
+        # So many entries were there before.
+        self.count = 0 if old is None else len(self.entries) if old == new else following.count_of(work.repository, old)
+        self.new = [it for it in self.entries[self.count :] if it[2] == b"ref"]
+        self.recorded = {rest[0] for _, _, kind, rest in self.entries if kind == b"ref"}
+
+    def asked(self, *words):
+        status, printed = self.work.read(*words)
+        if damage.is_in_store(self.work, status, printed):
+            raise Damaged
+        if status not in (0, 1, BROKEN):
+            raise Ended(words, status, printed)
+        return status, printed
+
+    def names(self):
+        """The references that are judged: those that move, and those of which new entries speak."""
+        found = dict.fromkeys([*self.push.moves, *(rest[0] for *_, rest in self.new)])
+        return [it for it in found if it not in (LOG, STAGED)]
+
+    def is_guarded(self, name):
+        if name in self.recorded or name in (POLICY, ATTESTATIONS):
+            return True
+        return not name.startswith(OWN) and verifying.is_protected(self.work, name)
+
+    def refusals(self):
+        """Why the push is refused, each as the program's line, or none, and a sentence."""
+        if self.broken:
+            return [self.broken]
+        return list(filter(None, (self.of_name(it) for it in self.names())))
+
+    def of_name(self, name):
+        if name.startswith(TARGETS):
+            return self.of_target(name)
+        if not is_reference_name(name):
+            return self.of_odd(name)
+        if not self.is_guarded(name):
+            return None
+        status, printed = self.asked("verify-ref", os.fsdecode(name), *looking.root_words(self.work))
+        line = os.fsdecode(printed).strip()
+        if not status:
+            return None
+        if line.startswith("tip-differs "):
+            return line, gate_sentences.of_tip(line, [it[0] for it in self.new if it[3][0] == name])
+        return self.of_violation(name, line)
+
+    def of_odd(self, name):
+        """What no log can speak of may stand where no rule protects it."""
+        status, printed = self.work.read("explain", f"git:{os.fsdecode(name)}")
+        if self.push.moves[name][1] is None or not status and not printed.startswith(b"rule "):
+            return None
+        return None, f"no log can speak of {plain_name(name)}, which a rule may protect"
+
+    def of_target(self, name):
+        """What keeps the target of an entry stands at that, and stays."""
+        target, (_, new) = name[len(TARGETS) :], self.push.moves[name]
+        if new is None and target in {rest[1] for _, _, kind, rest in self.entries if kind == b"ref"}:
+            return None, f"{name.decode()} keeps what an entry recorded, and is not to go"
+        return (None, f"{name.decode()} is to stand at {new.decode()[:12]}") if new not in (None, target) else None
+
+    def of_violation(self, name, line):
+        found = looking.FAULT.fullmatch(line)
+        if int(found[2]) > self.count:
+            return line, gate_sentences.of_violation(line)
+        new, last = [it for it in self.new if it[3][0] == name], looking.last_of(self.work.repository, self.entries, name)
+        stays = self.push.after().get(name, last) or ZEROS
+        if name == POLICY:
+            # One that somebody recorded in vain says nothing of those that come later.
+            lawful = {number for number, _ in epochs.of_entries(self.work.repository, self.entries)}
+            odd = [it[0] for it in new if it[0] not in lawful]
+            if odd:
+                return line, f"entry {odd[0]} records a policy that does not follow the one in force"
+            return None if stays == last else (line, gate_sentences.of_older(name, found[2]))
+        # What was recorded before the first policy is in no recovery, and would keep all from being pushed.
+        if found[3] == "no-policy" and stays == last:
+            return None
+        return line, gate_sentences.of_older(name, found[2])
+
+
+def judged(work, push):
+    said = of_log(work, push)
+    if said:
+        return [(None, said)]
+    if push.log[1] is None:
+        return []
+    with work.pushed(push.after()):
+        return Gate(work, push).refusals()
+
+
+def refusals(work, push):
+    """Why a push is refused, or nothing where it is taken."""
+    work.copy()
+    try:
+        return judged(work, push)
+    except Damaged:
+        tell("the store was damaged, and is made again from Git")
+        work.renew()
+        return judged(work, push)
+
+
+def expect_none(work, push):
+    """Refuses a push that would leave something unlawful, with the program's lines and a sentence each."""
+    found = refusals(work, push)
+    for line, sentence in found:
+        for it in filter(None, (line, sentence)):
+            tell(it)
+    if found:
+        raise Stopped("nothing of this push is taken", 1)
