@@ -36,7 +36,7 @@ _git_gittuf() {
         at=$((at + 1))
     done
     if [ "$((COMP_CWORD - at))" -le 1 ]; then
-        _gittuf_reply -W 'setup key policy record approve verify recover push sync skip note log explain report export doctor'
+        _gittuf_reply -W 'setup key policy record approve verify recover push sync skip note log explain report export doctor hook'
         return
     fi
     case ${COMP_WORDS[at + 1]} in
@@ -51,6 +51,7 @@ _git_gittuf() {
         report) _gittuf_reply -f -W '-o --root --pinned' ;;
         explain) _gittuf_reply -f -W "-v --json $(_gittuf_branches)" ;;
         skip | note) _gittuf_reply -W '-m --anyway' ;;
+        hook) _gittuf_reply -W 'install --server --remove' ;;
         policy)
             if [ "$((COMP_CWORD - at))" -eq 2 ]; then
                 _gittuf_reply -W 'init person rotate rule show sign discard apply'

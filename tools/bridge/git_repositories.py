@@ -3,6 +3,8 @@
 Each call takes how a message names the repository, and the words by which git finds it.
 """
 
+import re
+
 from stream_format import Refused, git
 
 
@@ -20,8 +22,16 @@ def expect_no_part(name, *where):
     status, found, said = git(*where, "rev-parse", "--is-shallow-repository")
     if status:
         raise Refused(f"git does not say whether {name} is shallow: {said}")
-    if found == b"true\n":
+    listed = git(*where, "config", "--list", "--name-only")[1].decode(errors="replace").splitlines()
+    expect_whole(name, found == b"true\n", listed)
+
+
+PROMISES = re.compile(r"extensions\.partialclone|remote\..*\.(promisor|partialclonefilter)", re.DOTALL)
+
+
+def expect_whole(name, is_shallow, settings):
+    """The same of what is known: whether it is shallow, and the names of its settings."""
+    if is_shallow:
         raise Refused(f"{name} is a shallow clone: git fetch --unshallow makes it whole")
-    promises = r"^(extensions\.partialclone|remote\..*\.(promisor|partialclonefilter))$"
-    if git(*where, "config", "--get-regexp", promises)[1]:
+    if any(map(PROMISES.fullmatch, settings)):
         raise Refused(f"{name} is a partial clone: clone it without --filter")

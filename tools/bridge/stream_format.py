@@ -15,7 +15,6 @@ import re
 import signal
 import subprocess
 import sys
-import tempfile
 
 HEADER = b"gittuf-stream 1\n"
 END = b"end\n"
@@ -69,6 +68,16 @@ def environment():
     return {**found, **true, "LC_ALL": "C"}
 
 
+def temporary():
+    """A file without a name, which goes once it is closed."""
+    if hasattr(os, "memfd_create"):
+        return open(os.memfd_create("gittuf"), "w+b")
+    # It takes long to load.
+    import tempfile
+
+    return tempfile.TemporaryFile()
+
+
 class Git:
     """A running git, of which nothing is left when the `with` block ends."""
 
@@ -79,7 +88,7 @@ class Git:
 
     def __init__(self, *words, input=subprocess.DEVNULL):
         # What it said, a line each, is here once it has ended.
-        self.said, self.lines = tempfile.TemporaryFile(), []
+        self.said, self.lines = temporary(), []
         try:
             how = {"stdin": input, "stdout": subprocess.PIPE, "stderr": self.said, "env": {**environment(), **self.told_too}}
             how["pass_fds"] = self.kept_open
@@ -112,7 +121,7 @@ class Git:
 
 def git(*words, input=b""):
     """Runs git to its end, and returns its status, its output and what it said of an error."""
-    with tempfile.TemporaryFile() as given:
+    with temporary() as given:
         given.write(input)
         given.seek(0)
         with Git(*words, input=given) as ran:

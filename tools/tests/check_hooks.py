@@ -1,7 +1,9 @@
 """The checks of tools/test on the hooks of git gittuf: what a server refuses before it is taken, whole or not at all."""
 
 import os
+import signal
 import subprocess
+import time
 
 from checking import run, want
 from guarded_clones import MAIN, another
@@ -10,6 +12,8 @@ LOG, POLICY, ATTESTATIONS = (f"refs/gittuf/{it}" for it in ("reference-state-log
 EMPTY_TREE = "6ef19b41225c5369f1c104d45d8d85efa9b057b53b14b4b9b939dd74decc5321"
 TAKEN_WHOLE = "nothing of this push is taken"
 MANY = 64
+# So many pushes are killed.
+STOPS = 6
 
 
 def gated(repositories, name):
@@ -150,7 +154,7 @@ def takes_many_at_once(repositories):
 def takes_one_of_two(repositories):
     """of two pushes at once the second is judged after the first is whole, and recorded anew by push"""
     clones = gated(repositories, "gated races")
-    for round_ in range(3):
+    for round_ in range(2):
         for who, name in (("alice", f"a{round_}"), ("bob", f"b{round_}")):
             clones.git("branch", name, who=who)
             clones.gittuf(who, "record", name)
@@ -236,6 +240,12 @@ def stops_before_it_leaves(repositories):
     clones.git("push", "--quiet", "origin", "main:idea", who="bob")
     clones.git("init", "--quiet", "--bare", "--object-format=sha256", "plain.git", who="")
     clones.git("push", "--quiet", clones.path("plain.git"), "main", who="bob")
+    # A log that is broken here goes nowhere.
+    whole = clones.tip("bob", LOG)
+    odd = clones.git("commit-tree", "-p", whole, "-m", "none", EMPTY_TREE, who="bob").decode().strip()
+    clones.git("update-ref", LOG, odd, who="bob")
+    refused_here(clones, "bob", "--quiet", part=f"log-broken {odd}")
+    clones.git("update-ref", LOG, whole, who="bob")
     # Where the other was faster it is not told as unlawful.
     clones.git("branch", "late", who="bob")
     clones.gittuf("bob", "record", "late")
@@ -246,12 +256,44 @@ def stops_before_it_leaves(repositories):
     clones.gittuf("bob", "push", "late")
 
 
+def takes_all_or_nothing_when_stopped(repositories):
+    """a push that is killed at any of several moments has moved all or nothing, and the next one goes through"""
+    clones = gated(repositories, "gated stops")
+    words, ends = ("push", "--quiet", "--atomic", "origin", "main", f"{LOG}:{LOG}"), {"as before": 0, "done": 0}
+    clones.commit("alice")
+    clones.gittuf("alice", "record", "main")
+    start = time.monotonic()
+    clones.git(*words, who="alice")
+    whole = time.monotonic() - start
+    for it in range(STOPS):
+        clones.commit("alice")
+        clones.gittuf("alice", "record", "main")
+        before = there(clones)
+        ran = subprocess.Popen(("git", "-C", clones.path("alice"), *words), stderr=subprocess.DEVNULL, start_new_session=True)
+        try:
+            ran.wait(timeout=whole * (it + 0.5) / STOPS)
+        except subprocess.TimeoutExpired:
+            os.killpg(ran.pid, signal.SIGKILL)
+        ran.wait()
+        moved = [clones.tip("server.git", name) == clones.tip("alice", name) for name in (MAIN, LOG)]
+        want(moved[0], moved[1], f"whether main and the log moved alike in stop {it}")
+        want(moved[0] or there(clones) == before, True, f"whether nothing else moved in stop {it}")
+        ends["done" if moved[0] else "as before"] += 1
+        clones.git(*words, who="alice")
+    clones.sound("alice")
+    line = f"accepted {MAIN} {STOPS + 2} entries\n".encode()
+    want(run("git", "-C", clones.path("server.git"), "gittuf", "verify", "main")[1], line, "the server's verdict")
+    want(os.path.exists(clones.path("server.git/gittuf/trial")), False, "whether a mark of a trial is left")
+    return ", ".join(f"{number} {end}" for end, number in ends.items())
+
+
 CHECKS = (
     takes_what_is_lawful,
     refuses_what_is_not,
     leads_out_where_it_stood,
     takes_many_at_once,
     takes_one_of_two,
+    takes_all_or_nothing_when_stopped,
     keeps_hooks_of_others,
     stops_before_it_leaves,
 )

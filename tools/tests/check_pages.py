@@ -124,7 +124,7 @@ def tells_of_first_records(repositories):
     clones.git("branch", "idea", who="alice")
     _, said = at_terminal("git gittuf explain refs/heads/idea", clones.path("alice"))
     want("but for the paths of docs, of which its first record counts each" in said, True, f"what explain says: {said}")
-    part = "rule docs wants 1 of bob for a change of docs/page; missing is bob, who approves it by git gittuf approve v1"
+    part = "rule docs wants 1 of bob for a change of docs/page; missing is bob, who approves it by git gittuf approve refs/tags/v1"
     clones.refused("alice", "record", "v1", status=3, part=part)
     clones.git("push", "--quiet", "origin", "idea", "v1", "main", who="alice")
     clones.gittuf("alice", "push")

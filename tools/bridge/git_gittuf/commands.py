@@ -5,7 +5,7 @@ import os
 from git_gittuf import consents, copying, following, history, keys, leaves, looking, names, remotes, sentences, settings
 from git_gittuf.program import Ended
 from git_gittuf.remotes import is_before
-from git_gittuf.repository import ATTESTATIONS, LOG, ZEROS, Stopped
+from git_gittuf.repository import ATTESTATIONS, LOG, REMOTES, ZEROS, Stopped
 from git_gittuf.shown import plain, quoted
 from git_gittuf.telling import say, show
 
@@ -37,7 +37,7 @@ def key(work, words):
         keys.make(work.repository, path, words.height, words.width, words.bottom)
     if words.file and path not in work.repository.config("gittuf.key", "--type=path"):
         keys.expect_outside(work.repository, path)
-        work.repository.asked("write the settings", "config", "gittuf.key", path)
+        work.repository.set("gittuf.key", path)
     key_id, public = keys.id_and_public(path)
     print(key_id if words.id else public if words.public else f"key {key_id} {public}")
     if words.id or words.public:
@@ -130,20 +130,36 @@ def approved_by(work, name, target, path):
         raise
 
 
+def branch_here(repository, word, name):
+    """The name of a branch or tag that is here, or a refusal that names a remote's in its place."""
+    references = repository.references()
+    if os.fsencode(name) in references:
+        return name
+    beside = names.in_place_of(repository, references, os.fsencode(name))
+    if beside:
+        at = names.remote_branch(beside[0].name, beside[0].remote)[len(REMOTES) :]
+        way = f"git gittuf approve {quoted(word)} {quoted(os.fsdecode(at))} approves where {plain(beside[0].remote)} has it"
+    else:
+        way = f"git fetch --tags may bring it, and git gittuf approve {quoted(word)} COMMIT says where it may go"
+    raise Stopped(f"there is no branch or tag {plain(word)} here: {way}", 3)
+
+
 def approve(work, words):
     repository = work.repository
     name = os.fsdecode(names.own_name(repository, words.branch))
     expect_own(os.fsencode(name))
     if words.delete and words.commit:
         raise Stopped("--delete approves that a branch goes, and takes no commit", 2)
-    target = ZEROS if words.delete else repository.commit_of(words.commit or name)
+    target = ZEROS if words.delete else repository.commit_of(words.commit or branch_here(repository, words.branch, name))
     work.bring([] if words.delete else [target])
     path = leaves.signing_key(repository)
     expect_one_log(work, words.anyway)
     if not words.anyway:
         consents.expect_wanted(work, os.fsencode(name), None if words.delete else target, looking.key_id(path))
     show(approved_by(work, name, target, path))
-    shown, what = plain(names.short(os.fsencode(name))), "is gone" if words.delete else "has these files"
+    # A word that names nothing here was taken for a branch.
+    word = names.short(os.fsencode(name)) if os.fsencode(name) in repository.references() else name
+    shown, what = plain(word), "is gone" if words.delete else "has these files"
     say(f"Once it is pushed, who records that {shown} {what} has your signature for it.")
 
 

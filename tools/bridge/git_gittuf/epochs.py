@@ -64,6 +64,15 @@ def of_entries(repository, entries, root=None):
     With ids of keys the first one's root role is to have just these.
     """
     left = [(number, rest[1]) for number, _, kind, rest in entries if kind == b"ref" and rest[0] == POLICY]
+    asked = (*left, root)
+    if asked not in repository.epochs:
+        repository.epochs[asked] = asked_of(repository, left, root)
+    return list(repository.epochs[asked])
+
+
+def asked_of(repository, left, root):
+    """The same of entries for the policy, each as its number and the policy's id."""
+    left = list(left)
     objects = objects_of(repository, {target for _, target in left if target != ZEROS})
     while left:
         words = ("verify-ref", POLICY.decode(), *(("--root", root) if root else ()), "--stdin")

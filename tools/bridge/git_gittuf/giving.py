@@ -7,7 +7,6 @@ that is stopped is taken back by the next one, or finished.
 import json
 import os
 import re
-import tempfile
 
 from git_gittuf.remotes import move
 from git_gittuf.repository import TARGETS, ZEROS, Stopped
@@ -93,6 +92,9 @@ def in_order(found):
 
 
 def give_objects(repository, objects):
+    # Few calls want it, and it takes long to load.
+    import tempfile
+
     with tempfile.TemporaryFile() as file:
         pack = Pack(file)
         pack.add(EMPTY_TREE, b"tree", 0, [])
@@ -115,6 +117,8 @@ def known_to(repository, values):
 
 def give(repository, kept, before, after):
     """Puts into Git what the store has more, and moves the references at once, where they still are as before."""
+    # Who does not ask git gittuf may have moved them meanwhile.
+    repository.listed = None
     now = repository.own_references()
     changed = [name for name in after if after[name] != before.get(name)]
     moved = [it for it in changed if now.get(it) not in (before.get(it), after[it])]

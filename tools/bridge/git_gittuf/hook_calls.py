@@ -104,6 +104,7 @@ def hold(work, moves):
         ended = select.poll()
         ended.register(os.pidfd_open(receiver), select.POLLIN)
         while not ended.poll(1000):
+            work.repository.listed = None
             there = work.repository.all_references()
             if all(there.get(name) == new for name, (_, new) in moves.items()):
                 break

@@ -1,8 +1,8 @@
 """The log for a person and for a machine: beside the program's line who signed an entry, when, and what it says."""
 
-import datetime
 import json
 import re
+import time
 
 from git_gittuf import epochs, history, policies, signers
 from git_gittuf.shown import plain
@@ -15,8 +15,9 @@ def time_of(body):
     """When who signed says that it was, or nothing where that is no time."""
     found = TIME.search(body)
     try:
-        when = datetime.datetime.fromtimestamp(int(found[1]), datetime.timezone.utc) if found else None
-        return when and when.strftime("%Y-%m-%dT%H:%M:%SZ")
+        when = time.gmtime(int(found[1])) if found else None
+        # Each year has four digits.
+        return time.strftime("%Y-%m-%dT%H:%M:%SZ", when) if when and 1000 <= when.tm_year <= 9999 else None
     except (OverflowError, ValueError, OSError):
         return None
 

@@ -8,16 +8,17 @@ more once it can tell what a key's entry would be.
 
 import os
 import re
-import urllib.parse
 
 from git_gittuf import epochs, history, keys, policies, sentences, settings, signers
-from git_gittuf.names import short
+from git_gittuf.names import HEADS, short
 from git_gittuf.program import Ended
+from git_gittuf.remotes import fetched
 from git_gittuf.repository import ATTESTATIONS, LOG, ZEROS, Stopped
 from git_gittuf.shown import plain, quoted
 
 FAULT = re.compile(r"violation (\S+) (\d+) (\S+)(?: (.*))?")
 COUNTS = re.compile(r"(?:(\S+) )?(\S+) (\d+) of (\d+)")
+ESCAPED = re.compile(rb"%([0-9A-Fa-f]{2})")
 ANYWAY = "--anyway signs it all the same"
 
 
@@ -71,7 +72,7 @@ def last_counted(work, name):
 
 def unescaped(word):
     """A name as a policy has it, of which the program escapes what is no sign of a word."""
-    return os.fsdecode(urllib.parse.unquote_to_bytes(os.fsencode(word)))
+    return os.fsdecode(ESCAPED.sub(lambda it: bytes.fromhex(it[1].decode()), os.fsencode(word)))
 
 
 def rule_of(policy, word):
@@ -108,12 +109,22 @@ def reason(work, name, value, line, key):
     said = f"it would be a violation: rule {plain(unescaped(counts[2]))} wants {counts[4]} of {listing(wanted)} for {what}"
     if key not in policy.publics():
         return f"{said}, and your key is that of none of the policy's persons"
-    return f"{said}; missing is {' or '.join(map(plain, missing)) or 'one more'}, who approves it by {approval_of(name, value)}"
+    who = ' or '.join(map(plain, missing)) or 'one more'
+    return f"{said}; missing is {who}, who approves it by {approval_of(name, value)}{first_shown(work.repository, value)}"
+
+
+def first_shown(repository, value):
+    """How others get to see what they are to approve, where no remote has it."""
+    found = repository.remotes()
+    if value is None or not found or not repository.are_commits([value]) or fetched(repository, repository.references(), [value]):
+        return ""
+    return f", once git push {quoted(found[0])} {value.decode()[:12]}:refs/heads/idea, say, has shown it"
 
 
 def approval_of(name, value):
     """The line by which somebody approves a change."""
-    word = quoted(short(name))
+    # Who approves may not have it, and a word that is not there is taken for a branch.
+    word = quoted(short(name) if name.startswith(HEADS) else os.fsdecode(name))
     return f"git gittuf approve {'--delete ' + word if value is None else f'{word} {value.decode()[:12]}'}"
 
 

@@ -1,6 +1,5 @@
 """Which reference a word means: of those that are here, or a remote's in the place of one that is not."""
 
-import difflib
 import os
 
 from git_gittuf import remotes
@@ -66,6 +65,9 @@ def no_such(repository, word, recorded):
     known = {short(it) for it in (*references, *recorded) if it.startswith((HEADS, TAGS))}
     known |= {os.fsdecode(remote_branch(*it)[len(REMOTES) :]) for it in of_remotes(repository, references)}
     rest = next(word.removeprefix(it) for it in ("refs/heads/", "refs/tags/", "refs/", "heads/", "tags/", "") if word.startswith(it))
+    # Few calls want it, and it takes long to load.
+    import difflib
+
     near = difflib.get_close_matches(rest, sorted(known), n=3)
     like = f", and near is {' or '.join(map(quoted, near))}" if near else ""
     return Stopped(f"there is no branch or tag {plain(word)}, here or in the log{like}: git branch --all lists the branches", 3)

@@ -1,6 +1,5 @@
 """What a policy says, a line for each thing, and what a change of it would change."""
 
-import difflib
 import hashlib
 import json
 import os
@@ -96,5 +95,8 @@ def of_versions(force, draft):
 
 def of_change(force, draft):
     """What would change, a line for each thing that goes, with -, or comes, with +."""
+    # Few calls want it, and it takes long to load.
+    import difflib
+
     lines = difflib.ndiff(of_policy(force), of_policy(draft))
     return [plain(it) for it in (*filter(lambda line: line[0] in "+-", lines), *of_versions(force, draft))]

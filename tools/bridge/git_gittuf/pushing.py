@@ -24,12 +24,22 @@ def remote_of(work, words):
     return remote
 
 
+def checked_out(repository):
+    """The branch that is checked out, where it has a commit."""
+    name = repository.head()
+    return name if name in repository.references() else None
+
+
 def named(work, words):
     """The references that are to go, with where they stand, or nothing where they are gone."""
     repository = work.repository
-    given = words.branches or ["HEAD"]
+    if not words.branches:
+        name = checked_out(repository)
+        if name is None:
+            say("No branch is checked out, so what is below refs/gittuf/ goes alone.")
+        return {name: repository.references()[name]} if name else {}
     references, found = repository.references(), {}
-    for word in given:
+    for word in words.branches:
         name = names.own_name(repository, word)
         found[name] = references.get(name)
         if found[name] is None and name not in history.recorded_names(work):
@@ -37,13 +47,20 @@ def named(work, words):
     return found
 
 
-def expect_recorded(work, found):
+def is_there_already(repository, remote, name, value):
+    """Whether a branch stands at a remote as it does here, as far as was seen, so that a push leaves it where it is."""
+    return value is not None and name.startswith(names.HEADS) and repository.references().get(names.remote_branch(name, remote)) == value
+
+
+def expect_recorded(work, remote, found):
     """Refuses to push what a rule protects or the log speaks of where that has it elsewhere."""
     listed = history.entries(work.asked("log")) if LOG in work.repository.references() else []
     gone = history.skipped(work.repository, listed)
     last = {rest[0]: rest[1] for _, it, kind, rest in listed if kind == b"ref" and it not in gone}
     for name, value in found.items():
         if name in last and last[name] == (value or ZEROS) or name not in last and not (listed and verifying.is_protected(work, name)):
+            continue
+        if is_there_already(work.repository, remote, name, value):
             continue
         word = quoted(names.short(name))
         said = f"{plain(names.short(name))} stands where no entry of the log has it: git gittuf record {word} comes first"
@@ -68,6 +85,9 @@ def specs(work, remote, found, anyway):
 def pushed(work, remote, found, anyway):
     """Pushes at once, or nothing; returns whether that was done, and what git said of why not."""
     options, words = specs(work, remote, found, anyway)
+    if not words:
+        # Without a word Git would push what its settings name.
+        return True, ""
     settings = ("-c", f"{ANYWAY}=true") if anyway else ()
     with work.unlocked():
         with Git(*work.repository.where, *settings, "push", "--porcelain", "--atomic", *options, "--", remote, *words) as ran:
@@ -94,7 +114,7 @@ def push(work, words):
     for _ in range(TRIES):
         found = named(work, words)
         if not anyway:
-            expect_recorded(work, found)
+            expect_recorded(work, remote, found)
         done, why = pushed(work, remote, found, anyway)
         if done:
             seen.pushed(work.repository, remote)

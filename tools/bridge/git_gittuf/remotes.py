@@ -33,7 +33,7 @@ def lacking(repository, remote):
 
 def set_up(repository, remote):
     for name, value in (changes := lacking(repository, remote)):
-        repository.asked("write the settings", "config", "--add", name, value)
+        repository.set("--add", name, value)
     return changes
 
 

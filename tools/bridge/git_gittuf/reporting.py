@@ -1,6 +1,5 @@
 """One page of HTML for an auditor: the verdicts, the log with who signed it, the policy in words, and what this rests on."""
 
-import html
 import os
 import subprocess
 import types
@@ -33,6 +32,9 @@ COLOURS = ("#cfe3f7", "#d8efd3", "#f7e6c4", "#e7d9f2")
 
 
 def text(it):
+    # Few calls want it, and it takes long to load.
+    import html
+
     return html.escape(plain(str(it)))
 
 

@@ -4,11 +4,10 @@ import functools
 import os
 import re
 import subprocess
-import tempfile
 
 import stream_format
 from git_gittuf.shown import quoted
-from git_repositories import expect_no_part
+from git_repositories import expect_whole
 from stream_format import Git, Refused, git
 
 LOG = b"refs/gittuf/reference-state-log"
@@ -51,31 +50,34 @@ class Repository:
     """The repository of the call, which is in object format SHA-256 and has all its objects."""
 
     def __init__(self):
-        status, self.git_dir, said = asked_here("--git-dir")
-        if status:
+        # A bare one ends at the last word, and one that is none at the first.
+        status, told, said = asked_here("--git-dir", "--git-common-dir", "--show-object-format", "--is-shallow-repository", "--show-toplevel")
+        lines = told.split("\n") + [""] * 4
+        if not told:
             raise Stopped(f"here is no repository that git reads: {said}")
-        self.git_dir = os.path.realpath(self.git_dir)
-        self.common = os.path.realpath(asked_here("--git-common-dir")[1])
-        status, top, _ = asked_here("--show-toplevel")
-        self.top = None if status else os.path.realpath(top)
+        self.git_dir, self.common = (os.path.realpath(it) for it in lines[:2])
+        self.top = None if status else os.path.realpath(lines[4])
         self.folder = os.path.join(self.common, "gittuf")
-        # Whether the references are looked at as they are at one time, and how they are.
-        self.at_one_time, self.listed = False, None
+        # How the references were when they were looked at last, until they are to be looked at again.
+        self.listed = None
         # Where references are to stand by a push that is judged, or None where they are to go.
         self.pushed = {}
-        self.expect_format()
-        expect_no_part(self.top or self.git_dir, *self.where)
+        # The settings, once they are read, and what was found of the log's policies.
+        self.settings, self.epochs = None, {}
+        self.expect_format(lines[2])
+        expect_whole(self.top or self.git_dir, lines[3] == "true", self.all_settings())
 
     @property
     def where(self):
         """The words by which git finds this repository and no other."""
         return (f"--git-dir={self.git_dir}",)
 
-    def expect_format(self):
-        found = asked_here("--show-object-format")[1]
-        if found not in ("sha1", "sha256") or version_of_git() < OLDEST_GIT:
+    def expect_format(self, found):
+        if found not in ("sha1", "sha256"):
             have, want = (".".join(map(str, it)) for it in (version_of_git(), OLDEST_GIT))
-            raise Stopped(f"git is too old: this is {have}, and {want} or newer is wanted, which knows object ids of SHA-256")
+            if version_of_git() < OLDEST_GIT:
+                raise Stopped(f"git is too old: this is {have}, and {want} or newer is wanted, which knows object ids of SHA-256")
+            raise Stopped("git does not say where the repository is: a path with a line break in it is not taken")
         if found == "sha1":
             self.expect_commits()
             raise Stopped(
@@ -107,7 +109,7 @@ class Repository:
 
     def all_references(self):
         """The names below refs/ with the ids at which they stand, or would after a push that is judged."""
-        if self.listed is None or not self.at_one_time:
+        if self.listed is None:
             self.listed = self.list_references()
         found = {**self.listed, **self.pushed}
         return {name: value for name, value in found.items() if value}
@@ -125,7 +127,7 @@ class Repository:
 
     def lines(self, what, *words, input, tell=lambda count: None):
         """The lines that git prints, with a call for each so far, or the end of the call where it fails."""
-        with tempfile.TemporaryFile() as given:
+        with stream_format.temporary() as given:
             given.write(input)
             given.seek(0)
             with Git(*self.where, *words, input=given) as ran:
@@ -160,7 +162,7 @@ class Repository:
 
     def bodies(self, ids):
         """Each object of these ids that is there, as id, kind and body; the body of one past the limit is none."""
-        with tempfile.TemporaryFile() as given:
+        with stream_format.temporary() as given:
             given.write(b"".join(b"%s\n" % it for it in ids))
             given.seek(0)
             with Git(*self.where, "cat-file", "--batch", "--buffer", input=given) as ran:
@@ -173,9 +175,28 @@ class Repository:
                 if status:
                     raise Stopped(f"git did not give all objects: {said}")
 
+    def all_settings(self):
+        """The settings by their names, as git spells these, each with its values."""
+        if self.settings is None:
+            self.settings = {}
+            for it in self.git("config", "--list", "-z")[1].split(b"\0")[:-1]:
+                name, _, value = os.fsdecode(it).partition("\n")
+                self.settings.setdefault(name, []).append(value)
+        return self.settings
+
     def config(self, name, *how):
         """The values of a setting, none where it is not set."""
+        front, _, last = name.rpartition(".")
+        section, dot, middle = front.partition(".")
+        found = self.all_settings().get(f"{section.lower()}{dot}{middle}.{last.lower()}", [])
+        if not how or not found:
+            return found
         return [os.fsdecode(it) for it in self.git("config", *how, "--get-all", name)[1].splitlines()]
+
+    def set(self, *words):
+        """Writes a setting."""
+        self.settings = None
+        self.asked("write the settings", "config", *words)
 
     @functools.cache
     def remotes(self):

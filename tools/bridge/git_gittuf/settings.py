@@ -26,4 +26,4 @@ def held_to(repository):
 
 
 def keep(repository, name, value):
-    repository.asked("write the settings", "config", "--replace-all", name, value)
+    repository.set("--replace-all", name, value)

@@ -1,7 +1,6 @@
 """The words that git gittuf takes, and its page of use."""
 
 import argparse
-import difflib
 import re
 
 from git_gittuf import commands, doctor, explaining, hook_calls, hooks, listing, policy_commands, policy_edits, pushing, recovering, reporting, verifying
@@ -176,6 +175,9 @@ def expect_known(words):
     if words[:1] == ["policy"] and words[1:]:
         steps, known = words[1:], STEPS
     if not steps or steps[0] not in known:
+        # Few calls want it, and it takes long to load.
+        import difflib
+
         near = difflib.get_close_matches(steps[0], known) if steps else []
         said = f"{plain(steps[0])} is no word{' of policy' if known is STEPS else ''}" if steps else "a word is wanted"
         like = f", and near is {' or '.join(near)}" if near else ""

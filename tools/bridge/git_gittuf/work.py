@@ -28,7 +28,6 @@ class Work:
 
     def __init__(self, reads=False):
         self.repository = Repository()
-        self.repository.at_one_time = reads
         try:
             os.makedirs(self.repository.folder, exist_ok=True)
             self.lock = Lock(self.repository.folder, seconds_to_wait(self.repository))
@@ -102,6 +101,7 @@ class Work:
 
     def bring(self, extra=(), maybe=()):
         """Makes the store what Git is, after the own references went on where they may. Returns how many objects came."""
+        self.repository.listed = None
         wanted = copying.of_store(self.repository)
         changed = of_gittuf(wanted) != of_gittuf(self.kept.references())
         count = self.copy(extra, maybe)
@@ -111,6 +111,8 @@ class Work:
             status, printed = self.read("log")
             if not status:
                 targets.keep(self, history.entries(printed))
+                # It may have given back what Git had lost.
+                self.repository.epochs = {}
         if not self.kept.is_small():
             self.renew()
         return count
@@ -125,6 +127,8 @@ class Work:
             # It only changes what others changed as well, and never while they do.
             self.lock.take()
             self.kept.changes += 1
+            # What lacked may have come.
+            self.repository.epochs, self.repository.listed = {}, None
             self.mend()
 
     def renew(self):
