@@ -187,6 +187,8 @@ def names_what_is_missing(repositories):
     clones.git("init", "--quiet", "--object-format=sha256", "new", who="")
     clones.refused("new", "verify", status=3, part="git fetch")
     clones.git("init", "--quiet", "--object-format=sha1", "old", who="")
+    clones.refused("old", "verify", status=4, part="and nothing in it: git init -b main --object-format=sha256 ../new begins one")
+    clones.git("commit", "--quiet", "--allow-empty", "--message", "something", who="old")
     clones.refused("old", "verify", status=4, part="git fast-export")
     source = f"file://{clones.path('alice')}"
     clones.git("clone", "--quiet", "--depth=1", source, "shallow", who="")

@@ -1,178 +1,10 @@
-"""The checks of tools/test on the hooks of git gittuf: what a server refuses before it is taken, whole or not at all."""
+"""The checks of tools/test on the hook of a clone, and on hooks of others that stand where one is installed."""
 
 import os
-import signal
-import subprocess
-import time
 
+from check_gate import EMPTY_TREE, LOG, there
 from checking import run, want
 from guarded_clones import MAIN, another
-
-LOG, POLICY, ATTESTATIONS = (f"refs/gittuf/{it}" for it in ("reference-state-log", "policy", "attestations"))
-EMPTY_TREE = "6ef19b41225c5369f1c104d45d8d85efa9b057b53b14b4b9b939dd74decc5321"
-TAKEN_WHOLE = "nothing of this push is taken"
-MANY = 64
-# So many pushes are killed.
-STOPS = 6
-
-
-def gated(repositories, name):
-    """A server whose hook judges, clones of two maintainers, and that of a stranger who may write to the server."""
-    clones = another(repositories, name)
-    clones.gittuf("server.git", "hook", "install", "--server")
-    clones.clone("mallory")
-    return clones
-
-
-def there(clones):
-    return clones.git("for-each-ref", "--format=%(refname) %(objectname)", who="server.git").decode()
-
-
-def denied(clones, who, *words, part):
-    """Holds a push to one that the server refuses as a whole, with this part of what the person who pushes is told."""
-    before = there(clones)
-    status, _, errors = run("git", "-C", clones.path(who), "push", *words)
-    told = " ".join(errors.decode().replace("remote: ", "").split())
-    want((status != 0, there(clones) == before), (True, True), f"whether a push of {words} was refused, and nothing moved: {told}")
-    for it in (part, TAKEN_WHOLE):
-        want(it in told, True, f"whether who pushes is told {it!r}: {told}")
-    left = clones.path("server.git/gittuf/trial")
-    want(os.path.exists(left), False, "whether a mark of a trial is left")
-
-
-def takes_what_is_lawful(repositories):
-    """the hook of a server takes what two maintainers record, approve and bring into force, and is told by no clone"""
-    clones = gated(repositories, "gated")
-    clones.commit("alice")
-    clones.gittuf("alice", "record", "main")
-    clones.gittuf("alice", "push")
-    clones.git("pull", "--quiet", who="bob")
-    clones.commit("bob", "docs/page")
-    clones.gittuf("bob", "record", "main")
-    clones.gittuf("bob", "note", "1", "-m", "seen")
-    clones.git("push", "--quiet", who="bob")
-    clones.git("pull", "--quiet", who="alice")
-    clones.gittuf("alice", "policy", "rule", "releases", "git:refs/tags/v*", "--persons", "alice")
-    clones.sign("alice")
-    clones.git("push", "--quiet", who="alice")
-    clones.gittuf("alice", "policy", "apply")
-    clones.git("tag", "v1", who="alice")
-    clones.gittuf("alice", "record", "v1")
-    clones.gittuf("alice", "push", "main", "v1")
-    clones.git("branch", "idea", who="bob")
-    clones.git("push", "--quiet", "origin", "idea", who="bob")
-    clones.git("push", "--quiet", "origin", ":idea", who="bob")
-    clones.git("fetch", "--quiet", "--tags", who="bob")
-    for who in ("alice", "bob"):
-        clones.gittuf(who, "verify")
-    clones.verdict("alice", f"accepted {MAIN} 3 entries")
-    clones.sound("alice", "bob")
-    # The server is asked as any clone is.
-    want(run("git", "-C", clones.path("server.git"), "gittuf", "verify", "main")[1], f"accepted {MAIN} 3 entries\n".encode(), "its verdict")
-
-
-def refuses_what_is_not(repositories):
-    """a stranger's entry, forced push, deletion, policy, tag and log are refused, each as a whole, with the line and a sentence"""
-    clones = gated(repositories, "gated strangers")
-    first, log = clones.tip("mallory"), clones.tip("server.git", LOG)
-    clones.gittuf("alice", "policy", "rule", "releases", "git:refs/tags/v*", "--persons", "alice")
-    clones.sign("alice")
-    clones.gittuf("alice", "policy", "apply")
-    clones.gittuf("alice", "push")
-    clones.git("fetch", "--quiet", who="mallory")
-    clones.gittuf("mallory", "log")
-    evil = clones.commit("mallory", "evil")
-    part = "main would stand at"
-    denied(clones, "mallory", "origin", "main", part=f"tip-differs {MAIN} kept {evil} recorded {first}")
-    denied(clones, "mallory", "origin", "main", "main:topic", part=part)
-    amended = ("commit", "--quiet", "--amend", "-m", "another first one", "--allow-empty")
-    clones.git("branch", "kept", who="mallory")
-    clones.git("reset", "--quiet", "--hard", first, who="mallory")
-    clones.git(*amended, who="mallory")
-    denied(clones, "mallory", "--force", "origin", "main", part=part)
-    clones.git("reset", "--quiet", "--hard", "kept", who="mallory")
-    denied(clones, "mallory", "origin", "--delete", "main", part="main would be gone, and the log has it at")
-    denied(clones, "mallory", "origin", "main:refs/tags/v1", part="v1 would stand at")
-    denied(clones, "mallory", "origin", f"main:{POLICY}", "--force", part=f"tip-differs {POLICY}")
-    clones.gittuf("mallory", "record", "main", "--anyway")
-    denied(clones, "mallory", "origin", "main", f"{LOG}:{LOG}", part=f"violation {MAIN} 4 ref-rule main 0 of 1")
-    # An entry without its push, and another log.
-    denied(clones, "mallory", "origin", f"{LOG}:{LOG}", part=f"violation {MAIN} 4 broken {evil}")
-    odd = clones.git("commit-tree", "-p", clones.tip("server.git", LOG), "-m", "none", EMPTY_TREE, who="mallory").decode().strip()
-    denied(clones, "mallory", "origin", f"{odd}:{LOG}", part=f"log-broken {odd}")
-    denied(clones, "mallory", "--force", "origin", f"{log}:{LOG}", part="the log would go back from entry 3 to entry 2")
-    apart = clones.git("commit-tree", "-p", log, "-m", "none", EMPTY_TREE, who="mallory").decode().strip()
-    denied(clones, "mallory", "--force", "origin", f"{apart}:{LOG}", part="the log goes on from another entry")
-    denied(clones, "mallory", "origin", "--delete", LOG, part="the log is not to go")
-    kept = clones.git("for-each-ref", "--format=%(refname)", "refs/gittuf/targets/", who="server.git").decode().split()
-    if kept:
-        denied(clones, "mallory", "origin", "--delete", kept[0], part="keeps what an entry recorded, and is not to go")
-    # A note of a stranger says nothing of lawfulness.
-    clones.gittuf("mallory", "doctor", "--take", "origin", "--anyway")
-    clones.git("fetch", "--quiet", "--force", "origin", "refs/gittuf/*:refs/gittuf/*", who="mallory")
-    clones.gittuf("mallory", "note", "1")
-    clones.git("push", "--quiet", "origin", f"{LOG}:{LOG}", who="mallory")
-
-
-def leads_out_where_it_stood(repositories):
-    """where a violation stood before the hook, it is led out of through it, and nothing else goes on from there"""
-    clones = another(repositories, "gated later")
-    clones.clone("mallory")
-    clones.commit("mallory", "evil")
-    clones.gittuf("mallory", "record", "main", "--anyway")
-    clones.gittuf("mallory", "push")
-    clones.gittuf("server.git", "hook", "install", "--server")
-    clones.git("pull", "--quiet", who="bob")
-    clones.commit("bob")
-    clones.gittuf("bob", "record", "main", "--anyway")
-    denied(clones, "bob", "origin", "main", f"{LOG}:{LOG}", part="main stands in violation since entry 3, and this push would not end it")
-    clones.git("pull", "--quiet", who="alice")
-    said = run("git", "-C", clones.path("alice"), "gittuf", "recover", "main")[2].decode()
-    clones.git("push", "--quiet", "origin", f"{LOG}:{LOG}", who="alice")
-    clones.copied("alice", said.partition(" are wanted: ")[2].strip())
-    clones.gittuf("alice", "push")
-    clones.verdict("alice", f"accepted {MAIN} 3 entries")
-
-
-def takes_many_at_once(repositories):
-    """64 references in one push are judged at once: branches that are recorded are taken, and with one that is not none of them is"""
-    clones = gated(repositories, "gated many")
-    clones.gittuf("alice", "policy", "rule", "all", "git:refs/heads/r*", "--persons", "alice")
-    clones.sign("alice")
-    clones.gittuf("alice", "policy", "apply")
-    clones.gittuf("alice", "push")
-    names = [f"free-{it}" for it in range(MANY - 2)]
-    for it in (*names, "r1", "r2"):
-        clones.git("branch", it, who="alice")
-    clones.gittuf("alice", "record", "r1")
-    denied(clones, "alice", "origin", *names, "r1", "r2", f"{LOG}:{LOG}", part="r2 would stand at")
-    clones.gittuf("alice", "record", "r2")
-    clones.git("push", "--quiet", "origin", *names, "r1", "r2", f"{LOG}:{LOG}", who="alice")
-    want(there(clones).count("refs/heads/"), MANY + 1, "how many branches the server has")
-
-
-def takes_one_of_two(repositories):
-    """of two pushes at once the second is judged after the first is whole, and recorded anew by push"""
-    clones = gated(repositories, "gated races")
-    for round_ in range(2):
-        for who, name in (("alice", f"a{round_}"), ("bob", f"b{round_}")):
-            clones.git("branch", name, who=who)
-            clones.gittuf(who, "record", name)
-        at_once = [("alice", f"a{round_}"), ("bob", f"b{round_}")]
-        ran = [subprocess.Popen(("git", "-C", clones.path(who), "push", "--quiet", "origin", name, f"{LOG}:{LOG}"), stderr=subprocess.PIPE)
-               for who, name in at_once]  # fmt: skip
-        told = [it.communicate()[1].decode() for it in ran]
-        ended = sorted(bool(it.returncode) for it in ran)
-        want(ended, [False, True], f"which of two pushes at once were refused: {told}")
-        branches = [it.split("/")[-1].split()[0] for it in there(clones).splitlines() if it.startswith(f"refs/heads/{('a', 'b')[ran[0].returncode != 0]}")]
-        want(at_once[ran[0].returncode != 0][1] in branches, True, "whether the branch of the one that was taken is there")
-        loser = at_once[ran[0].returncode == 0]
-        want(f"refs/heads/{loser[1]} " in there(clones), False, "whether that of the other is")
-        for who, name in at_once:
-            clones.gittuf(who, "push", name)
-        for who, _ in at_once:
-            clones.git("fetch", "--quiet", who=who)
-            clones.gittuf(who, "verify")
 
 
 def keeps_hooks_of_others(repositories):
@@ -241,6 +73,7 @@ def stops_before_it_leaves(repositories):
     clones.git("init", "--quiet", "--bare", "--object-format=sha256", "plain.git", who="")
     clones.git("push", "--quiet", clones.path("plain.git"), "main", who="bob")
     # A log that is broken here goes nowhere.
+    clones.gittuf("bob", "log")
     whole = clones.tip("bob", LOG)
     odd = clones.git("commit-tree", "-p", whole, "-m", "none", EMPTY_TREE, who="bob").decode().strip()
     clones.git("update-ref", LOG, odd, who="bob")
@@ -256,44 +89,7 @@ def stops_before_it_leaves(repositories):
     clones.gittuf("bob", "push", "late")
 
 
-def takes_all_or_nothing_when_stopped(repositories):
-    """a push that is killed at any of several moments has moved all or nothing, and the next one goes through"""
-    clones = gated(repositories, "gated stops")
-    words, ends = ("push", "--quiet", "--atomic", "origin", "main", f"{LOG}:{LOG}"), {"as before": 0, "done": 0}
-    clones.commit("alice")
-    clones.gittuf("alice", "record", "main")
-    start = time.monotonic()
-    clones.git(*words, who="alice")
-    whole = time.monotonic() - start
-    for it in range(STOPS):
-        clones.commit("alice")
-        clones.gittuf("alice", "record", "main")
-        before = there(clones)
-        ran = subprocess.Popen(("git", "-C", clones.path("alice"), *words), stderr=subprocess.DEVNULL, start_new_session=True)
-        try:
-            ran.wait(timeout=whole * (it + 0.5) / STOPS)
-        except subprocess.TimeoutExpired:
-            os.killpg(ran.pid, signal.SIGKILL)
-        ran.wait()
-        moved = [clones.tip("server.git", name) == clones.tip("alice", name) for name in (MAIN, LOG)]
-        want(moved[0], moved[1], f"whether main and the log moved alike in stop {it}")
-        want(moved[0] or there(clones) == before, True, f"whether nothing else moved in stop {it}")
-        ends["done" if moved[0] else "as before"] += 1
-        clones.git(*words, who="alice")
-    clones.sound("alice")
-    line = f"accepted {MAIN} {STOPS + 2} entries\n".encode()
-    want(run("git", "-C", clones.path("server.git"), "gittuf", "verify", "main")[1], line, "the server's verdict")
-    want(os.path.exists(clones.path("server.git/gittuf/trial")), False, "whether a mark of a trial is left")
-    return ", ".join(f"{number} {end}" for end, number in ends.items())
-
-
 CHECKS = (
-    takes_what_is_lawful,
-    refuses_what_is_not,
-    leads_out_where_it_stood,
-    takes_many_at_once,
-    takes_one_of_two,
-    takes_all_or_nothing_when_stopped,
     keeps_hooks_of_others,
     stops_before_it_leaves,
 )

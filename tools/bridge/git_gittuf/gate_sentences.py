@@ -35,7 +35,9 @@ def of_violation(line):
     return f"{sentences.of_fault(line)} {GIVE_UP}."
 
 
-def of_older(name, number):
+def of_older(name, line):
     """Of a reference that stands in violation already, and would after the push."""
-    shown, word = plain(short(name)), quoted(short(name))
+    shown, word, number = plain(short(name)), quoted(short(name)), line.split(" ")[2]
+    if line.split(" ")[3] == "no-policy":
+        return f"{shown} was recorded in entry {number} before the first policy was in force, which nothing leads out of: another branch may go on from it"
     return f"{shown} stands in violation since entry {number}, and this push would not end it: git gittuf recover {word} leads out"

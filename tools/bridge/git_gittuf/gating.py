@@ -6,7 +6,7 @@ speaks of it. The program judges, over the store as it would be after the push.
 
 import os
 
-from git_gittuf import damage, epochs, following, gate_sentences, history, looking, verifying
+from git_gittuf import damage, epochs, following, gate_sentences, history, looking, settings, verifying
 from git_gittuf.program import Ended
 from git_gittuf.remotes import is_before
 from git_gittuf.repository import ATTESTATIONS, LOG, OWN, POLICY, STAGED, TARGETS, ZEROS, Stopped
@@ -48,6 +48,11 @@ def of_log(work, push):
     if not repository.are_commits([new]):
         return f"the log is to stand at {new.decode()[:12]}, which is no commit"
     if is_before(repository, old, new):
+        return None
+    whole, _ = following.last_whole(work, old)
+    if whole != old and (whole is None or is_before(repository, whole, new)):
+        # It is none beyond that entry, and so it is mended.
+        push.log = whole, new
         return None
     if is_before(repository, new, old):
         return f"the log would go back from entry {following.count_of(repository, old)} to entry {following.count_of(repository, new)}"
@@ -140,19 +145,32 @@ class Gate:
         stays = self.push.after().get(name, last) or ZEROS
         if name == POLICY:
             # One that somebody recorded in vain says nothing of those that come later.
-            lawful = {number for number, _ in epochs.of_entries(self.work.repository, self.entries)}
+            root = settings.held_to(self.work.repository)
+            lawful = {number for number, _ in epochs.of_entries(self.work.repository, self.entries, root)}
             odd = [it[0] for it in new if it[0] not in lawful]
             if odd:
                 return line, f"entry {odd[0]} records a policy that does not follow the one in force"
-            return None if stays == last else (line, gate_sentences.of_older(name, found[2]))
-        # What was recorded before the first policy is in no recovery, and would keep all from being pushed.
-        if found[3] == "no-policy" and stays == last:
-            return None
-        return line, gate_sentences.of_older(name, found[2])
+            return None if stays == last else (line, gate_sentences.of_older(name, line))
+        return line, gate_sentences.of_older(name, line)
+
+
+def in_the_way(names, name):
+    """Those of these names that Git cannot have beside another one, of which the one is a folder of the other."""
+    return [it for it in names if it.startswith(name + b"/") or name.startswith(it + b"/")]
+
+
+def of_folders(work, push):
+    """In a sentence which names of the push Git cannot have beside others, or nothing."""
+    after = {**work.repository.references(), **push.after()}
+    names = [it for it, value in after.items() if value]
+    for name in (it for it in push.moves if after[it]):
+        for other in in_the_way(names, name):
+            return f"{plain_name(name)} and {plain_name(other)} cannot stand side by side"
+    return None
 
 
 def judged(work, push):
-    said = of_log(work, push)
+    said = of_log(work, push) or of_folders(work, push)
     if said:
         return [(None, said)]
     if push.log[1] is None:

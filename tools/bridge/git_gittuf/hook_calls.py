@@ -66,6 +66,9 @@ def before_push(work, words, lines):
     spoken = [it for it in gating.spoken_of(work, log) if it not in moves]
     if spoken:
         moves.update({name: (value, value) for name, value in asked_where(repository, place, spoken).items()})
+    # What stands here and lies in the way of what is pushed may not be there.
+    own = [it for it in repository.references() if it not in moves]
+    moves.update({it: (None, None) for name, (_, new) in list(moves.items()) if new for it in gating.in_the_way(own, name)})
     gating.expect_none(work, Push(moves, log))
     return 0
 
