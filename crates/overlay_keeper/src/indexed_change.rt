@@ -12,29 +12,29 @@ use std::alloc::Global;
 use std::collections::BTreeMap;
 use std::marker::Model;
 
-/// A change, and the place of each of its objects. It is made once, and then lent to as many overlays as are wanted.
+/// A change, and the place of each of its objects. It is made once, and then lent to overlays.
 #[derive(Drop)]
-pub struct IndexedChange<'a> {
-    change: &'a Change,
+pub struct IndexedChange {
+    change: Change,
     places: BTreeMap<ObjectId, usize>,
 }
 
-impl<'a> Model for IndexedChange<'a> {
+impl Model for IndexedChange {
     ghost use Rattle.keeper_api.specs.declared.changes.Change.{Change};
     ghost use Rattle.overlay_keeper.specs.Overlaying.{AreLast};
 
     ghost Value = { Change };
 
-    ghost view = { λ c. c.change.now };
+    ghost view = { λ c. c.change };
 
-    ghost invariant = { λ c. AreLast c.change.now.objects c.places };
+    ghost invariant = { λ c. AreLast c.change.objects c.places };
 }
 
-impl<'a> IndexedChange<'a> {
+impl IndexedChange {
     /// The change with the places of its objects. It takes memory for these alone, and hashes nothing that is hashed
     /// already.
-    pub fn new(alloc: Global, change: &'a Change) -> Result<IndexedChange<'a>, Memory>
-        ensures { IfOk result (λ indexed. indexed ≡ change.now) }
+    pub fn new(alloc: Global, change: Change) -> Result<IndexedChange, Memory>
+        ensures { IfOk result (λ indexed. indexed ≡ change) }
     {
         let places = places_of(alloc, change.objects.as_slice())?;
         Ok(IndexedChange { change, places })

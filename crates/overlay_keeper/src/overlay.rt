@@ -20,9 +20,9 @@ use std::alloc::Global;
 /// be asked of objects alone: each other call is answered by `Memory`. Nothing is ever changed, and once it is dropped the
 /// store under it is as it was.
 #[derive(Drop)]
-pub struct Overlay<'a, 'b, R: Keeper> {
+pub struct Overlay<'a, R: Keeper> {
     pub under: &'a mut R,
-    pub change: &'a IndexedChange<'b>,
+    pub change: &'a IndexedChange,
     pub reads: u64,
 }
 
@@ -37,7 +37,7 @@ fn copied_object(change: &IndexedChange, id: &ObjectId) -> Result<Option<Object>
     }
 }
 
-impl<'a, 'b, R: Keeper> Keeper for Overlay<'a, 'b, R> {
+impl<'a, R: Keeper> Keeper for Overlay<'a, R> {
     ghost content = { λ k. over k.change.now (R.content k.under.now) };
 
     ghost tells_left = { λ k. false };
