@@ -128,7 +128,8 @@ def leads_out_where_it_stood(repositories):
     clones.gittuf("mallory", "record", "main", "--anyway")
     clones.gittuf("mallory", "push")
     clones.git("pull", "--quiet", who="bob")
-    # Nor is a log that was broken before.
+    clones.gittuf("bob", "log")
+    # A log that was broken before is set back to what is whole.
     odd = clones.git("commit-tree", "-p", LOG, "-m", "none", EMPTY_TREE, who="server.git").decode().strip()
     clones.git("update-ref", LOG, odd, who="server.git")
     clones.gittuf("server.git", "hook", "install", "--server")

@@ -73,6 +73,7 @@ def stops_before_it_leaves(repositories):
     clones.git("init", "--quiet", "--bare", "--object-format=sha256", "plain.git", who="")
     clones.git("push", "--quiet", clones.path("plain.git"), "main", who="bob")
     # A log that is broken here goes nowhere.
+    clones.git("fetch", "--quiet", who="bob")
     clones.gittuf("bob", "log")
     whole = clones.tip("bob", LOG)
     odd = clones.git("commit-tree", "-p", whole, "-m", "none", EMPTY_TREE, who="bob").decode().strip()
