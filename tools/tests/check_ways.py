@@ -154,6 +154,39 @@ def pushes_all_or_nothing(repositories):
     want(clones.git("for-each-ref", who="server.git"), before, "what the server has after a push that failed")
 
 
+def pushes_the_log_alone(repositories):
+    """a policy, a note and an approval reach others while a branch waits for its signatures, and where no branch is checked out"""
+    clones = another(repositories, "log alone")
+    clones.git("switch", "--quiet", "--create", "release-1", who="alice")
+    clones.git("push", "--quiet", "origin", "release-1", who="alice")
+    clones.gittuf("alice", "policy", "rule", "releases", "refs/heads/release-*", "--persons", "alice,bob", "--threshold", "2")
+    clones.sign("alice")
+    clones.gittuf("alice", "policy", "apply")
+    clones.commit("alice")
+    tip = clones.tip("alice", "release-1")
+    part = f"missing is bob, who approves it by git gittuf approve release-1 {tip[:12]}, once git push origin {tip[:12]}:refs/heads/idea, say, has shown it"
+    clones.refused("alice", "record", "release-1", status=3, part=part)
+    clones.git("reset", "--quiet", "--hard", "HEAD~1", who="alice")
+    clones.gittuf("alice", "push")
+    want(clones.tip("server.git", LOG), clones.tip("alice", LOG), "where the log of the server stands")
+    clones.git("switch", "--quiet", "--detach", who="alice")
+    clones.gittuf("alice", "note", "1")
+    want(clones.gittuf("alice", "push"), b"", "what push prints where no branch is checked out")
+    want(clones.tip("server.git", LOG), clones.tip("alice", LOG), "where the log of the server stands then")
+    clones.git("fetch", "--quiet", who="bob")
+    part = "there is no branch or tag v9 here: git fetch --tags may bring it, and git gittuf approve v9 COMMIT says where it may go"
+    clones.refused("bob", "approve", "v9", status=3, part=part)
+    part = "there is no branch or tag release-1 here: git gittuf approve release-1 origin/release-1 approves where origin has it"
+    clones.refused("bob", "approve", "release-1", status=3, part=part)
+    clones.gittuf("bob", "approve", "release-1", "origin/release-1")
+    clones.gittuf("bob", "push")
+    clones.git("fetch", "--quiet", who="alice")
+    clones.git("switch", "--quiet", "release-1", who="alice")
+    clones.gittuf("alice", "record", "release-1")
+    clones.gittuf("alice", "push")
+    clones.verdict("alice", "accepted refs/heads/release-1 1 entries", name="refs/heads/release-1")
+
+
 def records_anew_after_a_race(repositories):
     """of two who record at once the second records anew after the first by push or sync, as far as that is lawful, and an approval too"""
     clones = another(repositories, "raced")
@@ -198,5 +231,6 @@ CHECKS = (
     begins_no_second_log,
     tells_what_is_behind,
     pushes_all_or_nothing,
+    pushes_the_log_alone,
     records_anew_after_a_race,
 )
