@@ -9,7 +9,7 @@ import os
 from git_gittuf import damage, epochs, following, gate_sentences, history, looking, settings, verifying
 from git_gittuf.program import Ended
 from git_gittuf.remotes import is_before
-from git_gittuf.repository import ATTESTATIONS, LOG, OWN, POLICY, STAGED, TARGETS, ZEROS, Stopped
+from git_gittuf.repository import ATTESTATIONS, LOG, OWN, POLICY, TARGETS, ZEROS, Stopped
 from git_gittuf.shown import plain_name
 from git_gittuf.telling import tell
 from stream_format import is_reference_name
@@ -67,7 +67,7 @@ def spoken_of(work, log):
         return []
     count = following.count_of(work.repository, old) if old and work.repository.are_commits([old]) else 0
     listed = [rest[0] for _, _, kind, rest in history.entries(printed)[count:] if kind == b"ref"]
-    return [it for it in dict.fromkeys(listed) if it not in (LOG, STAGED)]
+    return [it for it in dict.fromkeys(listed) if it != LOG]
 
 
 class Gate:
@@ -95,7 +95,7 @@ class Gate:
     def names(self):
         """The references that are judged: those that move, and those of which new entries speak."""
         found = dict.fromkeys([*self.push.moves, *(rest[0] for *_, rest in self.new)])
-        return [it for it in found if it not in (LOG, STAGED)]
+        return [it for it in found if it != LOG]
 
     def is_guarded(self, name):
         if name in self.recorded or name in (POLICY, ATTESTATIONS):
@@ -109,8 +109,10 @@ class Gate:
         return list(filter(None, (self.of_name(it) for it in self.names())))
 
     def of_name(self, name):
-        if name.startswith(TARGETS):
-            return self.of_target(name)
+        if name.startswith(TARGETS) and name in self.push.moves:
+            said = self.of_target(name)
+            if said:
+                return said
         if not is_reference_name(name):
             return self.of_odd(name)
         if not self.is_guarded(name):

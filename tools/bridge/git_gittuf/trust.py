@@ -2,7 +2,7 @@
 
 import sys
 
-from git_gittuf import epochs, history, policies
+from git_gittuf import epochs, history, policies, signers
 from git_gittuf.repository import LOG, Stopped
 from git_gittuf.settings import KEY_IDS, SAID, SEEN, keep, key_ids
 from git_gittuf.shown import plain
@@ -33,7 +33,9 @@ def see(work):
         return None
     keep(work.repository, SEEN, root)
     who = ", ".join(map(plain, policy.role("root").get("persons", []))) or "these keys"
-    way = f"ask them for the ids of their keys, and git gittuf setup --root {root} pins it"
+    # Nobody else is to be asked for one's own key.
+    asked = "" if root == signers.own_key(work.repository) else "ask them for the ids of their keys, and "
+    way = f"{asked}git gittuf setup --root {root} pins it"
     print(f"git-gittuf: the first policy seen here is that of {who}, and each later one is to come from it: {way}", file=sys.stderr, flush=True)
     return root
 
