@@ -71,6 +71,22 @@ def takes_what_is_lawful(repositories):
     want(run("git", "-C", clones.path("server.git"), "gittuf", "verify", "main")[1], f"accepted {MAIN} 3 entries\n".encode(), "its verdict")
 
 
+def refuses_logs(clones, evil, log):
+    """An entry that is not lawful, one without its push, and a log that is none, is cut, goes another way, or goes."""
+    clones.gittuf("mallory", "record", "main", "--anyway")
+    denied(clones, "mallory", "origin", "main", f"{LOG}:{LOG}", part=f"violation {MAIN} 4 ref-rule main 0 of 1")
+    # An entry without its push, and another log.
+    denied(clones, "mallory", "origin", f"{LOG}:{LOG}", part=f"violation {MAIN} 4 broken {evil}")
+    odd = clones.git("commit-tree", "-p", clones.tip("server.git", LOG), "-m", "none", EMPTY_TREE, who="mallory").decode().strip()
+    denied(clones, "mallory", "origin", f"{odd}:{LOG}", part=f"log-broken {odd}")
+    denied(clones, "mallory", "--force", "origin", f"{log}:{LOG}", part="the log would go back from entry 3 to entry 2")
+    apart = clones.git("commit-tree", "-p", log, "-m", "none", EMPTY_TREE, who="mallory").decode().strip()
+    denied(clones, "mallory", "--force", "origin", f"{apart}:{LOG}", part="the log goes on from another entry")
+    denied(clones, "mallory", "origin", "--delete", LOG, part="the log is not to go")
+    kept = clones.git("for-each-ref", "--format=%(refname)", "refs/gittuf/targets/", who="server.git").decode().split()
+    denied(clones, "mallory", "origin", "--delete", kept[0], part="keeps what an entry recorded, and is not to go")
+
+
 def refuses_what_is_not(repositories):
     """a stranger's entry, forced push, deletion, policy, tag and log are refused, each as a whole, with the line and a sentence"""
     clones = gated(repositories, "gated strangers")
@@ -94,19 +110,7 @@ def refuses_what_is_not(repositories):
     denied(clones, "mallory", "origin", "--delete", "main", part="main would be gone, and the log has it at")
     denied(clones, "mallory", "origin", "main:refs/tags/v1", part="v1 would stand at")
     denied(clones, "mallory", "origin", f"main:{POLICY}", "--force", part=f"tip-differs {POLICY}")
-    clones.gittuf("mallory", "record", "main", "--anyway")
-    denied(clones, "mallory", "origin", "main", f"{LOG}:{LOG}", part=f"violation {MAIN} 4 ref-rule main 0 of 1")
-    # An entry without its push, and another log.
-    denied(clones, "mallory", "origin", f"{LOG}:{LOG}", part=f"violation {MAIN} 4 broken {evil}")
-    odd = clones.git("commit-tree", "-p", clones.tip("server.git", LOG), "-m", "none", EMPTY_TREE, who="mallory").decode().strip()
-    denied(clones, "mallory", "origin", f"{odd}:{LOG}", part=f"log-broken {odd}")
-    denied(clones, "mallory", "--force", "origin", f"{log}:{LOG}", part="the log would go back from entry 3 to entry 2")
-    apart = clones.git("commit-tree", "-p", log, "-m", "none", EMPTY_TREE, who="mallory").decode().strip()
-    denied(clones, "mallory", "--force", "origin", f"{apart}:{LOG}", part="the log goes on from another entry")
-    denied(clones, "mallory", "origin", "--delete", LOG, part="the log is not to go")
-    kept = clones.git("for-each-ref", "--format=%(refname)", "refs/gittuf/targets/", who="server.git").decode().split()
-    if kept:
-        denied(clones, "mallory", "origin", "--delete", kept[0], part="keeps what an entry recorded, and is not to go")
+    refuses_logs(clones, evil, log)
     clones.git("config", "gittuf.root", clones.gittuf("mallory", "key", "--id").decode().strip(), who="server.git")
     clones.commit("alice")
     clones.gittuf("alice", "record", "main")

@@ -7,9 +7,11 @@ import re
 
 # Numbers beside the limits of formats and of machines.
 EDGES = (0, 1, 2, 31, 32, 33, 64, 65, 127, 128, 255, 256, 257, 399, 400, 1023, 1024, 1025, 4096, 65535, 65536, 262144)
-EDGES += (1 << 20, (1 << 20) + 1, 1 << 24, (1 << 24) + 1, (1 << 31) - 1, 1 << 31, (1 << 32) - 1, 1 << 32, (1 << 63) - 1, 1 << 63, (1 << 64) - 1, 1 << 64, 10**40)
+EDGES += (1 << 20, (1 << 20) + 1, 1 << 24, (1 << 24) + 1, (1 << 31) - 1, 1 << 31, (1 << 32) - 1, 1 << 32)
+EDGES += ((1 << 63) - 1, 1 << 63, (1 << 64) - 1, 1 << 64, 10**40)
 TEXTS = (b"", b" ", b"\n", b"\0", b"\r\n", b"-", b"--", b"/", b"..", b"refs/", b"refs/heads/main", b"HEAD", b"*", b"?", b"\\", b"%", b"\xff", b"\xc3\xa9")
-TEXTS += (b"0" * 64, b"f" * 64, b"end\n", b"object ", b"ref ", b"gittuf-stream 1\n", b"\xed\xa0\x80", b"\xf4\x90\x80\x80", b"A" * 5000, b"[" * 200, b'{"a":' * 130)
+TEXTS += (b"0" * 64, b"f" * 64, b"end\n", b"object ", b"ref ", b"gittuf-stream 1\n", b"\xed\xa0\x80", b"\xf4\x90\x80\x80")
+TEXTS += (b"A" * 5000, b"[" * 200, b'{"a":' * 130)
 VALUES = (None, True, False, -1, 0.5, 1e300, "", "x", "\ud800", [], {}, [[]], [None], {"": None})
 NUMBER = re.compile(rb"[0-9]+")
 ID = re.compile(rb"[0-9a-f]{64}")
