@@ -10,7 +10,7 @@ from git_gittuf import damage, epochs, following, gate_sentences, history, looki
 from git_gittuf.program import Ended
 from git_gittuf.remotes import is_before
 from git_gittuf.repository import ATTESTATIONS, LOG, OWN, POLICY, TARGETS, ZEROS, Stopped
-from git_gittuf.shown import plain_name
+from git_gittuf.shown import plain, plain_name
 from git_gittuf.telling import tell
 from stream_format import is_reference_name
 
@@ -136,8 +136,8 @@ class Gate:
         """What keeps the target of an entry stands at that, and stays."""
         target, (_, new) = name[len(TARGETS) :], self.push.moves[name]
         if new is None and target in {rest[1] for _, _, kind, rest in self.entries if kind == b"ref"}:
-            return None, f"{name.decode()} keeps what an entry recorded, and is not to go"
-        return (None, f"{name.decode()} is to stand at {new.decode()[:12]}") if new not in (None, target) else None
+            return None, f"{plain_name(name)} keeps what an entry recorded, and is not to go"
+        return (None, f"{plain_name(name)} is to stand at {new.decode()[:12]}") if new not in (None, target) else None
 
     def of_violation(self, name, line):
         found = looking.FAULT.fullmatch(line)
@@ -197,6 +197,6 @@ def expect_none(work, push):
     found = refusals(work, push)
     for line, sentence in found:
         for it in filter(None, (line, sentence)):
-            tell(it)
+            tell(plain(it))
     if found:
         raise Stopped("nothing of this push is taken", 1)
