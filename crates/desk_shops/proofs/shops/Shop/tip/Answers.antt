@@ -1,0 +1,13 @@
+use Rattle.std.proofs.Common.{◌∙◌, List, ap, length}
+use Rattle.std.specs.Prelude.{unwrap_or}
+use Rattle.git_object.specs.Ids.{zeros}
+use Rattle.desk_steps.specs.Steps.{tip_of}
+use Rattle.desk_steps.specs.declared.rows.Row.{Row}
+use Rattle.desk_shops.proofs.Standing.{many_rows}
+use Rattle.desk_shops.proofs.shops.Shop.tip.Goals as goal
+
+pub returns-clause-count : goal.returns-clause-count
+returns-clause-count g c = λ h is. c.tip.ensures.count ∙ ap length is.desk.log ∙ many_rows h
+
+pub returns-clause-id : goal.returns-clause-id
+returns-clause-id g c = λ h is. c.tip.ensures.id ∙ ap (λ (log : List Row). unwrap_or (tip_of log) zeros) is.desk.log

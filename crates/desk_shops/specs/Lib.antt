@@ -1,0 +1,4 @@
+-- a shop that stands for a history
+pub mod Standing
+-- what each call of a shop leaves and answers
+pub mod Calls

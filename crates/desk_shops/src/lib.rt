@@ -1,0 +1,9 @@
+//! A desk's state and its store, as the state behind a turn.
+//!
+//! What it promises, and where to begin: `README.md` in this crate's folder.
+
+#![tactic(auto)]
+
+mod shops;
+
+pub use shops::Shop;
