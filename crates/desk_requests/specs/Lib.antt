@@ -1,0 +1,18 @@
+-- the heads of requests, as httparse reads them
+pub mod Heads
+-- the routes, as matchit walks them
+pub mod Routes
+-- a head at its places in bytes
+pub mod Parts
+-- the body of a push
+pub mod Bodies
+-- what a head says of the length of a body
+pub mod Lengths
+-- what the bytes of a request ask
+pub mod Asking
+-- how far reading goes
+pub mod Reading
+-- what is asked with the bytes behind a head
+pub mod Behind
+-- what holds of requests
+pub mod Laws
