@@ -1,0 +1,4 @@
+mod Told
+mod Firsts
+mod Recording
+mod Found
