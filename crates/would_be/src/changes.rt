@@ -10,7 +10,7 @@ ghost use Rattle.tree_paths.specs.Repositories.{readings_of};
 ghost use Rattle.tree_paths.specs.States.{walk_of};
 ghost use Rattle.would_be.specs.Would.{IsChange, one};
 
-use crate::signing::signers_to;
+use crate::signing::{listed, signers_to};
 use crate::telling::{add, all_told};
 use crate::{Proposed, Stood, Would};
 use entry_rules::Fault;
@@ -18,7 +18,6 @@ use git_object::ObjectId;
 use keeper_api::{Keeper, KeeperFault};
 use octets::{Items, Memory};
 use policy_epochs::Policy;
-use root_metadata::KeyIds;
 use std::alloc::Global;
 use tree_paths::{Comparison, compare};
 
@@ -45,7 +44,7 @@ pub(crate) fn alone(alloc: Global, fault: Option<Fault>) -> Result<Would, Memory
     add(&mut faults, fault)?;
     Ok(Would {
         faults,
-        signers: KeyIds::new(alloc),
+        signers: Items::new(alloc),
     })
 }
 
@@ -68,6 +67,7 @@ pub(crate) fn find_change<R: Keeper>(
             let signers = signers_to(alloc, keeper, policy, stood, proposed, &to)?;
             let paths = paths.as_slice();
             let faults = all_told(alloc, &policy.rules, &proposed.name, paths, &signers)?;
+            let signers = listed(alloc, &signers)?;
             Ok(Would { faults, signers })
         }
     }

@@ -1,7 +1,7 @@
 //! What is asked, and what is answered.
 
 use entry_rules::Fault;
-use git_object::{ObjectId, RefName};
+use git_object::{KeyId, ObjectId, RefName};
 use octets::Items;
 use root_metadata::KeyIds;
 
@@ -28,5 +28,5 @@ pub struct Stood {
 #[derive(Drop)]
 pub struct Would {
     pub faults: Items<Fault>,
-    pub signers: KeyIds,
+    pub signers: Items<KeyId>,
 }

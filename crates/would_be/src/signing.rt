@@ -49,6 +49,15 @@ fn append(ids: &mut Items<KeyId>, more: &[KeyId]) -> Result<(), Memory>
     Ok(())
 }
 
+/// The ids of a set, in its order.
+pub(crate) fn listed(alloc: Global, set: &KeyIds) -> Result<Items<KeyId>, Memory>
+    ensures { IfOk result (λ ids. ids ≡ set.now) }
+{
+    let mut ids = Items::new(alloc);
+    append(&mut ids, set.as_slice())?;
+    Ok(ids)
+}
+
 // Those of the ids that are of the keys, and these, as a set.
 fn joined(alloc: Global, keys: &Keys, ids: &KeyIds, approvers: &KeyIds) -> Result<KeyIds, Memory>
     ensures { IfOk result (λ set. set ≡ set_of (filter (is_key_of keys.now) ids.now ++ approvers.now)) }
