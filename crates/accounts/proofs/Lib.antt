@@ -3,3 +3,4 @@ mod Taking
 mod Walked
 mod Lines
 mod OneAccount
+mod Would

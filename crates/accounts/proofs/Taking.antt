@@ -9,7 +9,9 @@ use Rattle.judging.specs.Engines.{taken}
 use Rattle.judging.specs.Logs.{fault_of, last_signers, policy_after, signers_of}
 use Rattle.judging.specs.Verdicts.{body_verdict, verdict_of}
 use Rattle.judging.specs.declared.verdicts.EntryVerdict.{EntryVerdict}
-use Rattle.judging.proofs.Takes.{signers_push}
+use Rattle.judging.proofs.Takes.{attested_push, signers_push}
+use Rattle.log_names.specs.Names.{with_body}
+use Rattle.log_names.proofs.Naming.{names_push}
 use Rattle.entry_rules.specs.RealRules.{real_rules}
 use Rattle.entry_rules.specs.declared.faults.Fault.{Fault}
 use Rattle.verify_ref.specs.Following.{Follows, TakesOne}
@@ -18,7 +20,7 @@ use Rattle.account_lines.specs.declared.rows.EntryRow.{EntryRow}
 use Rattle.accounts.specs.Judging.{StandsFor}
 use Rattle.by_whom.specs.Keeping.{Knows}
 use Rattle.accounts.specs.Rows.{epoch_of, from_of, is_signed, prior_of, row_of, rows_of}
-use Rattle.accounts.specs.Steps.{is_authorised}
+use Rattle.accounts.specs.Steps.{attested_then, is_authorised}
 use Rattle.accounts.specs.declared.judged_log.JudgedLog.{JudgedLog}
 use Rattle.accounts.proofs.Rowed.{epoch_more, rows_more}
 
@@ -46,6 +48,8 @@ pub record IsFound (log : List Taken) (t : Taken) (was now : JudgedLog) (row : E
   pub signed : row.signed ≡ is_signed (policy_after (real_rules was.engine.rules.anchor) log) t.entry
   pub signers : row.signers ≡ last_signers (real_rules now.engine.rules.anchor) (log ++ t ∷ [])
   pub rows : now.rows ≡ was.rows ++ row ∷ []
+  pub attested : now.attested ≡ attested_then was.attested t.entry.body
+  pub names : now.names ≡ with_body was.names t.entry.body
   pub later : Knows (real_rules now.engine.rules.anchor) (log ++ t ∷ []) now.later
 
 module _ (log : List Taken) (t : Taken) (was now : JudgedLog) (row : EntryRow) (stands : StandsFor log was) (found : IsFound log t was now row) where
@@ -87,6 +91,8 @@ module _ (log : List Taken) (t : Taken) (was now : JudgedLog) (row : EntryRow) (
     follows = found.takes.follows;
     epoch = epoch_is;
     later = found.later;
+    attested = found.attested ∙ ap (λ (a : Option (List ℕ)). attested_then a t.entry.body) stands.attested ∙ sym (attested_push (real_rules now.engine.rules.anchor) log t);
+    names = found.names ∙ ap (λ (ns : List (List ℕ)). with_body ns t.entry.body) stands.names ∙ sym (names_push log t);
     rows = found.rows ∙ ap (λ (rows : List EntryRow). rows ++ row ∷ []) (stands.rows ∙ ap (λ (a : Option (List (List ℕ))). rows_of a log) same)
         ∙ ap (λ (r : EntryRow). rows_of now.engine.rules.anchor log ++ r ∷ []) row_is ∙ sym (rows_more now.engine.rules.anchor log t);
   }

@@ -1,9 +1,14 @@
 -- The account of a repository: a line for each entry of its log, judged in the repository, and for each verdict.
-use Rattle.std.specs.Prelude.{◌≡◌, ℕ, Bool, true, false, List, Option, Some}
+use Rattle.std.specs.Prelude.{◌≡◌, ◌+◌, [], ℕ, Bool, true, false, List, length, Option, Some, None}
+use Rattle.git_object.specs.Ids.{zeros}
 use Rattle.git_object.specs.Repository.{Repository}
 use Rattle.rsl_chain.specs.Entries.{Taken}
 use Rattle.rsl_chain.specs.Logs.{IsLogOf}
-use Rattle.judging.specs.Logs.{before, entry_at}
+use Rattle.rsl_chain.specs.declared.entries.Entry.{Entry}
+use Rattle.rsl_chain.specs.declared.entries.EntryBody.TheVariants.{Reference}
+use Rattle.recovery.specs.Lanes.{first_of}
+use Rattle.judging.specs.Logs.{before, entry_at, policy_after, prior, prior_target}
+use Rattle.judging.specs.Verdicts.{answer_of}
 use Rattle.judging.specs.declared.verdicts.Verdict.{Verdict}
 use Rattle.judging.specs.declared.verdicts.Verdict.TheVariants.{Accepted, TipDiffers, Violation}
 use Rattle.entry_rules.specs.RealRules.{real_rules}
@@ -11,9 +16,14 @@ use Rattle.entry_rules.specs.declared.faults.Fault.{Fault}
 use Rattle.verify_ref.specs.Logs.{AreEntries}
 use Rattle.verify_ref.specs.Verdicts.{IsVerdict}
 use Rattle.by_whom.specs.Firsts.{rescuer_of, skipper_of}
+use Rattle.would_be.specs.Laws.{stood_at}
+use Rattle.would_be.specs.Would.{IsWould}
+use Rattle.would_be.specs.declared.proposals.Proposed.{Proposed}
+use Rattle.would_be.specs.declared.proposals.Would.{Would}
 use Rattle.account_lines.specs.Lines.{entry_line, verdict_line}
+use Rattle.account_lines.specs.declared.rows.EntryRow.{EntryRow}
 use Rattle.account_lines.specs.declared.rows.Later.{Later}
-use Rattle.accounts.specs.Rows.{row_of}
+use Rattle.accounts.specs.Rows.{epoch_of, row_of}
 
 -- what later entries of a log make of the entry of a number
 abbrev pub later_of : Option (List (List ℕ)) → List Taken → ℕ → Later
@@ -53,3 +63,43 @@ pub record IsToldVerdict (anchor : Option (List (List ℕ))) (r : Repository) (n
   pub judged : IsVerdict r name anchor verdict
   pub told : line ≡ verdict_line name verdict
   pub is : accepted ≡ is_accepted verdict
+
+-- ---- an entry behind the log that nobody signed yet
+
+-- the entry of a number
+abbrev pub would_entry : ℕ → Proposed → Entry
+would_entry number p = record {
+  id = zeros;
+  number = number;
+  parent = None;
+  body = Reference p.name p.target;
+  signer = None;
+  signature = [];
+  signed = [];
+}
+
+-- what is known of it behind these entries, by what would be found of it
+abbrev pub would_row : Option (List (List ℕ)) → List Taken → Proposed → Would → EntryRow
+would_row anchor log p found = record {
+  id = zeros;
+  epoch = epoch_of (real_rules anchor) log;
+  prior = prior (real_rules anchor) log p.name;
+  from = prior_target (real_rules anchor) log p.name;
+  signed = false;
+  signers = found.signers;
+  verdict = answer_of (first_of found.faults);
+}
+
+abbrev pub no_later : Later
+no_later = record { skipper = None; rescuer = None }
+
+-- this is found of an entry behind the repository's log, and its line tells it
+pub record IsToldWould (anchor : Option (List (List ℕ))) (r : Repository) (p : Proposed) (found : Would)
+    (number : ℕ) (line : List ℕ) : Type 0 where
+  pub ids : List (List ℕ)
+  pub is_log : IsLogOf r ids
+  pub log : List Taken
+  pub entries : AreEntries r ids log
+  pub next : number ≡ length log + 1
+  pub is : IsWould anchor r (policy_after (real_rules anchor) log) (stood_at anchor log p.name) p found
+  pub told : line ≡ entry_line (would_entry number p) (would_row anchor log p found) no_later

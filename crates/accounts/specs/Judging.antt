@@ -6,8 +6,10 @@ use Rattle.rsl_chain.specs.Entries.{Taken}
 use Rattle.rsl_chain.specs.declared.entries.Entry.{Entry}
 use Rattle.rsl_chain.specs.Logs.{IsLogOf, entry_at}
 use Rattle.entry_rules.specs.RealRules.{real_rules}
+use Rattle.judging.specs.Logs.{attested_after}
 use Rattle.verify_ref.specs.Following.{Follows}
 use Rattle.verify_ref.specs.Logs.{AreEntries}
+use Rattle.log_names.specs.Names.{names_of}
 use Rattle.by_whom.specs.Keeping.{Knows}
 use Rattle.accounts.specs.Rows.{epoch_of, rows_of}
 use Rattle.accounts.specs.declared.judged_log.JudgedLog.{JudgedLog}
@@ -16,6 +18,8 @@ use Rattle.accounts.specs.declared.judged_log.JudgedLog.{JudgedLog}
 pub record StandsFor (log : List Taken) (judged : JudgedLog) : Type 0 where
   pub follows : Follows log judged.engine
   pub epoch : judged.epoch ≡ epoch_of (real_rules judged.engine.rules.anchor) log
+  pub attested : judged.attested ≡ attested_after log
+  pub names : judged.names ≡ names_of log
   pub rows : judged.rows ≡ rows_of judged.engine.rules.anchor log
   pub later : Knows (real_rules judged.engine.rules.anchor) log judged.later
 

@@ -1,4 +1,5 @@
-//! One proved account of a log: each entry as it was judged, and the verdicts on references, by one pass.
+//! One proved account of a log: each entry as it was judged, the verdicts on references, by one pass, and what would be found
+//! of one entry more.
 //!
 //! What it promises, and where to begin: `README.md` in this crate's folder.
 
@@ -10,8 +11,10 @@ pub mod laws;
 mod pass;
 mod rows;
 mod verdict_lines;
+mod would_lines;
 
 pub use entry_lines::entry_line;
 pub use judged_log::JudgedLog;
 pub use pass::judge_log;
 pub use verdict_lines::{ToldVerdict, tell_verdict};
+pub use would_lines::{ToldWould, fault_line, tell_would};

@@ -20,12 +20,13 @@ ghost use Rattle.verify_ref.specs.Verdicts.{IsRefusal};
 ghost use Rattle.accounts.specs.Judging.{IsJudgedLog, IsOwn, JudgesNext, StandsFor};
 
 use crate::JudgedLog;
-use crate::rows::{from_of, is_signed, next_epoch, opens, prior_of};
+use crate::rows::{from_of, is_signed, next_attested, next_epoch, opens, prior_of};
 use account_lines::EntryRow;
 use by_whom::{ByWhom, open_to};
 use entry_rules::Fault;
 use git_object::ObjectId;
 use keeper_api::{Keeper, KeeperFault};
+use log_names::LogNames;
 use octets::Items;
 use policy_epochs::Policy;
 use root_metadata::KeyIds;
@@ -73,6 +74,8 @@ fn judge_entry<R: Keeper>(
     judged
         .later
         .take(judged.engine.entries(), entry, numbers.as_slice())?;
+    judged.attested = next_attested(judged.attested, entry);
+    judged.names.take(entry)?;
     judged.rows.push(EntryRow {
         id: entry.id,
         epoch,
@@ -170,6 +173,8 @@ pub fn judge_log<R: Keeper>(
     let mut judged = JudgedLog {
         engine: Engine::new(alloc, anchor),
         epoch: None,
+        attested: None,
+        names: LogNames::new(alloc),
         rows: Items::new(alloc),
         later: ByWhom::new::<Policy, Fault>(alloc),
     };

@@ -7,7 +7,7 @@ ghost use Rattle.git_object.specs.References.{policy_name};
 ghost use Rattle.entry_rules.specs.RealRules.{real_rules};
 ghost use Rattle.verify_ref.specs.Following.{Follows};
 ghost use Rattle.accounts.specs.Rows.{from_of, is_signed, prior_of};
-ghost use Rattle.accounts.specs.Steps.{is_authorised};
+ghost use Rattle.accounts.specs.Steps.{attested_then, is_authorised};
 
 use entry_rules::{Fault, signer_among};
 use git_object::ObjectId;
@@ -84,6 +84,26 @@ pub(crate) fn opens(entry: &Entry, verdict: &EntryVerdict<Fault>) -> bool
     ensures { result ≡ (is_of entry.now.body policy_name && is_authorised verdict.now) }
 {
     is_policys(entry) && is_authorised(verdict)
+}
+
+/// The target of the last entry of the attestations' reference, after this entry.
+pub(crate) fn next_attested(attested: Option<ObjectId>, entry: &Entry) -> Option<ObjectId>
+    ensures { result ≡ attested_then attested entry.now.body }
+{
+    match &entry.body {
+        EntryBody::Reference { name, target } => {
+            if name.is_attestations() {
+                Some(*target)
+            } else {
+                attested
+            }
+        }
+        EntryBody::Annotation {
+            ids: _,
+            skip: _,
+            message: _,
+        } => attested,
+    }
 }
 
 /// The number of the last entry that brought a policy into force, after one of this number that does or does not.

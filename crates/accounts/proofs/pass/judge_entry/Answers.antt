@@ -26,7 +26,7 @@ returns-clause-stands g c = λ r told log stands.
       signers = c.in_ok-signers.signers;
       verdict = c.in-Ok.verdict;
     } in
-    stands_more log t c.args.judged.now (record { engine = c.extend.new.self; epoch = c.next_epoch-judged.result; rows = c.push.new.self; later = c.take.new.self }) row stands (record {
+    stands_more log t c.args.judged.now (record { engine = c.extend.new.self; epoch = c.next_epoch-judged.result; attested = c.next_attested-judged.result; names = c.take-2.new.self; rows = c.push.new.self; later = c.take.new.self }) row stands (record {
       rules = c.extend.ensures.rules;
       takes = takes;
       number = c.requires.next;
@@ -38,6 +38,8 @@ returns-clause-stands g c = λ r told log stands.
       signed = c.is_signed-signed.ensures ∙ ap (λ (p : Option Policy). is_signed p c.args.entry.now) (c.policy.ensures log stands.follows);
       signers = c.in_ok-signers.ensures.same ∙ c.signers.ensures (log ++ t ∷ []) takes.follows;
       rows = c.in_ok-push.ensures.added;
+      attested = c.next_attested-judged.ensures;
+      names = c.in_ok-take-2.ensures.added;
       later = subst (λ (r : EntryRules). Knows (real_rules r.anchor) (log ++ t ∷ []) c.take.new.self) (sym c.extend.ensures.rules)
           (c.in_ok-take.ensures rules log t refl
           (subst (λ (e : judging.Engine Policy Fault). Stands rules (log ++ t ∷ []) e) (sym c.entries-2.ensures)
