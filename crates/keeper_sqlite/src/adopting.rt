@@ -1,0 +1,107 @@
+//! A database, taken as a store.
+
+ghost use Rattle.std.specs.Prelude.{◌≡◌, ◌≤◌, true, false, not, Some, IfOk, IsTrue, OnOk};
+ghost use Rattle.sqlite_trees.specs.View.{doubt};
+ghost use Rattle.sqlite.specs.Held.{state};
+ghost use Rattle.sqlite.specs.State.{HasCleanDisk};
+ghost use Rattle.git_object.specs.Repository.{Repository};
+ghost use Rattle.keeper_sqlite.specs.Adopting.{AreShapedTables, IsReopened};
+
+use crate::schemas::is_empty;
+use crate::sql_faults::SqlFault;
+use sqlite::{Alter, Connection, Error};
+use sqlite_value::value::ValueRef;
+use std::alloc::Global;
+
+// The number of the schema.
+const NUMBER: i64 = 1;
+
+const TABLES: &str = "CREATE TABLE objects (id BLOB NOT NULL PRIMARY KEY, kind INTEGER NOT NULL, body BLOB NOT NULL) STRICT;\nCREATE TABLE refs (name BLOB NOT NULL PRIMARY KEY, id BLOB NOT NULL) STRICT;\nCREATE TABLE facts (name TEXT NOT NULL PRIMARY KEY, value INTEGER NOT NULL) STRICT;\nINSERT INTO facts (name, value) VALUES ('schema', 1)";
+
+// Makes the tables and the row with the schema's number, in one transaction.
+fn make_tables<S: Alter>(conn: &mut Connection<S>) -> Result<(), Error>
+    requires idle { conn.old.in_transaction ≡ false }
+    ensures idle { conn.new.in_transaction ≡ false }
+{
+    let mut tx = conn.transaction();
+    tx.execute_batch(TABLES)?;
+    tx.commit()
+}
+
+// Makes the tables of a database that has none.
+fn expect_tables<S: Alter>(conn: &mut Connection<S>) -> Result<(), SqlFault>
+    requires idle { conn.old.in_transaction ≡ false }
+    ensures idle { conn.new.in_transaction ≡ false }
+{
+    if is_empty(conn.schema()) {
+        make_tables(conn)?;
+    }
+    Ok(())
+}
+
+// The number in the row `schema`, or 0 where there is no such row.
+fn schema_number<S: Alter>(conn: &mut Connection<S>) -> Result<i64, SqlFault>
+    requires idle { conn.old.in_transaction ≡ false }
+    ensures idle { conn.new.in_transaction ≡ false }
+{
+    let row = match conn.query_row("SELECT value FROM facts WHERE name = 'schema'", &[]) {
+        Ok(row) => row,
+        Err(Error::QueryReturnedNoRows) => return Ok(0),
+        Err(error) => return Err(SqlFault::from(error)),
+    };
+    match row.get_ref(0) {
+        Ok(ValueRef::Int(number)) => Ok(number),
+        _ => Err(SqlFault::Failed),
+    }
+}
+
+fn expect_number<S: Alter>(conn: &mut Connection<S>) -> Result<(), SqlFault>
+    requires idle { conn.old.in_transaction ≡ false }
+    ensures idle { conn.new.in_transaction ≡ false }
+{
+    let found = schema_number(conn)?;
+    if found == NUMBER {
+        Ok(())
+    } else {
+        Err(SqlFault::BadSchema { found })
+    }
+}
+
+/// The connection made anew over its store, whose rows are gone over once more: only of what was just opened is it
+/// known that rowids rise.
+fn reopened<S: Alter + Drop>(
+    alloc: Global,
+    connection: Connection<S>,
+) -> Result<Connection<S>, SqlFault>
+    ensures idle { IfOk result (λ conn. conn.in_transaction ≡ false) }
+    ensures again { IfOk result (λ conn. HasCleanDisk (state S.Store conn)
+        → IsReopened (state S.Store connection) (state S.Store conn)) }
+{
+    let store = connection.into_store();
+    if store.is_broken() {
+        return Err(SqlFault::Failed);
+    }
+    match Connection::over(alloc, store) {
+        Ok(conn) => Ok(conn),
+        Err((error, _)) => Err(SqlFault::from(error)),
+    }
+}
+
+/// A connection whose database has the tables of the schema with number 1, made anew. An empty database gets them.
+pub(crate) fn checked<S: Alter + Drop>(
+    alloc: Global,
+    connection: Connection<S>,
+) -> Result<Connection<S>, SqlFault>
+    ensures idle { IfOk result (λ conn. conn.in_transaction ≡ false) }
+    ensures open { IfOk result (λ conn. HasCleanDisk (state S.Store conn) → IsTrue (state S.Store conn).is_open) }
+    ensures shaped { IfOk result (λ conn. HasCleanDisk (state S.Store conn)
+        → AreShapedTables (state S.Store conn).now) }
+{
+    let mut conn = connection;
+    if !conn.is_autocommit() {
+        return Err(SqlFault::Failed);
+    }
+    expect_tables(&mut conn)?;
+    expect_number(&mut conn)?;
+    reopened(alloc, conn)
+}

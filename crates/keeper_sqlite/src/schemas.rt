@@ -1,0 +1,313 @@
+//! Whether the tables of a database are those of the schema with number 1.
+
+ghost use Rattle.std.specs.Prelude.{◌≡◌, ◌↔◌, [], ◌∷◌, ℕ, None, Some, IsTrue, false, length, slice_get, codes};
+ghost use Rattle.sqlite.specs.declared.types.Value.TheVariants.{Null};
+ghost use Rattle.sqlite_value.specs.Keys.{plain};
+ghost use Rattle.keeper_sqlite.specs.Tables.{column_of, store_schema};
+ghost use Rattle.keeper_sqlite.specs.Schemas.{IsKeyed, IsSimple, automatic_of, facts_columns, objects_columns, refs_columns, table_at};
+
+use sqlite_items::Items;
+use sqlite_schema::code::Terms;
+use sqlite_schema::schema::{Column, Index, Kind, Schema, Stamps, Table};
+use sqlite_value::keys::{Collation, Order};
+use sqlite_value::value::{Bytes, Value};
+
+fn is_name(bytes: &Bytes, wanted: &[u8]) -> bool
+    ensures { IsTrue result ↔ (bytes.now ≡ wanted.now) }
+{
+    bytes.as_slice() == wanted
+}
+
+fn is_kind(kind: Kind, wanted: Kind) -> bool
+    ensures { IsTrue result ↔ (kind ≡ wanted) }
+{
+    kind == wanted
+}
+
+fn is_null(value: &Value) -> bool
+    ensures { IsTrue result ↔ (value.now ≡ Null) }
+{
+    matches!(value, Value::Null)
+}
+
+fn is_binary(collation: Collation) -> bool
+    ensures { IsTrue result ↔ (collation ≡ Collation.Binary) }
+{
+    matches!(collation, Collation::Binary)
+}
+
+fn is_column(column: &Column, name: &[u8], kind: Kind) -> bool
+    ensures { IsTrue result → column.now ≡ column_of name.now kind }
+{
+    if !is_name(&column.name, name) {
+        return false;
+    }
+    if !is_kind(column.kind, kind) {
+        return false;
+    }
+    if !column.is_strict {
+        return false;
+    }
+    if !column.not_null {
+        return false;
+    }
+    if !is_null(&column.default) {
+        return false;
+    }
+    is_binary(column.collation)
+}
+
+fn is_column_at(columns: &Items<Column>, at: usize, name: &[u8], kind: Kind) -> bool
+    ensures { IsTrue result → slice_get columns.now at ≡ Some (column_of name.now kind) }
+{
+    match columns.get(at) {
+        Some(column) => is_column(column, name, kind),
+        None => false,
+    }
+}
+
+fn are_objects_columns(columns: &Items<Column>) -> bool
+    ensures { IsTrue result → columns.now ≡ objects_columns }
+{
+    if columns.len() != 3 {
+        return false;
+    }
+    if !is_column_at(columns, 0, b"id", Kind::Blob) {
+        return false;
+    }
+    if !is_column_at(columns, 1, b"kind", Kind::Integer) {
+        return false;
+    }
+    is_column_at(columns, 2, b"body", Kind::Blob)
+}
+
+fn are_refs_columns(columns: &Items<Column>) -> bool
+    ensures { IsTrue result → columns.now ≡ refs_columns }
+{
+    if columns.len() != 2 {
+        return false;
+    }
+    if !is_column_at(columns, 0, b"name", Kind::Blob) {
+        return false;
+    }
+    is_column_at(columns, 1, b"id", Kind::Blob)
+}
+
+fn are_facts_columns(columns: &Items<Column>) -> bool
+    ensures { IsTrue result → columns.now ≡ facts_columns }
+{
+    if columns.len() != 2 {
+        return false;
+    }
+    if !is_column_at(columns, 0, b"name", Kind::Text) {
+        return false;
+    }
+    is_column_at(columns, 1, b"value", Kind::Integer)
+}
+
+// Whether the places are that of the first column alone.
+fn is_first(places: &Items<usize>) -> bool
+    ensures { IsTrue result → places.now ≡ 1 ∷ [] }
+{
+    if places.len() != 1 {
+        return false;
+    }
+    match places.get(0) {
+        Some(place) => *place == 1,
+        None => false,
+    }
+}
+
+fn is_first_alone(keys: &Items<Items<usize>>) -> bool
+    ensures { IsTrue result → keys.now ≡ (1 ∷ []) ∷ [] }
+{
+    if keys.len() != 1 {
+        return false;
+    }
+    match keys.get(0) {
+        Some(places) => is_first(places),
+        None => false,
+    }
+}
+
+fn is_plain(order: Order) -> bool
+    ensures { IsTrue result → order ≡ plain }
+{
+    order.digits == 0
+}
+
+fn is_plain_alone(orders: &Items<Order>) -> bool
+    ensures { IsTrue result → orders.now ≡ plain ∷ [] }
+{
+    if orders.len() != 1 {
+        return false;
+    }
+    match orders.get(0) {
+        Some(order) => is_plain(*order),
+        None => false,
+    }
+}
+
+fn has_no_terms(terms: &Terms) -> bool
+    ensures { IsTrue result → terms.now ≡ [] }
+{
+    terms.roots.is_empty()
+}
+
+fn is_unstamped(stamps: &Stamps) -> bool
+    ensures { IsTrue result → stamps.now ≡ record { places = []; terms = []; formats = [] } }
+{
+    if !stamps.places.is_empty() {
+        return false;
+    }
+    if !stamps.formats.is_empty() {
+        return false;
+    }
+    has_no_terms(&stamps.terms)
+}
+
+// Whether a table has no rule beside its columns and its key.
+fn is_simple(table: &Table) -> bool
+    ensures { IsTrue result → IsSimple table.now }
+{
+    if table.key.is_some() {
+        return false;
+    }
+    if !has_no_terms(&table.checks) {
+        return false;
+    }
+    if !table.references.is_empty() {
+        return false;
+    }
+    if !table.computed.is_empty() {
+        return false;
+    }
+    if !is_unstamped(&table.stamps) {
+        return false;
+    }
+    !table.is_counted
+}
+
+// Whether the first column of a table is its key.
+fn is_keyed(table: &Table) -> bool
+    ensures { IsTrue result → IsKeyed table.now }
+{
+    if !is_first(&table.primary) {
+        return false;
+    }
+    if !is_first_alone(&table.uniques) {
+        return false;
+    }
+    is_plain_alone(&table.orders)
+}
+
+fn is_table(table: &Table, name: &[u8], tree: u32) -> bool
+    ensures { IsTrue result → table.now ≡ table_at name.now table.now.columns tree }
+{
+    if !is_name(&table.name, name) {
+        return false;
+    }
+    if table.tree != tree {
+        return false;
+    }
+    if !is_simple(table) {
+        return false;
+    }
+    is_keyed(table)
+}
+
+fn is_objects(table: &Table) -> bool
+    ensures { IsTrue result → table.now ≡ table_at (codes "objects") objects_columns 0 }
+{
+    if !is_table(table, b"objects", 0) {
+        return false;
+    }
+    are_objects_columns(&table.columns)
+}
+
+fn is_refs(table: &Table) -> bool
+    ensures { IsTrue result → table.now ≡ table_at (codes "refs") refs_columns 2 }
+{
+    if !is_table(table, b"refs", 2) {
+        return false;
+    }
+    are_refs_columns(&table.columns)
+}
+
+fn is_facts(table: &Table) -> bool
+    ensures { IsTrue result → table.now ≡ table_at (codes "facts") facts_columns 4 }
+{
+    if !is_table(table, b"facts", 4) {
+        return false;
+    }
+    are_facts_columns(&table.columns)
+}
+
+fn are_tables(tables: &Items<Table>) -> bool
+    ensures { IsTrue result → tables.now ≡ store_schema.tables }
+{
+    if tables.len() != 3 {
+        return false;
+    }
+    match (tables.get(0), tables.get(1), tables.get(2)) {
+        (Some(objects), Some(refs), Some(facts)) =>
+            is_objects(objects) && is_refs(refs) && is_facts(facts),
+        _ => false,
+    }
+}
+
+// Whether an index is the one that a table's key has.
+fn is_automatic(index: &Index, name: &[u8], table: u32) -> bool
+    requires small { table < 8 }
+    ensures { IsTrue result → index.now ≡ automatic_of name.now table }
+{
+    if !is_name(&index.name, name) {
+        return false;
+    }
+    if index.tree != table + 1 {
+        return false;
+    }
+    if index.table != table {
+        return false;
+    }
+    if !is_first(&index.columns) {
+        return false;
+    }
+    if !is_plain(index.order) {
+        return false;
+    }
+    index.is_unique
+}
+
+fn are_indexes(indexes: &Items<Index>) -> bool
+    ensures { IsTrue result → indexes.now ≡ store_schema.indexes }
+{
+    if indexes.len() != 3 {
+        return false;
+    }
+    match (indexes.get(0), indexes.get(1), indexes.get(2)) {
+        (Some(objects), Some(refs), Some(facts)) =>
+            is_automatic(objects, b"sqlite_autoindex_objects_1", 0)
+                && is_automatic(refs, b"sqlite_autoindex_refs_1", 2)
+                && is_automatic(facts, b"sqlite_autoindex_facts_1", 4),
+        _ => false,
+    }
+}
+
+/// Whether a schema is the one with number 1.
+pub(crate) fn is_store_schema(schema: &Schema) -> bool
+    ensures { IsTrue result → schema.now ≡ store_schema }
+{
+    if !schema.views.is_empty() {
+        return false;
+    }
+    if !are_tables(&schema.tables) {
+        return false;
+    }
+    are_indexes(&schema.indexes)
+}
+
+/// Whether a schema has no table, index or view.
+pub(crate) fn is_empty(schema: &Schema) -> bool {
+    schema.tables.is_empty() && schema.indexes.is_empty() && schema.views.is_empty()
+}
