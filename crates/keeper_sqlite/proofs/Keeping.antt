@@ -49,8 +49,16 @@ told_if : {X : Type 0} (b : Bool) (r : X) → IsSome (cond b (Some r) None) → 
 told_if true r some = refl
 told_if false r some = some
 
-pub was_clean : (old new : Bool) → doubt old ≤ doubt new → new ≡ true → old ≡ true
+was_clean : (old new : Bool) → doubt old ≤ doubt new → new ≡ true → old ≡ true
 was_clean old new falls is = clean_if old (let none = no_doubt new is in omega (arith, falls, none))
+
+-- a failure tells nothing on
+pub failed_after : {T : Type 0} (before after : Option Repository) (told told_now : Bool) (s t : State) → doubt s.is_clean ≤ doubt t.is_clean → TellsAfter {T = T} (Err Failed) before after told told_now s.is_clean t.is_clean
+failed_after before after told told_now s t falls = record {
+  was_clean = was_clean s.is_clean t.is_clean falls;
+  content = λ clean is. absurd is;
+  left = λ clean is. absurd is;
+}
 
 abbrev pub content_at : Bool → State → Option Repository
 content_at known s = cond (known && s.is_open) (Some (repository_in s.committed.trees)) None

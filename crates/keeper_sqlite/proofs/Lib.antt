@@ -16,5 +16,5 @@ mod Making
 mod Keeping
 mod Trying
 mod Coming
-mod Schemas
+mod Comparing
 mod Reopening

@@ -1,9 +1,8 @@
 -- A keeper over a database: what it holds, and what a stop may leave of it.
 use Rattle.std.specs.Prelude.{◌≡◌, ◌≤◌, ◌&&◌, ◌||◌, ℕ, Bool, false, IsTrue, Option, Some, None, Result, if◌then◌else◌, refl}
-use Rattle.std.proofs.Math.Nat.{le_refl}
 use Rattle.std.specs.Coded.{Coded, code_by, coded×, coded_ℕ, coded_bool}
 use Rattle.git_object.specs.Repository.{Repository}
-use Rattle.keeper_api.specs.Keepers.{TellsOn, same_tells}
+use Rattle.keeper_api.specs.Keepers.{TellsOn}
 use Rattle.keeper_api.specs.declared.keeper_faults.KeeperFault.{KeeperFault}
 use Rattle.sqlite.specs.Held.{Held, held_code, state}
 use Rattle.sqlite.specs.Store.{Ghosts}
@@ -65,9 +64,3 @@ module _ {S : Type 0} (g : Ghosts S) where
   pub record ComesOf (k l : Kept S) : Type 0 where
     pub later : k.faults ≤ l.faults
     pub on : TellsOnAt k l
-
-  pub comes_of_self : (k : Kept S) → ComesOf k k
-  comes_of_self k = record {
-    later = le_refl k.faults;
-    on = same_tells (content_of k) (tells_left_of k) (is_clean_of k) k.faults k.faults;
-  }

@@ -1,5 +1,8 @@
 //! The calls of the keeper over a database.
 
+ghost use Rattle.std.proofs.Math.Nat.{le_refl};
+ghost use Rattle.keeper_api.specs.Keepers.{same_tells};
+
 use crate::SqlKeeper;
 use git_object::{Object, ObjectId, RefName};
 use keeper_api::{Change, Keeper, KeeperFault, RefValue};
@@ -9,7 +12,7 @@ use std::alloc::Global;
 /// It tells the rows of the last commit, where the tables are those of the schema, and what a stop may leave, also
 /// once a commit has shut the database.
 impl<S: Alter> Keeper for SqlKeeper<S> {
-    ghost use Rattle.keeper_sqlite.specs.Keepers.{ComesOf, comes_of_self, content_of, is_clean_of, tells_left_of, left_of};
+    ghost use Rattle.keeper_sqlite.specs.Keepers.{ComesOf, content_of, is_clean_of, tells_left_of, left_of};
     ghost use Rattle.keeper_sqlite.specs.Laws.{held_left};
 
     ghost content = { λ k. content_of S.Store k };
@@ -64,7 +67,7 @@ impl<S: Alter> Keeper for SqlKeeper<S> {
         self.fault_count()
     }
 
-    ghost comes_self = { λ k. comes_of_self S.Store k };
+    ghost comes_self = { λ k. record { later = le_refl k.faults; on = same_tells _ _ _ k.faults k.faults } };
 
     ghost comes_tells = { λ k l came. came.on };
 

@@ -5,6 +5,7 @@
 mod adopting;
 mod columns;
 mod commits;
+mod database_files;
 mod keeper_calls;
 mod looks;
 mod refusals;

@@ -1,6 +1,6 @@
 //! Whether the tables of a database are those of the schema with number 1.
 
-ghost use Rattle.std.specs.Prelude.{◌≡◌, ◌↔◌, [], ◌∷◌, ℕ, None, Some, IsTrue, false, length, slice_get, codes};
+ghost use Rattle.std.specs.Prelude.{◌≡◌, ◌↔◌, ◌<◌, [], ◌∷◌, ℕ, None, Some, IsTrue, false, length, slice_get, codes};
 ghost use Rattle.sqlite.specs.declared.types.Value.TheVariants.{Null};
 ghost use Rattle.sqlite_value.specs.Keys.{plain};
 ghost use Rattle.keeper_sqlite.specs.Tables.{column_of, store_schema};
@@ -243,17 +243,46 @@ fn is_facts(table: &Table) -> bool
     are_facts_columns(&table.columns)
 }
 
+fn has_objects(tables: &Items<Table>) -> bool
+    ensures { IsTrue result → slice_get tables.now 0 ≡ Some (table_at (codes "objects") objects_columns 0) }
+{
+    match tables.get(0) {
+        Some(table) => is_objects(table),
+        None => false,
+    }
+}
+
+fn has_refs(tables: &Items<Table>) -> bool
+    ensures { IsTrue result → slice_get tables.now 1 ≡ Some (table_at (codes "refs") refs_columns 2) }
+{
+    match tables.get(1) {
+        Some(table) => is_refs(table),
+        None => false,
+    }
+}
+
+fn has_facts(tables: &Items<Table>) -> bool
+    ensures { IsTrue result → slice_get tables.now 2 ≡ Some (table_at (codes "facts") facts_columns 4) }
+{
+    match tables.get(2) {
+        Some(table) => is_facts(table),
+        None => false,
+    }
+}
+
 fn are_tables(tables: &Items<Table>) -> bool
     ensures { IsTrue result → tables.now ≡ store_schema.tables }
 {
     if tables.len() != 3 {
         return false;
     }
-    match (tables.get(0), tables.get(1), tables.get(2)) {
-        (Some(objects), Some(refs), Some(facts)) =>
-            is_objects(objects) && is_refs(refs) && is_facts(facts),
-        _ => false,
+    if !has_objects(tables) {
+        return false;
     }
+    if !has_refs(tables) {
+        return false;
+    }
+    has_facts(tables)
 }
 
 // Whether an index is the one that a table's key has.
@@ -279,19 +308,29 @@ fn is_automatic(index: &Index, name: &[u8], table: u32) -> bool
     index.is_unique
 }
 
+fn is_automatic_at(indexes: &Items<Index>, at: usize, name: &[u8], table: u32) -> bool
+    requires small { table < 8 }
+    ensures { IsTrue result → slice_get indexes.now at ≡ Some (automatic_of name.now table) }
+{
+    match indexes.get(at) {
+        Some(index) => is_automatic(index, name, table),
+        None => false,
+    }
+}
+
 fn are_indexes(indexes: &Items<Index>) -> bool
     ensures { IsTrue result → indexes.now ≡ store_schema.indexes }
 {
     if indexes.len() != 3 {
         return false;
     }
-    match (indexes.get(0), indexes.get(1), indexes.get(2)) {
-        (Some(objects), Some(refs), Some(facts)) =>
-            is_automatic(objects, b"sqlite_autoindex_objects_1", 0)
-                && is_automatic(refs, b"sqlite_autoindex_refs_1", 2)
-                && is_automatic(facts, b"sqlite_autoindex_facts_1", 4),
-        _ => false,
+    if !is_automatic_at(indexes, 0, b"sqlite_autoindex_objects_1", 0) {
+        return false;
     }
+    if !is_automatic_at(indexes, 1, b"sqlite_autoindex_refs_1", 2) {
+        return false;
+    }
+    is_automatic_at(indexes, 2, b"sqlite_autoindex_facts_1", 4)
 }
 
 /// Whether a schema is the one with number 1.

@@ -23,6 +23,7 @@ use std::alloc::Global;
 use std::marker::Model;
 
 /// A keeper over a database with the tables `objects`, `refs` and `facts`.
+#[derive(Drop)]
 pub struct SqlKeeper<S: Alter> {
     conn: Connection<S>,
     // Whether the tables were found to be those of the schema.
@@ -53,6 +54,17 @@ impl<S: Alter> Model for SqlKeeper<S> {
 
 impl<S: Alter> SqlKeeper<S> {
     ghost use Rattle.keeper_sqlite.specs.Keepers.{LooksAt, TellsAfterAt, content_of, tells_left_of, left_of};
+
+    /// Whether the tables are those of the schema, so that it tells what they hold while the database is open.
+    pub fn tells(&self) -> bool
+        ensures { result ≡ self.now.known }
+    {
+        self.known
+    }
+
+    pub(crate) fn into_connection(self) -> Connection<S> {
+        self.conn
+    }
 
     pub(crate) fn object_at(&mut self, alloc: Global, id: &ObjectId) -> Result<Option<Object>, KeeperFault>
         ensures frame { self.new ≡ record self.old { conn = self.new.conn } }

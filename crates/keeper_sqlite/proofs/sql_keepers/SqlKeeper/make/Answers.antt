@@ -7,7 +7,7 @@ use Rattle.sqlite.specs.Held.{state}
 use Rattle.keeper_sqlite.specs.Rows.{repository_in}
 use Rattle.keeper_sqlite.specs.States.{IsStore}
 use Rattle.keeper_sqlite.specs.Telling.{TellsAfter}
-use Rattle.keeper_sqlite.proofs.Keeping.{content_at, tells_at, left_at, lawful_by, made_content, made_leaves, refused_content, refused_leaves, doubted_leaves, told_after, was_clean}
+use Rattle.keeper_sqlite.proofs.Keeping.{content_at, tells_at, left_at, lawful_by, made_content, made_leaves, refused_content, refused_leaves, doubted_leaves, told_after, failed_after}
 use Rattle.keeper_sqlite.proofs.Selecting.{clean_if_open}
 use Rattle.keeper_sqlite.proofs.sql_keepers.SqlKeeper.make.Goals as goal
 
@@ -51,8 +51,7 @@ returns-in-Refused-clause-on g c =
     (told_after c.self.inside.known s t c.try_make-made.ensures.survives.clean {T = Unit {0}} (Err c.in-Refused.fault) (λ clean is. c.in-Refused.ensures.answered clean is)))
 
 pub returns-in-InDoubt-clause-on : goal.returns-in-InDoubt-clause-on
-returns-in-InDoubt-clause-on g c = record {
-  was_clean = was_clean _ _ c.try_make-made.ensures.survives.clean;
-  content = λ clean is. absurd is;
-  left = λ clean is. absurd is;
-}
+returns-in-InDoubt-clause-on g c =
+    let s = state g.S.Store c.self.inside.conn in
+    let t = state g.S.Store c.try_make-made.new.conn in
+    rw (← c.self.view_is) (failed_after {T = Unit {0}} (content_at c.self.inside.known s) (content_at c.self.inside.known t) (tells_at c.self.inside.known c.self.inside.in_doubt s) (tells_at c.self.inside.known true t) s t c.try_make-made.ensures.survives.clean)

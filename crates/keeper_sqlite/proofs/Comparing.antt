@@ -1,5 +1,5 @@
 -- Schemas, put together from what was compared.
-use Rattle.std.proofs.Common.{◌≡◌, ℕ, suc, zero, true, false, List, [], ◌∷◌, length, Option, Some, None, refl, sym, ap, codes, ◌∙◌}
+use Rattle.std.proofs.Common.{◌≡◌, ℕ, suc, zero, true, false, List, [], ◌∷◌, length, Option, Some, None, refl, sym, ap, codes, ◌+◌, ◌∙◌, arith}
 use Rattle.std.specs.Prelude.{slice_get}
 use Rattle.sqlite.specs.Kind.{Kind}
 use Rattle.sqlite.specs.Collation.TheVariants.{Binary}
@@ -39,3 +39,16 @@ pub one_item : {X : Type 0} (xs : List X) (a : X) → length xs ≡ 1 → slice_
 one_item [] a n p = absurd (let e : 0 ≡ 1 = n in cc)
 one_item (x ∷ []) a n p = let e : x ≡ a = cc in ap (λ y. y ∷ []) e
 one_item (x ∷ y ∷ xs) a n p = absurd (let e : suc (suc (length xs)) ≡ 1 = n in omega (arith, e))
+
+pub two_items : {X : Type 0} (xs : List X) (a b : X) → length xs ≡ 2 → slice_get xs 0 ≡ Some a → slice_get xs 1 ≡ Some b → xs ≡ a ∷ b ∷ []
+two_items [] a b n p q = absurd (let e : 0 ≡ 2 = n in cc)
+two_items (x ∷ []) a b n p q = absurd (let e : 1 ≡ 2 = n in cc)
+two_items (x ∷ y ∷ []) a b n p q = let e : x ≡ a = cc in let f : y ≡ b = cc in λ i. e i ∷ f i ∷ []
+two_items (x ∷ y ∷ z ∷ xs) a b n p q = absurd (let e : suc (suc (suc (length xs))) ≡ 2 = n in omega (arith, e))
+
+pub three_items : {X : Type 0} (xs : List X) (a b d : X) → length xs ≡ 3 → slice_get xs 0 ≡ Some a → slice_get xs 1 ≡ Some b → slice_get xs 2 ≡ Some d → xs ≡ a ∷ b ∷ d ∷ []
+three_items [] a b d n p q r = absurd (let e : 0 ≡ 3 = n in cc)
+three_items (x ∷ []) a b d n p q r = absurd (let e : 1 ≡ 3 = n in cc)
+three_items (x ∷ y ∷ []) a b d n p q r = absurd (let e : 2 ≡ 3 = n in cc)
+three_items (x ∷ y ∷ z ∷ []) a b d n p q r = let e : x ≡ a = cc in let f : y ≡ b = cc in let h : z ≡ d = cc in λ i. e i ∷ f i ∷ h i ∷ []
+three_items (x ∷ y ∷ z ∷ w ∷ xs) a b d n p q r = absurd (let e : suc (suc (suc (suc (length xs)))) ≡ 3 = n in omega (arith, e))
