@@ -6,16 +6,18 @@ use Rattle.std.specs.Str.{bytes_eq}
 use Rattle.text_reader.specs.Hexadecimal.{IsLowerHexadecimal}
 use Rattle.text_reader.proofs.Unique.{same_hexadecimal}
 use Rattle.git_object.proofs.IdLemmas.{id_is_lower}
+use Rattle.evidence.specs.Dossiers.{IsPublic}
+use Rattle.hex.specs.Hex.{encode_lower}
 use Rattle.command_words.specs.Ids.{AreIds}
 use Rattle.command_words.specs.Numbers.{IsCount}
 use Rattle.command_words.specs.Spaced.{IsSpaced}
 use Rattle.command_words.proofs.OneValue.{same_count, same_ids, same_space, same_name as same_spaced_name}
-use Rattle.command_words.specs.Commands.{IsAsked, IsRoot, IsBottom, IsMessage, IsTarget, annotate_app, demo_app, explain_app, height_text, kind_text, width_text}
+use Rattle.command_words.specs.Commands.{IsAsked, IsRoot, IsBottom, IsKey, IsMessage, IsTarget, annotate_app, demo_app, explain_app, height_text, kind_text, width_text}
 use Rattle.command_words.specs.FirstWords.{AsksFor, AsksForNone, IsCommand, IsNoCommand, IsWithinLimits, name_text}
 use Rattle.command_words.specs.Grammars.{value_of}
 use Rattle.command_words.specs.Laws.{OneCommand}
 use Rattle.command_words.specs.declared.commands.Command.{Command}
-use Rattle.command_words.specs.declared.commands.Command.TheVariants.{VerifyRef, KeyGen, Record, Seal, Snapshot, Explain, Annotate, Approve, Demo}
+use Rattle.command_words.specs.declared.commands.Command.TheVariants.{VerifyRef, KeyGen, Record, Seal, Snapshot, Explain, Annotate, Approve, Demo, EvidenceMake}
 use Rattle.command_words.specs.declared.commands.CommandName.{CommandName}
 use Rattle.command_words.specs.declared.commands.CommandName.TheVariants as name
 use Rattle.command_words.specs.declared.commands.Height.{Height}
@@ -35,7 +37,9 @@ named_by word = if bytes_eq word (name_text name.VerifyRef) then Some name.Verif
     else (if bytes_eq word (name_text name.Snapshot) then Some name.Snapshot
     else (if bytes_eq word (name_text name.PolicyApply) then Some name.PolicyApply
     else (if bytes_eq word (name_text name.Explain) then Some name.Explain
-    else (if bytes_eq word (name_text name.Annotate) then Some name.Annotate else (if bytes_eq word (name_text name.Approve) then Some name.Approve else Some name.Demo)))))))))))
+    else (if bytes_eq word (name_text name.Annotate) then Some name.Annotate else (if bytes_eq word (name_text name.Approve) then Some name.Approve else (if bytes_eq word (name_text name.Demo) then Some name.Demo
+    else (if bytes_eq word (name_text name.Mirror) then Some name.Mirror
+    else (if bytes_eq word (name_text name.EvidenceMake) then Some name.EvidenceMake else Some name.EvidenceCheck))))))))))))))
 
 named_by-text : (n : CommandName) → named_by (name_text n) ≡ Some n
 unfolding named_by
@@ -52,6 +56,9 @@ named_by-text name.Explain = refl
 named_by-text name.Annotate = refl
 named_by-text name.Approve = refl
 named_by-text name.Demo = refl
+named_by-text name.Mirror = refl
+named_by-text name.EvidenceMake = refl
+named_by-text name.EvidenceCheck = refl
 
 same_some : {X : Type 0} (x y : X) → Some x ≡ Some y → x ≡ y
 same_some x y e = cc
@@ -140,6 +147,13 @@ same_name_given given a b is other = same_some a b (sym is.is ∙ other.is)
 same_target : (given : Option (List ℕ)) (a b : List ℕ) → IsTarget given a → IsTarget given b → a ≡ b
 same_target given a b is other = same_hexadecimal a b is.is_id.bytes other.is_id.bytes (same_some _ _ (sym is.is ∙ other.is))
 
+same_key : (given : Option (List ℕ)) (a b : List ℕ) → IsKey given a → IsKey given b → a ≡ b
+same_key given a b is other = same_hexadecimal a b is.is_public.bytes other.is_public.bytes (same_some _ _ (sym is.is ∙ other.is))
+
+-- a text that is no key's is none's
+pub no_key : (given : Option (List ℕ)) (text : List ℕ) → given ≡ Some text → ((public : List ℕ) → IsPublic public → text ≢ encode_lower public) → (public : List ℕ) → IsKey given public → ⊥
+no_key given text e none public is = none public is.is_public (same_some _ _ (sym e ∙ is.is))
+
 -- a text that is no id is none's target
 pub no_target : (given : Option (List ℕ)) (text : List ℕ) → given ≡ Some text → (IsLowerHexadecimal 32 text → ⊥) → (id : List ℕ) → IsTarget given id → ⊥
 no_target given text e none id is = none (subst (IsLowerHexadecimal 32) (same_some _ _ (sym is.is ∙ e)) (id_is_lower id is.is_id))
@@ -216,6 +230,15 @@ one_after name.Demo rest a b is other =
     let same : is.0 ≡ other.0 = of_given (value_of demo_app (codes "count") rest) (λ (text : List ℕ). IsCount 500 text is.0) (λ (text : List ℕ). IsCount 500 text other.0)
     (λ (text : List ℕ) (one : IsCount 500 text is.0) (two : IsCount 500 text other.0). same_count 500 text is.0 other.0 (omega arith) one two) is.2.counts other.2.counts in
     is.1 ∙ ap Demo same ∙ sym other.1
+one_after name.Mirror rest a b is other = is.0 ∙ sym other.0
+one_after name.EvidenceMake rest a b is other =
+    let same : is.0 ≡ other.0 = same_key _ is.0 other.0 is.4.key other.4.key in
+    let at_left : is.1 ≡ other.1 = same_target _ is.1 other.1 is.4.at_left other.4.at_left in
+    let at_right : is.2 ≡ other.2 = same_target _ is.2 other.2 is.4.at_right other.4.at_right in
+    let named : a ≡ EvidenceMake is.0 is.1 is.2 = is.3 in
+    let named_so : b ≡ EvidenceMake other.0 other.1 other.2 = other.3 in
+    cc
+one_after name.EvidenceCheck rest a b is other = is.0 ∙ sym other.0
 
 pub one_command : OneCommand
 one_command words a b is other =
@@ -262,3 +285,6 @@ within_after name.Explain rest command asks = subst IsWithinLimits (sym asks.2) 
 within_after name.Annotate rest command asks = subst IsWithinLimits (sym asks.3) (listed _ asks.1 asks.4.lists, few_listed _ asks.1 asks.4.lists, short _ asks.2 asks.4.says)
 within_after name.Approve rest command asks = subst IsWithinLimits (sym asks.2) asks.3.named.not_log
 within_after name.Demo rest command asks = subst IsWithinLimits (sym asks.1) (few_changes _ asks.0 asks.2.counts)
+within_after name.Mirror rest command asks = subst IsWithinLimits (sym asks.0) tt
+within_after name.EvidenceMake rest command asks = subst IsWithinLimits (sym asks.3) asks.4.key.is_public
+within_after name.EvidenceCheck rest command asks = subst IsWithinLimits (sym asks.0) tt

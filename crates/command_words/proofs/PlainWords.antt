@@ -15,7 +15,7 @@ use Rattle.command_words.specs.Grammars.{Takes, bare_app, is_given, value_of}
 use Rattle.command_words.specs.Laws.{PlainWords, flag_words}
 use Rattle.command_words.specs.declared.commands.CommandName.TheVariants as name
 use Rattle.command_words.proofs.LetterFirst.{letter_first}
-use Rattle.command_words.proofs.ValueWords.{annotate_asks, approve_asks, demo_asks}
+use Rattle.command_words.proofs.ValueWords.{annotate_asks, approve_asks, demo_asks, evidence_asks}
 use Rattle.command_words.specs.declared.commands.Height.{Height}
 use Rattle.command_words.specs.declared.commands.Height.TheVariants.{H5, H10, H15}
 use Rattle.command_words.specs.declared.commands.Width.{Width}
@@ -252,4 +252,12 @@ plain_words = record {
   annotate = λ skip text ids are. record { first = name.Annotate; rest = kind_text skip ∷ text ∷ []; are = refl; asks = (skip, ids, [], refl, annotate_asks skip text ids are) };
   demo = λ count some few. record { first = name.Demo; rest = decimal count ∷ []; are = refl; asks = (count, refl, demo_asks count some few) };
   approve = λ reference target is not_log is_id. record { first = name.Approve; rest = reference ∷ encode_lower target ∷ []; are = refl; asks = (reference, target, refl, approve_asks reference target is not_log is_id) };
+  mirror = record { first = name.Mirror; rest = []; are = refl; asks = (refl, no_more (codes "mirror")) };
+  evidence_make = λ public left right is_public is_left is_right. record {
+    first = name.EvidenceMake;
+    rest = encode_lower public ∷ encode_lower left ∷ encode_lower right ∷ [];
+    are = refl;
+    asks = (public, left, right, refl, evidence_asks public left right is_public is_left is_right);
+  };
+  evidence_check = record { first = name.EvidenceCheck; rest = []; are = refl; asks = (refl, no_more (codes "evidence-check")) };
 }

@@ -1,6 +1,6 @@
 -- Values that begin with no dash are taken as values.
-use Rattle.std.proofs.Common.{◌≡◌, ◌≢◌, ◌≤◌, ◌<◌, ◌^◌, ◌==◌, ℕ, Bool, true, false, List, [], ◌∷◌, ◌++◌, get_or, length, slice_index, refl, sym, ap, subst, ◌∙◌, arith}
-use Rattle.std.specs.Prelude.{Option, Some, None, codes, decimal, map}
+use Rattle.std.proofs.Common.{◌≡◌, ◌≢◌, ◌≤◌, ◌<◌, ◌^◌, ◌==◌, ℕ, Bool, true, false, List, [], ◌∷◌, ◌++◌, get_or, length, slice_index, inl, inr, refl, sym, ap, subst, ◌∙◌, arith}
+use Rattle.std.specs.Prelude.{◌⊎◌, Option, Some, None, codes, decimal, map}
 use Rattle.std.specs.List.{join_with_byte}
 use Rattle.std.specs.Option.{IsSomeAnd}
 use Rattle.std.proofs.lemmas.Bool.{true≢false, ne_eqb}
@@ -13,9 +13,11 @@ use Rattle.text_reader.specs.Hexadecimal.{IsLowerHexadecimal, is_lower_digit}
 use Rattle.git_object.specs.Ids.{IsId}
 use Rattle.git_object.specs.Names.{IsRefName, log_name}
 use Rattle.git_object.proofs.IdLemmas.{id_is_lower}
+use Rattle.evidence.proofs.KeyLines.{is_lower}
+use Rattle.evidence.specs.Dossiers.{IsPublic}
 use Rattle.command_words.specs.Ids.{AreIds}
 use Rattle.command_words.specs.Numbers.{IsCount}
-use Rattle.command_words.specs.Commands.{AsksApproval, AsksDemo, AsksNote, IsAsked, IsMessage, annotate_app, approve_app, demo_app, kind_text}
+use Rattle.command_words.specs.Commands.{AsksApproval, AsksDemo, AsksDossier, AsksNote, IsAsked, IsMessage, annotate_app, approve_app, demo_app, evidence_app, kind_text}
 use Rattle.command_words.specs.Grammars.{Takes, is_given, value_of}
 use Rattle.command_words.proofs.LetterFirst.{letter_first}
 
@@ -26,9 +28,9 @@ pub record Begins (text : List ℕ) : Type 0 where
   pub is : text ≡ first ∷ rest
   pub no_dash : (first == 45) ≡ false
 
-of_digits : (text : List ℕ) → IsLowerHexadecimal 32 text → Begins text
-of_digits [] is = absurd (omega (arith, is.0))
-of_digits (d ∷ rest) is =
+of_digits : (n : ℕ) → 0 < n → (text : List ℕ) → IsLowerHexadecimal n text → Begins text
+of_digits n some [] is = absurd (omega (arith, is.0, some))
+of_digits n some (d ∷ rest) is =
     let digit : is_lower_digit d ≡ true = All-head (λ (b : ℕ). is_lower_digit b ≡ true) d rest is.1 in
     record { first = d; rest = rest; is = refl; no_dash = ne_eqb d 45 (λ same. true≢false (sym digit ∙ ap is_lower_digit same)) }
 
@@ -36,7 +38,7 @@ of_more : (text more : List ℕ) → Begins text → Begins (text ++ more)
 of_more text more begins = record { first = begins.first; rest = begins.rest ++ more; is = ap (λ (t : List ℕ). t ++ more) begins.is; no_dash = begins.no_dash }
 
 of_id : (id : List ℕ) → IsId id → Begins (encode_lower id)
-of_id id is = of_digits (encode_lower id) (id_is_lower id is)
+of_id id is = of_digits 32 (omega arith) (encode_lower id) (id_is_lower id is)
 
 of_list : (ids : List (List ℕ)) → 1 ≤ length ids → ((k : ℕ) (d : List ℕ) → k < length ids → IsId (get_or ids k d)) → Begins (join_with_byte 44 (map encode_lower ids))
 of_list [] some are = absurd (omega arith)
@@ -109,6 +111,55 @@ approve_asks name target is_name not_log is_id =
     subst (λ (n : List ℕ). IsRefName n → n ≢ log_name → AsksApproval n target (n ∷ encode_lower target ∷ [])) (sym named.1)
     (λ is other. subst (λ (text : List ℕ). AsksApproval (114 ∷ named.0) target ((114 ∷ named.0) ∷ text ∷ [])) (sym begins.is)
     (approve_begun named.0 target begins.first begins.rest begins.no_dash begins.is is_id is other)) is_name not_log
+
+-- ---- evidence-make <key> <id> <id>
+key_begins : (public : List ℕ) → IsPublic public → Begins (encode_lower public)
+key_begins public is = by_length is.long where
+  by_length : (length public ≡ 56) ⊎ (length public ≡ 60) → Begins (encode_lower public)
+  by_length (inl long) = of_digits 56 (omega arith) (encode_lower public) (is_lower 56 public long is.bytes)
+  by_length (inr long) = of_digits 60 (omega arith) (encode_lower public) (is_lower 60 public long is.bytes)
+
+evidence_taken : (a b c : ℕ) (key left right : List ℕ) → (a == 45) ≡ false → (b == 45) ≡ false → (c == 45) ≡ false
+    → Takes evidence_app ((a ∷ key) ∷ (b ∷ left) ∷ (c ∷ right) ∷ [])
+unfolding walk_fault walked flags_fault defaults_fault
+evidence_taken a b c key left right first second third = simp (first, second, third)
+
+evidence_key : (a b c : ℕ) (key left right : List ℕ) → (a == 45) ≡ false → (b == 45) ≡ false → (c == 45) ≡ false
+    → value_of evidence_app (codes "key") ((a ∷ key) ∷ (b ∷ left) ∷ (c ∷ right) ∷ []) ≡ Some (a ∷ key)
+unfolding walked
+evidence_key a b c key left right first second third = simp (first, second, third)
+
+evidence_left : (a b c : ℕ) (key left right : List ℕ) → (a == 45) ≡ false → (b == 45) ≡ false → (c == 45) ≡ false
+    → value_of evidence_app (codes "left") ((a ∷ key) ∷ (b ∷ left) ∷ (c ∷ right) ∷ []) ≡ Some (b ∷ left)
+unfolding walked
+evidence_left a b c key left right first second third = simp (first, second, third)
+
+evidence_right : (a b c : ℕ) (key left right : List ℕ) → (a == 45) ≡ false → (b == 45) ≡ false → (c == 45) ≡ false
+    → value_of evidence_app (codes "right") ((a ∷ key) ∷ (b ∷ left) ∷ (c ∷ right) ∷ []) ≡ Some (c ∷ right)
+unfolding walked
+evidence_right a b c key left right first second third = simp (first, second, third)
+
+evidence_begun : (public left right key first second : List ℕ) (a b c : ℕ) → (a == 45) ≡ false → (b == 45) ≡ false → (c == 45) ≡ false
+    → encode_lower public ≡ a ∷ key → encode_lower left ≡ b ∷ first → encode_lower right ≡ c ∷ second → IsPublic public → IsId left → IsId right
+    → AsksDossier public left right ((a ∷ key) ∷ (b ∷ first) ∷ (c ∷ second) ∷ [])
+evidence_begun public left right key first second a b c no_a no_b no_c is_key is_first is_second is_public is_left is_right = record {
+  takes = evidence_taken a b c key first second no_a no_b no_c;
+  key = record { is = evidence_key a b c key first second no_a no_b no_c ∙ sym (ap (λ (t : List ℕ). Some t) is_key); is_public = is_public };
+  at_left = record { is = evidence_left a b c key first second no_a no_b no_c ∙ sym (ap (λ (t : List ℕ). Some t) is_first); is_id = is_left };
+  at_right = record { is = evidence_right a b c key first second no_a no_b no_c ∙ sym (ap (λ (t : List ℕ). Some t) is_second); is_id = is_right };
+}
+
+pub evidence_asks : (public left right : List ℕ) → IsPublic public → IsId left → IsId right
+    → AsksDossier public left right (encode_lower public ∷ encode_lower left ∷ encode_lower right ∷ [])
+evidence_asks public left right is_public is_left is_right =
+    let key = key_begins public is_public in
+    let first = of_id left is_left in
+    let second = of_id right is_right in
+    subst (λ (text : List ℕ). AsksDossier public left right (text ∷ encode_lower left ∷ encode_lower right ∷ [])) (sym key.is)
+    (subst (λ (text : List ℕ). AsksDossier public left right ((key.first ∷ key.rest) ∷ text ∷ encode_lower right ∷ [])) (sym first.is)
+    (subst (λ (text : List ℕ). AsksDossier public left right ((key.first ∷ key.rest) ∷ (first.first ∷ first.rest) ∷ text ∷ [])) (sym second.is)
+    (evidence_begun public left right key.rest first.rest second.rest key.first first.first second.first key.no_dash first.no_dash second.no_dash
+    key.is first.is second.is is_public is_left is_right)))
 
 -- ---- demo <count>
 of_number : (text : List ℕ) → 48 < get_or text 0 0 → Begins text

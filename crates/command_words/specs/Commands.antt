@@ -6,6 +6,7 @@ use Rattle.hex.specs.Hex.{encode_lower}
 use Rattle.git_object.specs.Ids.{IsId}
 use Rattle.git_object.specs.Names.{IsRefName, log_name}
 use Rattle.ref_patterns.specs.declared.space.Space.{Space}
+use Rattle.evidence.specs.Dossiers.{IsPublic}
 use Rattle.command_words.specs.Ids.{AreIds}
 use Rattle.command_words.specs.Numbers.{IsCount}
 use Rattle.command_words.specs.Spaced.{IsSpaced}
@@ -90,6 +91,24 @@ pub record AsksApproval (name target : List ℕ) (words : List (List ℕ)) : Typ
   pub takes : Takes approve_app words
   pub named : IsAsked (value_of approve_app (codes "ref") words) name
   pub at : IsTarget (value_of approve_app (codes "target") words) target
+
+-- ---- evidence-make <key> <id> <id>
+
+abbrev pub evidence_app : App
+evidence_app = with_rule (with_rule (with_rule (bare_app (codes "evidence-make")) (positional_rule (codes "key")))
+    (positional_rule (codes "left"))) (positional_rule (codes "right"))
+
+-- a value that is given is the bytes of a public key in lower-case hexadecimal
+pub record IsKey (given : Option (List ℕ)) (public : List ℕ) : Type 0 where
+  pub is : given ≡ Some (encode_lower public)
+  pub is_public : IsPublic public
+
+-- a key, and the ids of two objects
+pub record AsksDossier (public left right : List ℕ) (words : List (List ℕ)) : Type 0 where
+  pub takes : Takes evidence_app words
+  pub key : IsKey (value_of evidence_app (codes "key") words) public
+  pub at_left : IsTarget (value_of evidence_app (codes "left") words) left
+  pub at_right : IsTarget (value_of evidence_app (codes "right") words) right
 
 -- ---- demo <n>
 

@@ -2,13 +2,14 @@
 use Rattle.std.specs.Prelude.{◌≡◌, ◌≢◌, ◌<◌, ◌≤◌, ◌∷◌, ℕ, Bool, List, Option, None, Some, codes, length}
 use Rattle.git_object.specs.Names.{log_name}
 use Rattle.ref_patterns.specs.declared.space.Space.{Space}
-use Rattle.command_words.specs.Commands.{AreTwo, AsksApproval, AsksDemo, AsksKey, AsksNote, AsksReasons, AsksReference}
-use Rattle.command_words.specs.Commands.{AsksSeal, AsksVerdict}
+use Rattle.evidence.specs.Dossiers.{IsPublic}
+use Rattle.command_words.specs.Commands.{AreTwo, AsksApproval, AsksDemo, AsksDossier, AsksKey, AsksNote, AsksReasons}
+use Rattle.command_words.specs.Commands.{AsksReference, AsksSeal, AsksVerdict}
 use Rattle.command_words.specs.Grammars.{Takes, bare_app}
 use Rattle.command_words.specs.declared.commands.Command.{Command}
 use Rattle.command_words.specs.declared.commands.Command.TheVariants.{VerifyRef, Export, Import, KeyGen, Log, Record}
 use Rattle.command_words.specs.declared.commands.Command.TheVariants.{Seal, Snapshot, PolicyApply, Explain, Annotate}
-use Rattle.command_words.specs.declared.commands.Command.TheVariants.{Approve, Demo}
+use Rattle.command_words.specs.declared.commands.Command.TheVariants.{Approve, Demo, Mirror, EvidenceMake, EvidenceCheck}
 use Rattle.command_words.specs.declared.commands.CommandName.{CommandName}
 use Rattle.command_words.specs.declared.commands.CommandName.TheVariants as name
 use Rattle.command_words.specs.declared.commands.Height.{Height}
@@ -28,6 +29,9 @@ name_text name.Explain = codes "explain"
 name_text name.Annotate = codes "annotate"
 name_text name.Approve = codes "approve"
 name_text name.Demo = codes "demo"
+name_text name.Mirror = codes "mirror"
+name_text name.EvidenceMake = codes "evidence-make"
+name_text name.EvidenceCheck = codes "evidence-check"
 
 -- the words behind this first one ask for the command
 abbrev pub AsksFor : CommandName → List (List ℕ) → Command → Type 0
@@ -51,6 +55,10 @@ AsksFor name.Annotate rest command = (skip : Bool) × (ids : List (List ℕ)) ×
 AsksFor name.Approve rest command = (reference : List ℕ) × (target : List ℕ) × (command ≡ Approve reference target)
     × AsksApproval reference target rest
 AsksFor name.Demo rest command = (count : ℕ) × (command ≡ Demo count) × AsksDemo count rest
+AsksFor name.Mirror rest command = (command ≡ Mirror) × Takes (bare_app (codes "mirror")) rest
+AsksFor name.EvidenceMake rest command = (public : List ℕ) × (left : List ℕ) × (right : List ℕ)
+    × (command ≡ EvidenceMake public left right) × AsksDossier public left right rest
+AsksFor name.EvidenceCheck rest command = (command ≡ EvidenceCheck) × Takes (bare_app (codes "evidence-check")) rest
 
 abbrev pub AsksForNone : CommandName → List (List ℕ) → Type 0
 AsksForNone first rest = (command : Command) → AsksFor first rest command → ⊥
@@ -88,3 +96,6 @@ IsWithinLimits (Explain space text) = Unit {0}
 IsWithinLimits (Annotate skip ids message) = (0 < length ids) × (length ids ≤ 256) × (length message ≤ 65536)
 IsWithinLimits (Approve name target) = name ≢ log_name
 IsWithinLimits (Demo count) = count ≤ 500
+IsWithinLimits Mirror = Unit {0}
+IsWithinLimits (EvidenceMake public left right) = IsPublic public
+IsWithinLimits EvidenceCheck = Unit {0}

@@ -3,6 +3,7 @@ use Rattle.std.specs.Prelude.{◌≡◌, ◌≢◌, ◌≤◌, ◌++◌, ◌∷�
 use Rattle.hex.specs.Hex.{encode_lower}
 use Rattle.git_object.specs.Ids.{IsId}
 use Rattle.git_object.specs.Names.{IsRefName, log_name}
+use Rattle.evidence.specs.Dossiers.{IsPublic}
 use Rattle.ref_patterns.specs.Patterns.{prefix}
 use Rattle.ref_patterns.specs.declared.space.Space.{Space}
 use Rattle.command_words.specs.Ids.{AreIds}
@@ -11,7 +12,7 @@ use Rattle.command_words.specs.FirstWords.{IsCommand}
 use Rattle.command_words.specs.declared.commands.Command.{Command}
 use Rattle.command_words.specs.declared.commands.Command.TheVariants.{VerifyRef, Export, Import, KeyGen, Log, Record}
 use Rattle.command_words.specs.declared.commands.Command.TheVariants.{Seal, Snapshot, PolicyApply, Explain, Annotate}
-use Rattle.command_words.specs.declared.commands.Command.TheVariants.{Approve, Demo}
+use Rattle.command_words.specs.declared.commands.Command.TheVariants.{Approve, Demo, Mirror, EvidenceMake, EvidenceCheck}
 use Rattle.command_words.specs.declared.commands.Height.{Height}
 use Rattle.command_words.specs.declared.commands.Width.{Width}
 
@@ -51,3 +52,8 @@ pub record PlainWords : Type 0 where
   pub demo : (count : ℕ) → 1 ≤ count → count ≤ 500 → IsCommand (codes "demo" ∷ decimal count ∷ []) (Demo count)
   pub approve : (name target : List ℕ) → IsRefName name → name ≢ log_name → IsId target
       → IsCommand (codes "approve" ∷ name ∷ encode_lower target ∷ []) (Approve name target)
+  pub mirror : IsCommand (codes "mirror" ∷ []) Mirror
+  pub evidence_make : (public left right : List ℕ) → IsPublic public → IsId left → IsId right
+      → IsCommand (codes "evidence-make" ∷ encode_lower public ∷ encode_lower left ∷ encode_lower right ∷ [])
+      (EvidenceMake public left right)
+  pub evidence_check : IsCommand (codes "evidence-check" ∷ []) EvidenceCheck

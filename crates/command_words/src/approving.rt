@@ -35,7 +35,7 @@ fn take_approve<'a>(alloc: Global, words: &'a [String]) -> Result<ArgMatches<'a>
 }
 
 // The id that a text writes; None where it writes none.
-fn target_at(text: &str) -> Option<ObjectId>
+pub(crate) fn target_at(text: &str) -> Option<ObjectId>
     ensures found { IfSome result (λ id. IsTarget (Some text.now) id) }
     ensures none { IfNone result ((id : List ℕ) → IsTarget (Some text.now) id → ⊥) }
 {

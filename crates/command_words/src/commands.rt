@@ -80,6 +80,16 @@ pub enum Command {
     Demo {
         count: u32,
     },
+    /// To offer the source's repository to the store.
+    Mirror,
+    /// The dossier of a key of 56 bytes or of 60 and of the bodies of two objects of the store.
+    EvidenceMake {
+        public: Octets,
+        left: ObjectId,
+        right: ObjectId,
+    },
+    /// What the source's dossier shows.
+    EvidenceCheck,
 }
 
 /// The first word of a command.
@@ -98,4 +108,7 @@ pub enum CommandName {
     Annotate,
     Approve,
     Demo,
+    Mirror,
+    EvidenceMake,
+    EvidenceCheck,
 }

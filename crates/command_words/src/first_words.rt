@@ -65,5 +65,14 @@ pub(crate) fn named(word: &str) -> Option<CommandName>
     if is_word(word, "demo") {
         return Some(CommandName::Demo);
     }
+    if is_word(word, "mirror") {
+        return Some(CommandName::Mirror);
+    }
+    if is_word(word, "evidence-make") {
+        return Some(CommandName::EvidenceMake);
+    }
+    if is_word(word, "evidence-check") {
+        return Some(CommandName::EvidenceCheck);
+    }
     None
 }

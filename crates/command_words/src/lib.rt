@@ -10,6 +10,7 @@ mod arguments;
 mod bare_words;
 mod commands;
 mod demonstrating;
+mod evidence_words;
 mod explaining;
 mod first_words;
 mod ids;

@@ -9,6 +9,7 @@ use crate::approving::read_approve;
 use crate::bare_words::read_no_more;
 use crate::commands::{Command, CommandName};
 use crate::demonstrating::read_demo;
+use crate::evidence_words::read_evidence;
 use crate::explaining::read_explain;
 use crate::first_words::{named, split_first};
 use crate::key_types::read_key_gen;
@@ -55,6 +56,15 @@ fn read_rest(alloc: Global, first: CommandName, words: &[String]) -> Result<Comm
         CommandName::Annotate => read_annotate(alloc, words),
         CommandName::Approve => read_approve(alloc, words),
         CommandName::Demo => read_demo(alloc, words),
+        CommandName::Mirror => {
+            read_no_more(alloc, "mirror", words)?;
+            Ok(Command::Mirror)
+        }
+        CommandName::EvidenceMake => read_evidence(alloc, words),
+        CommandName::EvidenceCheck => {
+            read_no_more(alloc, "evidence-check", words)?;
+            Ok(Command::EvidenceCheck)
+        }
     }
 }
 

@@ -42,6 +42,15 @@ pub(crate) fn needs_of(alloc: Global, command: &[String]) -> Result<Needs, Refus
         ) => (true, true, false),
         Ok(Command::Approve { name: _, target: _ }) => (true, true, false),
         Ok(Command::Demo { count: _ }) => (true, false, false),
+        Ok(Command::Mirror) => (true, false, false),
+        Ok(
+            Command::EvidenceMake {
+                public: _,
+                left: _,
+                right: _,
+            },
+        ) => (false, false, false),
+        Ok(Command::EvidenceCheck) => (false, false, false),
         Ok(
             Command::KeyGen {
                 height,

@@ -16,6 +16,11 @@ use Rattle.commands_keys.specs.Laws.{OneOfKeys}
 use Rattle.commands_keys.specs.MakingKeys.{key_gen_ending}
 use Rattle.commands_keys.specs.Sealing.{seal_ending}
 use Rattle.log_appending.specs.Outcomes.{OneOfLog, RecordComes, record_ending}
+use Rattle.commands_mirror.specs.Checking.{check_ending}
+use Rattle.commands_mirror.specs.Contents.{CheckComes, MakeComes, MirrorComes}
+use Rattle.commands_mirror.specs.Laws.{OneOfMirror}
+use Rattle.commands_mirror.specs.Making.{make_ending}
+use Rattle.commands_mirror.specs.Offering.{mirror_ending}
 use Rattle.commands_policy.specs.Explaining.{explain_ending}
 use Rattle.commands_policy.specs.Outcomes.{ApplyComes, ExplainComes, OneOfPolicy, apply_ending}
 use Rattle.commands_stream.specs.Contents.{ExportComes, ImportComes}
@@ -30,7 +35,7 @@ use Rattle.worlds.specs.Telling.{Content}
 use Rattle.gittuf_cli.specs.Contents.{Comes, IsSettledFor, OneOutcome}
 
 module _ (verifying : OneOfVerify) (stream : OneOfStream) (keys : OneOfKeys) (history : OneOfHistory) (log : OneOfLog) (trees : OneOfTrees)
-    (policy : OneOfPolicy) (approvals : OneOfApprovals) (demos : OneOfDemo) where
+    (policy : OneOfPolicy) (approvals : OneOfApprovals) (mirrors : OneOfMirror) (demos : OneOfDemo) where
   one_comes : (c : Command) (content : Content) → IsSettledFor c content → (x y : Ending) → Comes c content x → Comes c content y → x ≡ y
   one_comes (command.VerifyRef name root stdin) content settled =
       one_ending verify_ending (VerifyComes name root stdin content.held content.bytes) (verifying.verify name root stdin content.held content.bytes)
@@ -49,6 +54,9 @@ module _ (verifying : OneOfVerify) (stream : OneOfStream) (keys : OneOfKeys) (hi
   one_comes (command.Approve name target) content settled =
       one_ending approve_ending (ApproveComes name target content.file content.held) (approvals.approved name target content.file content.held)
   one_comes (command.Demo count) content settled = one_ending demo_ending (DemoComes count content.held) (demos.demo count content.held)
+  one_comes command.Mirror content settled = one_ending mirror_ending (MirrorComes content.held content.bytes) (mirrors.mirror content.held content.bytes)
+  one_comes (command.EvidenceMake public left right) content settled = one_ending make_ending (MakeComes content.held left right) (mirrors.make content.held left right)
+  one_comes command.EvidenceCheck content settled = one_ending check_ending (CheckComes content.bytes) (mirrors.check content.bytes)
 
   pub same_outcome : OneCommand → OneOutcome
   same_outcome commands words content a b settled (inl none) (inl also) = none.0 ∙ sym also.0

@@ -8,6 +8,7 @@ use Rattle.worlds.specs.Worlds.{Types, Ways}
 use Rattle.commands_approve.specs.Runs as approving
 use Rattle.commands_keys.specs.Runs as keys
 use Rattle.commands_log.specs.Runs as log
+use Rattle.commands_mirror.specs.Runs as mirroring
 use Rattle.commands_policy.specs.Runs as policy
 use Rattle.commands_snapshot.specs.Runs as trees
 use Rattle.commands_stream.specs.Runs as stream
@@ -19,7 +20,7 @@ use Rattle.gittuf_cli.specs.Runs.{EndsOf, touched}
 
 module _ {types : Types} (ways : Ways types) (verifies : verifying.TellsOfWorld ways) (streams : stream.TellsOfWorld ways)
     (signs : keys.TellsOfWorld ways) (logs : log.TellsOfWorld ways) (snaps : trees.TellsOfWorld ways)
-    (applies : policy.TellsOfWorld ways) (approves : approving.TellsOfWorld ways) (shows : demos.TellsOfWorld ways) where
+    (applies : policy.TellsOfWorld ways) (approves : approving.TellsOfWorld ways) (mirrors : mirroring.TellsOfWorld ways) (shows : demos.TellsOfWorld ways) where
   told_comes : (c : Command) → TellsEnding ways (touched c) (EndsOf ways c) (Comes c)
   told_comes (command.VerifyRef name root stdin) = verifies.verify name root stdin
   told_comes command.Export = streams.export
@@ -34,6 +35,9 @@ module _ {types : Types} (ways : Ways types) (verifies : verifying.TellsOfWorld 
   told_comes (command.Annotate skip ids message) = logs.annotated ids skip message
   told_comes (command.Approve name target) = approves.approved name target
   told_comes (command.Demo count) = shows.demo count
+  told_comes command.Mirror = mirrors.mirror
+  told_comes (command.EvidenceMake public left right) = mirrors.make public left right
+  told_comes command.EvidenceCheck = mirrors.check
 
   pub told_outcome : TellsOutcome ways
   told_outcome words before after ending content tells (inl none) = elim none.why [

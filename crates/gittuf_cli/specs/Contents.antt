@@ -12,6 +12,7 @@ use Rattle.worlds.specs.Worlds.{Types, Ways, World}
 use Rattle.commands_approve.specs.Runs.{ApproveAnswers}
 use Rattle.commands_keys.specs.Runs.{KeyGenAnswers, SealAnswers}
 use Rattle.commands_log.specs.Runs.{LogAnswers, RecordAnswers}
+use Rattle.commands_mirror.specs.Runs.{CheckAnswers, MakeAnswers, MirrorAnswers}
 use Rattle.commands_policy.specs.Runs.{ApplyAnswers, ExplainAnswers}
 use Rattle.commands_snapshot.specs.Contents.{IsSettled}
 use Rattle.commands_snapshot.specs.Runs.{SnapshotAnswers}
@@ -35,6 +36,9 @@ Comes (command.Explain space text) = ExplainAnswers
 Comes (command.Annotate skip ids message) = RecordAnswers
 Comes (command.Approve name target) = ApproveAnswers name target
 Comes (command.Demo count) = DemoAnswers count
+Comes command.Mirror = MirrorAnswers
+Comes (command.EvidenceMake public left right) = MakeAnswers left right
+Comes command.EvidenceCheck = CheckAnswers
 
 -- what is settled of the content where a command has one ending: nothing, but for the trees of a listing
 abbrev pub IsSettledFor : Command → Content → Type 0

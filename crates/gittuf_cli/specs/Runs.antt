@@ -15,6 +15,7 @@ use Rattle.worlds.specs.Worlds.{Types, Ways, World}
 use Rattle.commands_approve.specs.Runs.{ApproveRuns}
 use Rattle.commands_keys.specs.Runs.{KeyGenRuns, SealRuns}
 use Rattle.commands_log.specs.Runs.{AnnotateRuns, LogRuns, RecordRuns}
+use Rattle.commands_mirror.specs.Runs.{CheckRuns, MakeRuns, MirrorRuns, on_text}
 use Rattle.commands_policy.specs.Runs.{ApplyRuns, ExplainRuns}
 use Rattle.commands_snapshot.specs.Runs.{SnapshotRuns}
 use Rattle.commands_stream.specs.Runs.{ExportRuns, ImportRuns}
@@ -50,6 +51,9 @@ touched (command.Explain space text) = on_store
 touched (command.Annotate skip ids message) = on_log
 touched (command.Approve name target) = on_log
 touched (command.Demo count) = on_store
+touched command.Mirror = on_stream
+touched (command.EvidenceMake public left right) = on_store
+touched command.EvidenceCheck = on_text
 
 -- what it means that a command ran to an ending
 abbrev pub EndsOf : {types : Types} → Ways types → Command → World types → World types → Ending → Type 0
@@ -66,6 +70,9 @@ EndsOf ways (command.Explain space text) = ExplainRuns ways space text
 EndsOf ways (command.Annotate skip ids message) = AnnotateRuns ways ids skip message
 EndsOf ways (command.Approve name target) = ApproveRuns ways name target
 EndsOf ways (command.Demo count) = DemoRuns ways count
+EndsOf ways command.Mirror = MirrorRuns ways
+EndsOf ways (command.EvidenceMake public left right) = MakeRuns ways public left right
+EndsOf ways command.EvidenceCheck = CheckRuns ways
 
 module _ {types : Types} (ways : Ways types) where
   -- the words ask for this command, and it ran to this ending

@@ -8,6 +8,7 @@ use command_words::laws::one_command;
 use commands_approve::laws::{approve_over_world, one_of_approvals};
 use commands_keys::laws::{keys_over_world, one_of_keys};
 use commands_log::laws::{log_over_world, one_of_history};
+use commands_mirror::laws::{mirror_over_world, one_of_mirror};
 use commands_policy::laws::{one_of_policy, policy_over_world};
 use commands_snapshot::outcome_laws::{one_of_trees, snapshot_over_world};
 use commands_stream::laws::{one_of_stream, stream_over_world};
@@ -41,6 +42,7 @@ pub fn tells_outcome<W: Objects>()
     snapshot_over_world::<W>();
     policy_over_world::<W>();
     approve_over_world::<W>();
+    mirror_over_world::<W>();
     demo_over_world::<W>();
 }
 
@@ -58,5 +60,6 @@ pub fn one_outcome()
     one_of_trees();
     one_of_policy();
     one_of_approvals();
+    one_of_mirror();
     one_of_demo();
 }

@@ -12,6 +12,7 @@ use command_words::{Command, WordsFault, read_command};
 use commands_approve::approve;
 use commands_keys::seal;
 use commands_log::{annotate, log, record};
+use commands_mirror::{evidence_check, evidence_make, mirror};
 use commands_policy::{explain, policy_apply};
 use commands_snapshot::snapshot;
 use commands_stream::{export, import};
@@ -52,6 +53,13 @@ fn carry_out<W: Objects>(alloc: Global, command: &Command, outside: &mut Lent<W>
         ),
         Command::Approve { name, target } => approve::<W>(alloc, name, target, outside),
         Command::Demo { count } => demo::<W>(alloc, *count, outside),
+        Command::Mirror => mirror::<W>(alloc, outside),
+        Command::EvidenceMake {
+            public,
+            left,
+            right,
+        } => evidence_make::<W>(alloc, public.as_slice(), left, right, outside),
+        Command::EvidenceCheck => evidence_check::<W>(alloc, outside),
     }
 }
 
@@ -96,7 +104,8 @@ fn say<F: Sink>(ending: &Ending, faults_out: &mut F)
 
 /// Runs the command of the words over the objects outside, and answers the status of the program.
 ///
-/// 0 where the answer was given; 1 where the verdict is another than `accepted`; 2 where the words are outside the
+/// 0 where the answer was given; 1 where the verdict is another than `accepted`, a mirror was offered a shorter log or
+/// another past, or a dossier shows nothing; 2 where the words are outside the
 /// grammar; 3 where the input, the log, a policy, an object or the key file is refused, or there is no room where a
 /// store or a key file is to be made; 4 exactly where an object outside but `faults_out` counted a fault, and then one
 /// of them counted one and the others none; 5 for want of memory, and only where the first word is the name of a

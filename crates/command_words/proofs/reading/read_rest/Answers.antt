@@ -20,3 +20,6 @@ returns-in-Approve-clause-outside c = rw c.in-Approve.is c.read_approve.ensures.
 
 pub returns-in-Demo-clause-outside : goal.returns-in-Demo-clause-outside
 returns-in-Demo-clause-outside c = rw c.in-Demo.is c.read_demo.ensures.outside
+
+pub returns-in-EvidenceMake-clause-outside : goal.returns-in-EvidenceMake-clause-outside
+returns-in-EvidenceMake-clause-outside c = rw c.in-EvidenceMake.is c.read_evidence.ensures.outside
