@@ -1,14 +1,13 @@
 -- What comes of a keeper.
-use Rattle.std.proofs.Common.{◌≡◌, ◌<◌, ◌≤◌, ◌+◌, ◌-◌, ◌^◌, ℕ, min, Bool, true, Option, Ok, Err, Result, IsSome, IsTrue, refl, sym, ◌∙◌, arith}
-use Rattle.octets.specs.Causes.{HasCause, count_after, one_more}
-use Rattle.git_object.specs.Repository.{Repository}
+use Rattle.std.proofs.Common.{◌≡◌, ◌<◌, ◌≤◌, ◌+◌, ◌-◌, ◌^◌, ℕ, min, Ok, Err, Result, sym, ◌∙◌, arith}
+use Rattle.octets.specs.Causes.{HasCause, count_after}
 use Rattle.keeper_api.specs.Faults.{keeper_failed}
-use Rattle.keeper_api.specs.Keepers.{AsBefore, TellsOn}
+use Rattle.keeper_api.specs.Keepers.{AsBefore}
 use Rattle.keeper_api.specs.declared.keeper_faults.KeeperFault.{KeeperFault}
 use Rattle.keeper_api.specs.declared.keeper_faults.KeeperFault.TheVariants.{Failed, Memory}
 use Rattle.sqlite.specs.Store.{Ghosts}
 use Rattle.keeper_sqlite.specs.Answering.{IsAnswered}
-use Rattle.keeper_sqlite.specs.Keepers.{Kept, ComesOf, LooksAt, TellsAfterAt, TellsOnAt, content_of, is_clean_of, left_of, tells_left_of}
+use Rattle.keeper_sqlite.specs.Keepers.{Kept, ComesOf, LooksAt, TellsAfterAt, TellsOnAt, content_of, left_of, tells_left_of}
 
 -- an answer for which no fault was counted is no failure
 answered_by : {T : Type 0} (result : Result T KeeperFault) (count count_now : ℕ) → count_now ≡ count_after keeper_failed count result → count < 2 ^ 64 - 1 → count_now ≡ count → IsAnswered result

@@ -1,16 +1,15 @@
 -- Schemas, put together from what was compared.
-use Rattle.std.proofs.Common.{◌≡◌, ℕ, suc, zero, true, false, List, [], ◌∷◌, length, Option, Some, None, refl, sym, ap, codes, ◌+◌, ◌∙◌, arith}
+use Rattle.std.proofs.Common.{◌≡◌, ℕ, suc, true, List, [], ◌∷◌, length, Some, ap, ◌+◌, arith}
 use Rattle.std.specs.Prelude.{slice_get}
 use Rattle.sqlite.specs.Kind.{Kind}
 use Rattle.sqlite.specs.Collation.TheVariants.{Binary}
-use Rattle.sqlite.specs.Schema.{Schema}
 use Rattle.sqlite.specs.Table.{Table}
 use Rattle.sqlite.specs.declared.types.Value.TheVariants.{Null}
 use Rattle.sqlite_schema.specs.declared.schema.Column.{Column}
 use Rattle.sqlite_schema.specs.declared.schema.Index.{Index}
 use Rattle.sqlite_value.specs.Keys.{plain}
 use Rattle.keeper_sqlite.specs.Schemas.{IsKeyed, IsSimple, automatic_of, table_at}
-use Rattle.keeper_sqlite.specs.Tables.{column_of, store_schema}
+use Rattle.keeper_sqlite.specs.Tables.{column_of}
 
 pub column_is : (c : Column) (name : List ℕ) (kind : Kind) → c.name ≡ name → c.kind ≡ kind → c.is_strict ≡ true → c.not_null ≡ true → c.default ≡ Null → c.collation ≡ Binary → c ≡ column_of name kind
 column_is c name kind a b d e f h = λ i. record { name = a i; kind = b i; is_strict = d i; not_null = e i; default = f i; collation = h i }

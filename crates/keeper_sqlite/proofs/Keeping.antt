@@ -1,9 +1,9 @@
 -- What a keeper's calls leave of its content and of what a stop may leave.
-use Rattle.std.proofs.Common.{◌≡◌, ◌⊎◌, inl, inr, ◌≤◌, ◌&&◌, ◌||◌, Bool, true, false, cond, Option, Some, None, Ok, Err, Result, IsSome, IsTrue, refl, sym, ap, subst, ◌∙◌, arith}
+use Rattle.std.proofs.Common.{◌≡◌, inl, inr, ◌≤◌, ◌&&◌, ◌||◌, Bool, true, false, cond, Option, Some, None, Ok, Err, Result, IsSome, IsTrue, refl, sym, ap, ◌∙◌, arith}
 use Rattle.octets.specs.Content.{Told}
 use Rattle.git_object.specs.Repository.{Repository}
 use Rattle.keeper_api.specs.Changes.{changed}
-use Rattle.keeper_api.specs.Keepers.{Commits, IsChanged, Leaves, LeavesBy}
+use Rattle.keeper_api.specs.Keepers.{Commits, Leaves, LeavesBy}
 use Rattle.keeper_api.specs.declared.changes.Change.{Change}
 use Rattle.keeper_api.specs.declared.keeper_faults.KeeperFault.{KeeperFault}
 use Rattle.keeper_api.specs.declared.keeper_faults.KeeperFault.TheVariants.{Failed, Memory}
@@ -17,7 +17,7 @@ use Rattle.sqlite.specs.Held.{Held, state}
 use Rattle.sqlite.specs.Store.{Ghosts}
 use Rattle.keeper_sqlite.specs.Keepers.{Kept, content_of, left_of}
 use Rattle.keeper_sqlite.specs.Answering.{IsAnswered}
-use Rattle.keeper_sqlite.specs.States.{IsSame, IsStore, Becomes}
+use Rattle.keeper_sqlite.specs.States.{IsStore}
 use Rattle.keeper_sqlite.specs.Telling.{Looks, TellsAfter}
 
 left_of_and : (a b : Bool) → (a && b) ≡ true → a ≡ true
@@ -117,6 +117,10 @@ module _ (known : Bool) (s t : State) (lawful_s : IsLawful s) (lawful_t : IsLawf
     left = λ e. let k = tells_open t e in left_stays k.0 k.1;
     on = told_after known s t falls result answered;
   }
+
+-- what is told is what the last commit left, and it is open
+pub held_is : (known : Bool) (s : State) (r : Repository) → content_at known s ≡ Some r → IsTrue s.is_open × (repository_in s.committed.trees ≡ r)
+held_is known s r told = let both = told_is (known && s.is_open) _ r told in (right_of_and known s.is_open both.0, both.1)
 
 -- where it is told, a stop leaves what is held and nothing else
 pub left_alone : (known : Bool) (s : State) → IsLawful s → tells_at known false s ≡ true → (r : Repository) → left_at s r → content_at known s ≡ Some r

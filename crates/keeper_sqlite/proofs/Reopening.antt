@@ -1,18 +1,18 @@
 -- A store that was given back and is not broken, and a connection made over it.
-use Rattle.std.proofs.Common.{◌≡◌, ◌⊎◌, inl, inr, List, codes, Bool, true, false, IsTrue, refl, sym, ap, subst, ◌∙◌}
+use Rattle.std.proofs.Common.{◌≡◌, inl, inr, codes, Bool, true, false, IsTrue, refl, sym, ap, subst, ◌∙◌}
 use Rattle.sqlite.specs.Effect.{Database, IsDatabase}
+use Rattle.sqlite.specs.Held.{Held, state}
 use Rattle.sqlite.specs.Schema.{Schema}
+use Rattle.sqlite.specs.Store.{Ghosts}
 use Rattle.sqlite.specs.Steps.{IsFresh}
-use Rattle.sqlite.specs.Table.{Table}
 use Rattle.sqlite.specs.Tree.{Trees}
 use Rattle.sqlite_catalog.specs.Listing.{Lists}
 use Rattle.sqlite_catalog.proofs.LayoutLemmas.{objects_rise}
 use Rattle.sqlite_catalog.proofs.ReadLemmas.{shaped_of}
 use Rattle.sqlite_rules.specs.Lists.{Has}
 use Rattle.sqlite_rules.proofs.ListLemmas.{all_has}
-use Rattle.sqlite_trees.proofs.Doubt.{no_doubt, clean_of}
 use Rattle.sqlite_trees.specs.Objects.{IsListed, catalog_tree}
-use Rattle.sqlite_trees.specs.View.{View, IsClean, IsOrdered, IsRolledBack, IsShaped, doubt}
+use Rattle.sqlite_trees.specs.View.{View, IsClean, IsOrdered, IsRolledBack, IsShaped}
 use Rattle.sqlite_trees.specs.declared.store.Shape.{Shape}
 use Rattle.sqlite_trees.specs.declared.store.Shape.TheVariants as shape
 use Rattle.keeper_sqlite.specs.Adopting.{AreShapedTables}
@@ -52,3 +52,9 @@ store_by db is sound shaped = record {
   objects = shaped (table_at (codes "objects") objects_columns 0) (subst (λ (s : Schema). Has s.tables (table_at (codes "objects") objects_columns 0)) (sym is) (inl refl));
   refs = shaped (table_at (codes "refs") refs_columns 2) (subst (λ (s : Schema). Has s.tables (table_at (codes "refs") refs_columns 2)) (sym is) (inr (inl refl)));
 }
+
+pub same_schema : {S : Type 0} (h k : Held S) (s : Schema) → h ≡ k → k.schema ≡ s → h.schema ≡ s
+same_schema {S} h k s is has = ap (λ (x : Held S). x.schema) is ∙ has
+
+pub same_committed : {S : Type 0} (g : Ghosts S) (h k : Held S) → h ≡ k → (state g h).committed ≡ (state g k).committed
+same_committed {S} g h k is = ap (λ (x : Held S). (state g x).committed) is

@@ -1,10 +1,8 @@
 -- What a selection of one row leaves of the connection, and what it answers.
-use Rattle.std.proofs.Common.{◌≡◌, ◌⊎◌, inl, inr, ℕ, suc, List, [], ◌∷◌, map, take, length, Bool, true, false, Option, Some, None, Ok, Err, Result, IsTrue, IfOk, IfErr, refl, sym, ap, subst, ◌∙◌, arith}
+use Rattle.std.proofs.Common.{◌≡◌, inl, inr, ℕ, List, [], ◌∷◌, map, Bool, true, false, Option, Some, None, Ok, Err, Result, IsTrue, IfOk, IfErr, refl, sym, ap, subst, ◌∙◌}
 use Rattle.std.specs.List.Sorted.{IsSorted}
-use Rattle.std.specs.List.{AllByRecursion}
 use Rattle.std.specs.Ordering.{is_lt, on, ordering_then}
 use Rattle.std.specs.Cmp.{tied_itself}
-use Rattle.std.proofs.lemmas.Cmp.{nat_list_cmp_total}
 use Rattle.std.specs.declared.cmp.Ordering.{Ordering}
 use Rattle.std.specs.declared.cmp.Ordering.TheVariants.{Less, Equal, Greater}
 use Rattle.octets.specs.BytesMap.{by_bytes}
@@ -24,7 +22,7 @@ use Rattle.sqlite.specs.declared.error.Error.TheVariants.{QueryReturnedNoRows}
 use Rattle.sqlite.specs.declared.types.Value.{Value}
 use Rattle.sqlite.specs.declared.types.Value.TheVariants.{Null, Int, Real, Text, Blob}
 use Rattle.sqlite.proofs.Callers.{IsPlain, command_of, reads_as, first_as, never_commits}
-use Rattle.sqlite.specs.State.{CommitsShowing, HasCleanDisk}
+use Rattle.sqlite.specs.State.{CommitsShowing}
 use Rattle.sqlite_trees.proofs.Doubt.{no_doubt}
 use Rattle.sqlite_trees.specs.View.{doubt}
 use Rattle.sqlite_resolve.specs.declared.compiled.Compiled.{Compiled}
@@ -158,6 +156,7 @@ none_shown old new sql params plain (inl (inr h)) = absurd (refused h.0.returnin
     reads limit (Select q names) db ps (inr (inr x)) = let e = x.0 in cc
     reads limit (Rows values width names) db ps x = let e = x.0 in cc
     reads limit _ db ps x = cc
+
     refused : (what : Option Returning) → what ≡ None → ¬ FailsToShow old new sql h.0 (timed params h.0.formats h.1.now) QueryReturnedNoRows what
     refused None is x = reads _ _ x.0 _ x.2
     refused (Some w) is x = cc
@@ -246,10 +245,13 @@ module _ (tree : ℕ) (project : List Term) (key : List ℕ) (db : Trees) where
     where
       sorted_by : (os : List Output) → IsSorted (λ x y. ordering_then (value_cmp (by_first x) (by_first y)) Equal) os → IsSorted (on by_first value_cmp) os
       sorted_by os up k d low high = sym (then_equal _) ∙ up k d low high
+
       blobs_below : (u v : Value) → u ≡ Blob (blob_in u) → v ≡ Blob (blob_in v) → is_lt (value_cmp u v) ≡ false → is_lt (by_bytes (blob_in u) (blob_in v)) ≡ false
       blobs_below u v e f h = ap is_lt (sym (blobs_by_bytes (blob_in u) (blob_in v))) ∙ ap (λ x. is_lt (value_cmp x (Blob (blob_in v)))) (sym e) ∙ ap (λ x. is_lt (value_cmp u x)) (sym f) ∙ h
+
       no_less : (v : Value) → is_lt (value_cmp v v) ≡ false
       no_less v = ap is_lt (tied_itself value_cmp_total v)
+
       by_order : (os : List Output) → a.ordered ≡ os → row ∷ tail ≡ page follow (Blob key ∷ []) (map (λ (o : Output). o.1) a.ordered) → IsSorted (λ x y. ordering_then (value_cmp (by_first x) (by_first y)) Equal) a.ordered
           → (r : Row) × Has (db tree) r × (is_above key r ≡ true) × LeastOf row r
       by_order [] is shown up = let e : row ∷ tail ≡ [] = shown ∙ ap (λ os. page follow (Blob key ∷ []) (map (λ (o : Output). o.1) os)) is in cc
@@ -258,14 +260,21 @@ module _ (tree : ℕ) (project : List Term) (key : List ℕ) (db : Trees) where
           let first : row ≡ o.1 = cc in
           let r = next_from tree project key db (row ∷ tail) a o (subst (λ l. Has l o) (sym is) (inl refl)) in
           let least = first_is_least by_first value_cmp value_cmp_total o os (subst (IsSorted (on by_first value_cmp)) is (sorted_by a.ordered up)) in
-          let key_r : column o.0 0 ≡ column r.0 1 = ap (λ (p : Output). column p.0 0) r.3 in
-          (r.0, r.1, r.2, (first ∙ ap (λ (p : Output). p.1) r.3, λ s h above.
-              let there = next_all tree project key db (row ∷ tail) a s h above in
-              let low : is_lt (value_cmp (column s 1) (column o.0 0)) ≡ false = elim (subst (λ l. Has l (output follow (env key s))) is there) [
-                | inl same ↦ ap (λ (p : Output). is_lt (value_cmp (column p.0 0) (column o.0 0))) same ∙ no_less (column o.0 0)
-                | inr later ↦ all_has _ os (output follow (env key s)) least later
-              ] in
-              blobs_below (column s 1) (column r.0 1) (above_is key (column s 1) above) (above_is key (column r.0 1) r.2) (ap (λ v. is_lt (value_cmp (column s 1) v)) (sym key_r) ∙ low)))
+          let key_r : column o.0 0 ≡ column r.0 1 = ap (λ (p : Output). column p.0 0) r.3 in (
+            r.0,
+            r.1,
+            r.2,
+            (
+              first ∙ ap (λ (p : Output). p.1) r.3,
+              λ s h above.
+                  let there = next_all tree project key db (row ∷ tail) a s h above in
+                  let low : is_lt (value_cmp (column s 1) (column o.0 0)) ≡ false = elim (subst (λ l. Has l (output follow (env key s))) is there) [
+                    | inl same ↦ ap (λ (p : Output). is_lt (value_cmp (column p.0 0) (column o.0 0))) same ∙ no_less (column o.0 0)
+                    | inr later ↦ all_has _ os (output follow (env key s)) least later
+                  ] in
+                  blobs_below (column s 1) (column r.0 1) (above_is key (column s 1) above) (above_is key (column r.0 1) r.2) (ap (λ v. is_lt (value_cmp (column s 1) v)) (sym key_r) ∙ low),
+            ),
+          )
 
 -- ---- the four selections
 

@@ -15,6 +15,7 @@ AreShapedTables db = (table : Table) → Has db.schema.tables table → IsShaped
 pub record IsReopened (old new : State) : Type 0 where
   pub is_open : IsTrue new.is_open
   pub was_open : IsTrue old.is_open
+  pub settled : new.now ≡ new.committed
   pub trees : new.now.trees ≡ old.committed.trees
   pub sound : IsDatabase new.now
   pub shaped : AreShapedTables new.now

@@ -1,5 +1,6 @@
 -- A keeper over a database: what it holds, and what a stop may leave of it.
-use Rattle.std.specs.Prelude.{◌≡◌, ◌≤◌, ◌&&◌, ◌||◌, ℕ, Bool, false, IsTrue, Option, Some, None, Result, if◌then◌else◌, refl}
+use Rattle.std.specs.Prelude.{◌≡◌, ◌≤◌, ◌&&◌, ◌||◌, ℕ, Bool, false, IsTrue, Option, Some, None, Result}
+use Rattle.std.specs.Prelude.{if◌then◌else◌, refl}
 use Rattle.std.specs.Coded.{Coded, code_by, coded×, coded_ℕ, coded_bool}
 use Rattle.git_object.specs.Repository.{Repository}
 use Rattle.keeper_api.specs.Keepers.{TellsOn}
@@ -21,8 +22,10 @@ pub record Kept (S : Type 0) : Type 0 where
 
 abbrev pub kept_code : {S : Type 0} → Coded S → Coded (Kept S)
 kept_code {S} store =
-    code_by (Held S × (Bool × (Bool × (ℕ × ℕ)))) (coded× (held_code store) (coded× coded_bool (coded× coded_bool (coded× coded_ℕ coded_ℕ))))
-    (λ k. (k.conn, (k.known, (k.in_doubt, (k.faults, k.reads))))) (λ p. record { conn = p.0; known = p.1.0; in_doubt = p.1.1.0; faults = p.1.1.1.0; reads = p.1.1.1.1 }) (λ _. refl)
+    code_by (Held S × (Bool × (Bool × (ℕ × ℕ))))
+    (coded× (held_code store) (coded× coded_bool (coded× coded_bool (coded× coded_ℕ coded_ℕ))))
+    (λ k. (k.conn, (k.known, (k.in_doubt, (k.faults, k.reads)))))
+    (λ p. record { conn = p.0; known = p.1.0; in_doubt = p.1.1.0; faults = p.1.1.1.0; reads = p.1.1.1.1 }) (λ _. refl)
 
 module _ {S : Type 0} (g : Ghosts S) where
   -- no transaction is open, and the tables are a store where they are known

@@ -1,11 +1,10 @@
 -- The parts of the schema with number 1.
-use Rattle.std.specs.Prelude.{◌≡◌, ◌+◌, ℕ, true, false, List, [], ◌∷◌, None, codes}
-use Rattle.sqlite.specs.Kind.TheVariants.{Integer, Text, Blob}
+use Rattle.std.specs.Prelude.{◌≡◌, ◌+◌, ℕ, true, false, List, [], ◌∷◌, None}
 use Rattle.sqlite.specs.Table.{Table}
 use Rattle.sqlite_schema.specs.declared.schema.Column.{Column}
 use Rattle.sqlite_schema.specs.declared.schema.Index.{Index}
 use Rattle.sqlite_value.specs.Keys.{plain}
-use Rattle.keeper_sqlite.specs.Tables.{column_of, facts, objects, refs, table_of}
+use Rattle.keeper_sqlite.specs.Tables.{facts, objects, refs, table_of}
 
 abbrev pub objects_columns : List Column
 objects_columns = objects.columns

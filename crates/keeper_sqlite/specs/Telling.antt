@@ -1,5 +1,5 @@
 -- What a call leaves of what was told.
-use Rattle.std.specs.Prelude.{◌≡◌, Bool, true, Option, Some, IsSome, Result}
+use Rattle.std.specs.Prelude.{◌≡◌, Bool, true, Option, IsSome, Result}
 use Rattle.octets.specs.Content.{Stays}
 use Rattle.git_object.specs.Repository.{Repository}
 use Rattle.keeper_api.specs.declared.keeper_faults.KeeperFault.{KeeperFault}

@@ -1,22 +1,26 @@
 //! A database, taken as a store.
 
-ghost use Rattle.std.specs.Prelude.{◌≡◌, ◌≤◌, true, false, not, Some, IfOk, IsTrue, OnOk};
-ghost use Rattle.sqlite_trees.specs.View.{doubt};
+ghost use Rattle.std.specs.Prelude.{◌≡◌, false, IfOk, IsTrue};
 ghost use Rattle.sqlite.specs.Held.{state};
 ghost use Rattle.sqlite.specs.State.{HasCleanDisk};
-ghost use Rattle.git_object.specs.Repository.{Repository};
 ghost use Rattle.keeper_sqlite.specs.Adopting.{AreShapedTables, IsReopened};
+ghost use Rattle.keeper_sqlite.specs.States.{IsSame};
+ghost use Rattle.keeper_sqlite.specs.Tables.{store_schema};
 
 use crate::schemas::is_empty;
 use crate::sql_faults::SqlFault;
-use sqlite::{Alter, Connection, Error};
+use sqlite::{Alter, Connection, Error, Row};
 use sqlite_value::value::ValueRef;
 use std::alloc::Global;
 
 // The number of the schema.
 const NUMBER: i64 = 1;
 
-const TABLES: &str = "CREATE TABLE objects (id BLOB NOT NULL PRIMARY KEY, kind INTEGER NOT NULL, body BLOB NOT NULL) STRICT;\nCREATE TABLE refs (name BLOB NOT NULL PRIMARY KEY, id BLOB NOT NULL) STRICT;\nCREATE TABLE facts (name TEXT NOT NULL PRIMARY KEY, value INTEGER NOT NULL) STRICT;\nINSERT INTO facts (name, value) VALUES ('schema', 1)";
+const TABLES: &str = "CREATE TABLE objects
+    (id BLOB NOT NULL PRIMARY KEY, kind INTEGER NOT NULL, body BLOB NOT NULL) STRICT;
+CREATE TABLE refs (name BLOB NOT NULL PRIMARY KEY, id BLOB NOT NULL) STRICT;
+CREATE TABLE facts (name TEXT NOT NULL PRIMARY KEY, value INTEGER NOT NULL) STRICT;
+INSERT INTO facts (name, value) VALUES ('schema', 1)";
 
 // Makes the tables and the row with the schema's number, in one transaction.
 fn make_tables<S: Alter>(conn: &mut Connection<S>) -> Result<(), Error>
@@ -32,19 +36,35 @@ fn make_tables<S: Alter>(conn: &mut Connection<S>) -> Result<(), Error>
 fn expect_tables<S: Alter>(conn: &mut Connection<S>) -> Result<(), SqlFault>
     requires idle { conn.old.in_transaction ≡ false }
     ensures idle { conn.new.in_transaction ≡ false }
+    ensures kept { conn.old.schema ≡ store_schema → conn.new ≡ conn.old }
 {
-    if is_empty(conn.schema()) {
-        make_tables(conn)?;
+    if !is_empty(conn.schema()) {
+        return Ok(());
     }
+    make_tables(conn)?;
     Ok(())
+}
+
+fn schema_row<S: Alter>(conn: &mut Connection<S>) -> Result<Row, Error>
+    requires idle { conn.old.in_transaction ≡ false }
+    ensures idle { conn.new.in_transaction ≡ false }
+    ensures was_open { IsTrue (state S.Store conn.new).is_open → IsTrue (state S.Store conn.old).is_open }
+    ensures same { IsTrue (state S.Store conn.new).is_open → conn.old.schema ≡ store_schema
+        → IsSame (state S.Store conn.old) (state S.Store conn.new) }
+{
+    let _ = conn.is_autocommit();
+    conn.query_row("SELECT value FROM facts WHERE name = 'schema'", &[])
 }
 
 // The number in the row `schema`, or 0 where there is no such row.
 fn schema_number<S: Alter>(conn: &mut Connection<S>) -> Result<i64, SqlFault>
     requires idle { conn.old.in_transaction ≡ false }
     ensures idle { conn.new.in_transaction ≡ false }
+    ensures was_open { IsTrue (state S.Store conn.new).is_open → IsTrue (state S.Store conn.old).is_open }
+    ensures same { IsTrue (state S.Store conn.new).is_open → conn.old.schema ≡ store_schema
+        → IsSame (state S.Store conn.old) (state S.Store conn.new) }
 {
-    let row = match conn.query_row("SELECT value FROM facts WHERE name = 'schema'", &[]) {
+    let row = match schema_row(conn) {
         Ok(row) => row,
         Err(Error::QueryReturnedNoRows) => return Ok(0),
         Err(error) => return Err(SqlFault::from(error)),
@@ -58,6 +78,9 @@ fn schema_number<S: Alter>(conn: &mut Connection<S>) -> Result<i64, SqlFault>
 fn expect_number<S: Alter>(conn: &mut Connection<S>) -> Result<(), SqlFault>
     requires idle { conn.old.in_transaction ≡ false }
     ensures idle { conn.new.in_transaction ≡ false }
+    ensures was_open { IsTrue (state S.Store conn.new).is_open → IsTrue (state S.Store conn.old).is_open }
+    ensures same { IsTrue (state S.Store conn.new).is_open → conn.old.schema ≡ store_schema
+        → IsSame (state S.Store conn.old) (state S.Store conn.new) }
 {
     let found = schema_number(conn)?;
     if found == NUMBER {
@@ -96,6 +119,8 @@ pub(crate) fn checked<S: Alter + Drop>(
     ensures open { IfOk result (λ conn. HasCleanDisk (state S.Store conn) → IsTrue (state S.Store conn).is_open) }
     ensures shaped { IfOk result (λ conn. HasCleanDisk (state S.Store conn)
         → AreShapedTables (state S.Store conn).now) }
+    ensures kept { IfOk result (λ conn. HasCleanDisk (state S.Store conn) → connection.schema ≡ store_schema
+        → (state S.Store conn).committed.trees ≡ (state S.Store connection).committed.trees) }
 {
     let mut conn = connection;
     if !conn.is_autocommit() {

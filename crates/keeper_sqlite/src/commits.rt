@@ -98,7 +98,8 @@ pub fn make<S: Alter>(conn: &mut Connection<S>, change: &Change) -> Result<(), E
     ensures opens { HasCleanDisk (state S.Store conn.new) → OnOk result (IsTrue (state S.Store conn.new).is_open) }
     ensures made { HasCleanDisk (state S.Store conn.new) → IsStore (state S.Store conn.old).now
         → OnOk result (Becomes (changed change.now) (state S.Store conn.old).now (state S.Store conn.new).committed) }
-    ensures neither { IsTrue (state S.Store conn.new).is_open → OnErr result ((state S.Store conn.new).committed ≡ (state S.Store conn.old).committed) }
+    ensures neither { IsTrue (state S.Store conn.new).is_open
+        → OnErr result ((state S.Store conn.new).committed ≡ (state S.Store conn.old).committed) }
     ensures was_open { IsTrue (state S.Store conn.new).is_open → IsTrue (state S.Store conn.old).is_open }
     ensures survives { Survives (state S.Store conn.old) (state S.Store conn.new)
         (λ db. IsStore (state S.Store conn.old).now → repository_in db ≡ changed change.now (repository_in (state S.Store conn.old).now.trees)) }
@@ -125,9 +126,12 @@ pub fn try_make<S: Alter>(conn: &mut Connection<S>, change: &Change) -> Made
     ensures was_open { IsTrue (state S.Store conn.new).is_open → IsTrue (state S.Store conn.old).is_open }
     ensures done { result ≡ Made.Done → HasCleanDisk (state S.Store conn.new) → IsStore (state S.Store conn.old).now
         → Becomes (changed change.now) (state S.Store conn.old).now (state S.Store conn.new).committed }
-    ensures same { (result ≡ Made.Done → ⊥) → IsTrue (state S.Store conn.new).is_open → (state S.Store conn.new).committed ≡ (state S.Store conn.old).committed }
-    ensures answered { HasCleanDisk (state S.Store conn.new) → GoesOn result → IsTrue (state S.Store conn.new).is_open }
-    ensures in_doubt { result ≡ Made.InDoubt → HasCleanDisk (state S.Store conn.new) → IsTrue (state S.Store conn.old).is_open }
+    ensures same { (result ≡ Made.Done → ⊥) → IsTrue (state S.Store conn.new).is_open
+        → (state S.Store conn.new).committed ≡ (state S.Store conn.old).committed }
+    ensures answered { HasCleanDisk (state S.Store conn.new) → GoesOn result
+        → IsTrue (state S.Store conn.new).is_open }
+    ensures in_doubt { result ≡ Made.InDoubt → HasCleanDisk (state S.Store conn.new)
+        → IsTrue (state S.Store conn.old).is_open }
     ensures survives { Survives (state S.Store conn.old) (state S.Store conn.new)
         (λ db. IsStore (state S.Store conn.old).now → repository_in db ≡ changed change.now (repository_in (state S.Store conn.old).now.trees)) }
 {

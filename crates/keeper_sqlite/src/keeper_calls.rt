@@ -35,7 +35,11 @@ impl<S: Alter> Keeper for SqlKeeper<S> {
         self.counted(found)
     }
 
-    fn read_ref(&mut self, _alloc: Global, name: &RefName) -> Result<Option<ObjectId>, KeeperFault> {
+    fn read_ref(
+        &mut self,
+        _alloc: Global,
+        name: &RefName,
+    ) -> Result<Option<ObjectId>, KeeperFault> {
         let found = self.ref_at(name);
         self.counted(found)
     }

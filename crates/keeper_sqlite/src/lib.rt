@@ -20,4 +20,7 @@ pub use looks::{look_next_object, look_next_ref, look_object, look_ref};
 pub use refusals::{fault_of, is_alive, refusal};
 pub use sql_faults::SqlFault;
 pub use sql_keepers::SqlKeeper;
-pub use statements::{drop_ref_row, put_object_row, put_ref_row, select_next_object, select_next_ref, select_object, select_ref};
+pub use statements::{
+    drop_ref_row, put_object_row, put_ref_row, select_next_object, select_next_ref, select_object,
+    select_ref,
+};

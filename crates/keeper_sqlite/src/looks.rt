@@ -36,12 +36,15 @@ pub fn look_object<S: Alter>(
     requires idle { conn.old.in_transaction ≡ false }
     ensures idle { conn.new.in_transaction ≡ false }
     ensures was_open { IsTrue (state S.Store conn.new).is_open → IsTrue (state S.Store conn.old).is_open }
-    ensures same { IsTrue (state S.Store conn.new).is_open → conn.old.schema ≡ store_schema → IsSame (state S.Store conn.old) (state S.Store conn.new) }
+    ensures same { IsTrue (state S.Store conn.new).is_open → conn.old.schema ≡ store_schema
+        → IsSame (state S.Store conn.old) (state S.Store conn.new) }
     ensures found { IsTrue (state S.Store conn.new).is_open → IsStore (state S.Store conn.old).now
         → IfOk result (λ found. found ≡ get (map_in object_of ((state S.Store conn.old).now.trees 0)) id.now) }
-    ensures answered { HasCleanDisk (state S.Store conn.new) → IsAnswered result → IsTrue (state S.Store conn.new).is_open }
+    ensures answered { HasCleanDisk (state S.Store conn.new) → IsAnswered result
+        → IsTrue (state S.Store conn.new).is_open }
     ensures clean { doubt (state S.Store conn.old).is_clean ≤ doubt (state S.Store conn.new).is_clean }
-    ensures survives { conn.old.schema ≡ store_schema → Survives (state S.Store conn.old) (state S.Store conn.new) (λ _. ⊥) }
+    ensures survives { conn.old.schema ≡ store_schema
+        → Survives (state S.Store conn.old) (state S.Store conn.new) (λ _. ⊥) }
 {
     match select_object(conn, id.as_bytes()) {
         Ok(Some(row)) => match object_in(alloc, &row) {
@@ -61,12 +64,15 @@ pub fn look_ref<S: Alter>(
     requires idle { conn.old.in_transaction ≡ false }
     ensures idle { conn.new.in_transaction ≡ false }
     ensures was_open { IsTrue (state S.Store conn.new).is_open → IsTrue (state S.Store conn.old).is_open }
-    ensures same { IsTrue (state S.Store conn.new).is_open → conn.old.schema ≡ store_schema → IsSame (state S.Store conn.old) (state S.Store conn.new) }
+    ensures same { IsTrue (state S.Store conn.new).is_open → conn.old.schema ≡ store_schema
+        → IsSame (state S.Store conn.old) (state S.Store conn.new) }
     ensures found { IsTrue (state S.Store conn.new).is_open → IsStore (state S.Store conn.old).now
         → IfOk result (λ found. found ≡ get (map_in ref_of ((state S.Store conn.old).now.trees 2)) name.now) }
-    ensures answered { HasCleanDisk (state S.Store conn.new) → IsAnswered result → IsTrue (state S.Store conn.new).is_open }
+    ensures answered { HasCleanDisk (state S.Store conn.new) → IsAnswered result
+        → IsTrue (state S.Store conn.new).is_open }
     ensures clean { doubt (state S.Store conn.old).is_clean ≤ doubt (state S.Store conn.new).is_clean }
-    ensures survives { conn.old.schema ≡ store_schema → Survives (state S.Store conn.old) (state S.Store conn.new) (λ _. ⊥) }
+    ensures survives { conn.old.schema ≡ store_schema
+        → Survives (state S.Store conn.old) (state S.Store conn.new) (λ _. ⊥) }
 {
     match select_ref(conn, name.text()) {
         Ok(Some(row)) => match id_in(&row) {
@@ -86,12 +92,16 @@ pub fn look_next_object<S: Alter>(
     requires idle { conn.old.in_transaction ≡ false }
     ensures idle { conn.new.in_transaction ≡ false }
     ensures was_open { IsTrue (state S.Store conn.new).is_open → IsTrue (state S.Store conn.old).is_open }
-    ensures same { IsTrue (state S.Store conn.new).is_open → conn.old.schema ≡ store_schema → IsSame (state S.Store conn.old) (state S.Store conn.new) }
+    ensures same { IsTrue (state S.Store conn.new).is_open → conn.old.schema ≡ store_schema
+        → IsSame (state S.Store conn.old) (state S.Store conn.new) }
     ensures found { IsTrue (state S.Store conn.new).is_open → IsStore (state S.Store conn.old).now
-        → IfOk result (λ found. found ≡ option_map (λ e. e.0) (entry_after (map_in object_of ((state S.Store conn.old).now.trees 0)) (option_copied after.entry))) }
-    ensures answered { HasCleanDisk (state S.Store conn.new) → IsAnswered result → IsTrue (state S.Store conn.new).is_open }
+        → IfOk result (λ found. found ≡ option_map (λ e. e.0)
+        (entry_after (map_in object_of ((state S.Store conn.old).now.trees 0)) (option_copied after.entry))) }
+    ensures answered { HasCleanDisk (state S.Store conn.new) → IsAnswered result
+        → IsTrue (state S.Store conn.new).is_open }
     ensures clean { doubt (state S.Store conn.old).is_clean ≤ doubt (state S.Store conn.new).is_clean }
-    ensures survives { conn.old.schema ≡ store_schema → Survives (state S.Store conn.old) (state S.Store conn.new) (λ _. ⊥) }
+    ensures survives { conn.old.schema ≡ store_schema
+        → Survives (state S.Store conn.old) (state S.Store conn.new) (λ _. ⊥) }
 {
     let key: &[u8] = match after {
         Some(id) => id.as_bytes(),
@@ -116,12 +126,16 @@ pub fn look_next_ref<S: Alter>(
     requires idle { conn.old.in_transaction ≡ false }
     ensures idle { conn.new.in_transaction ≡ false }
     ensures was_open { IsTrue (state S.Store conn.new).is_open → IsTrue (state S.Store conn.old).is_open }
-    ensures same { IsTrue (state S.Store conn.new).is_open → conn.old.schema ≡ store_schema → IsSame (state S.Store conn.old) (state S.Store conn.new) }
+    ensures same { IsTrue (state S.Store conn.new).is_open → conn.old.schema ≡ store_schema
+        → IsSame (state S.Store conn.old) (state S.Store conn.new) }
     ensures found { IsTrue (state S.Store conn.new).is_open → IsStore (state S.Store conn.old).now
-        → IfOk result (λ found. found ≡ option_map ref_value (entry_after (map_in ref_of ((state S.Store conn.old).now.trees 2)) (option_copied after.entry))) }
-    ensures answered { HasCleanDisk (state S.Store conn.new) → IsAnswered result → IsTrue (state S.Store conn.new).is_open }
+        → IfOk result (λ found. found ≡ option_map ref_value
+        (entry_after (map_in ref_of ((state S.Store conn.old).now.trees 2)) (option_copied after.entry))) }
+    ensures answered { HasCleanDisk (state S.Store conn.new) → IsAnswered result
+        → IsTrue (state S.Store conn.new).is_open }
     ensures clean { doubt (state S.Store conn.old).is_clean ≤ doubt (state S.Store conn.new).is_clean }
-    ensures survives { conn.old.schema ≡ store_schema → Survives (state S.Store conn.old) (state S.Store conn.new) (λ _. ⊥) }
+    ensures survives { conn.old.schema ≡ store_schema
+        → Survives (state S.Store conn.old) (state S.Store conn.new) (λ _. ⊥) }
 {
     let key: &[u8] = match after {
         Some(name) => name.text(),

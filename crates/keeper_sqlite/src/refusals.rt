@@ -39,7 +39,8 @@ pub fn refusal<S: Alter>(conn: &mut Connection<S>, error: Error) -> KeeperFault
     ensures idle { conn.new.in_transaction ≡ false }
     ensures was_open { IsTrue (state S.Store conn.new).is_open → IsTrue (state S.Store conn.old).is_open }
     ensures same { IsTrue (state S.Store conn.new).is_open → IsSame (state S.Store conn.old) (state S.Store conn.new) }
-    ensures answered { HasCleanDisk (state S.Store conn.new) → MayGoOn result → IsTrue (state S.Store conn.new).is_open }
+    ensures answered { HasCleanDisk (state S.Store conn.new) → MayGoOn result
+        → IsTrue (state S.Store conn.new).is_open }
     ensures survives { Survives (state S.Store conn.old) (state S.Store conn.new) (λ _. ⊥) }
 {
     if is_alive(conn) {

@@ -347,6 +347,11 @@ pub(crate) fn is_store_schema(schema: &Schema) -> bool
 }
 
 /// Whether a schema has no table, index or view.
-pub(crate) fn is_empty(schema: &Schema) -> bool {
-    schema.tables.is_empty() && schema.indexes.is_empty() && schema.views.is_empty()
+pub(crate) fn is_empty(schema: &Schema) -> bool
+    ensures { IsTrue result → schema.now.tables ≡ [] }
+{
+    if !schema.tables.is_empty() {
+        return false;
+    }
+    schema.indexes.is_empty() && schema.views.is_empty()
 }

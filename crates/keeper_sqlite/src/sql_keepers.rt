@@ -10,6 +10,9 @@ ghost use Rattle.git_object.specs.Repository.{Repository};
 ghost use Rattle.keeper_api.specs.Changes.{ref_value};
 ghost use Rattle.keeper_api.specs.Faults.{keeper_failed};
 ghost use Rattle.keeper_api.specs.Keepers.{Commits, Leaves};
+ghost use Rattle.sqlite.specs.Held.{state};
+ghost use Rattle.keeper_sqlite.specs.Rows.{repository_in};
+ghost use Rattle.keeper_sqlite.specs.Tables.{store_schema};
 
 use crate::adopting::checked;
 use crate::commits::{Made, try_make};
@@ -66,7 +69,11 @@ impl<S: Alter> SqlKeeper<S> {
         self.conn
     }
 
-    pub(crate) fn object_at(&mut self, alloc: Global, id: &ObjectId) -> Result<Option<Object>, KeeperFault>
+    pub(crate) fn object_at(
+        &mut self,
+        alloc: Global,
+        id: &ObjectId,
+    ) -> Result<Option<Object>, KeeperFault>
         ensures frame { self.new ≡ record self.old { conn = self.new.conn } }
         ensures same { LooksAt S.Store result self.old self.new }
         ensures answer { IfOk result (λ found. (r : Repository) → content_of S.Store self.new ≡ Some r → found ≡ get r.objects id.now) }
@@ -90,7 +97,10 @@ impl<S: Alter> SqlKeeper<S> {
         look_ref(&mut self.conn, name)
     }
 
-    pub(crate) fn object_after(&mut self, after: Option<&ObjectId>) -> Result<Option<ObjectId>, KeeperFault>
+    pub(crate) fn object_after(
+        &mut self,
+        after: Option<&ObjectId>,
+    ) -> Result<Option<ObjectId>, KeeperFault>
         ensures frame { self.new ≡ record self.old { conn = self.new.conn } }
         ensures same { LooksAt S.Store result self.old self.new }
         ensures answer { IfOk result (λ found. (r : Repository) → content_of S.Store self.new ≡ Some r
@@ -156,7 +166,10 @@ impl<S: Alter> SqlKeeper<S> {
     }
 
     // Notes a refusal that is a fault.
-    pub(crate) fn counted<T: Drop>(&mut self, answer: Result<T, KeeperFault>) -> Result<T, KeeperFault>
+    pub(crate) fn counted<T: Drop>(
+        &mut self,
+        answer: Result<T, KeeperFault>,
+    ) -> Result<T, KeeperFault>
         ensures answer { result ≡ answer }
         ensures counted { self.new ≡ record self.old { faults = count_after keeper_failed self.old.faults answer } }
         ensures cause { HasCause keeper_failed self.old.faults self.new.faults result }
@@ -182,6 +195,8 @@ impl<S: Alter + Drop> SqlKeeper<S> {
         ensures counts { IfOk result (λ keeper. (keeper.faults ≡ 0) × (keeper.reads ≡ 0)) }
         ensures left { IfOk result (λ keeper. tells_left_of S.Store keeper ≡ true → (r : Repository)
             → left_of S.Store keeper r → content_of S.Store keeper ≡ Some r) }
+        ensures held { IfOk result (λ keeper. connection.schema ≡ store_schema → (r : Repository)
+            → content_of S.Store keeper ≡ Some r → r ≡ repository_in (state S.Store connection).committed.trees) }
     {
         let conn = checked(alloc, connection)?;
         let known = is_store_schema(conn.schema());

@@ -16,15 +16,22 @@ use keeper_api::KeeperFault;
 use sqlite::{Alter, Connection, Error, Row, Transaction, params};
 
 // The row of a selection by one key, or None where there is none.
-fn select_row<S: Alter>(conn: &mut Connection<S>, sql: &str, key: &[u8]) -> Result<Option<Row>, Error>
+fn select_row<S: Alter>(
+    conn: &mut Connection<S>,
+    sql: &str,
+    key: &[u8],
+) -> Result<Option<Row>, Error>
     requires idle { conn.old.in_transaction ≡ false }
     ensures idle { conn.new.in_transaction ≡ false }
     ensures was_open { IsTrue (state S.Store conn.new).is_open → IsTrue (state S.Store conn.old).is_open }
-    ensures same { IsTrue (state S.Store conn.new).is_open → IsPlain (understood conn.old.schema sql.now) → IsSame (state S.Store conn.old) (state S.Store conn.new) }
-    ensures row { IsTrue (state S.Store conn.new).is_open → IfOk result (Answers sql.now key.now (state S.Store conn.old) (state S.Store conn.new)) }
+    ensures same { IsTrue (state S.Store conn.new).is_open → IsPlain (understood conn.old.schema sql.now)
+        → IsSame (state S.Store conn.old) (state S.Store conn.new) }
+    ensures row { IsTrue (state S.Store conn.new).is_open
+        → IfOk result (Answers sql.now key.now (state S.Store conn.old) (state S.Store conn.new)) }
     ensures answered { HasCleanDisk (state S.Store conn.new) → OnOk result (IsTrue (state S.Store conn.new).is_open) }
     ensures clean { doubt (state S.Store conn.old).is_clean ≤ doubt (state S.Store conn.new).is_clean }
-    ensures survives { IsPlain (understood conn.old.schema sql.now) → Survives (state S.Store conn.old) (state S.Store conn.new) (λ _. ⊥) }
+    ensures survives { IsPlain (understood conn.old.schema sql.now)
+        → Survives (state S.Store conn.old) (state S.Store conn.new) (λ _. ⊥) }
 {
     let _ = conn.is_autocommit();
     match conn.query_row(sql, params![key]) {
@@ -43,11 +50,15 @@ fn select<S: Alter>(
     requires idle { conn.old.in_transaction ≡ false }
     ensures idle { conn.new.in_transaction ≡ false }
     ensures was_open { IsTrue (state S.Store conn.new).is_open → IsTrue (state S.Store conn.old).is_open }
-    ensures same { IsTrue (state S.Store conn.new).is_open → IsPlain (understood conn.old.schema sql.now) → IsSame (state S.Store conn.old) (state S.Store conn.new) }
-    ensures row { IsTrue (state S.Store conn.new).is_open → IfOk result (Answers sql.now key.now (state S.Store conn.old) (state S.Store conn.new)) }
-    ensures answered { HasCleanDisk (state S.Store conn.new) → IsAnswered result → IsTrue (state S.Store conn.new).is_open }
+    ensures same { IsTrue (state S.Store conn.new).is_open → IsPlain (understood conn.old.schema sql.now)
+        → IsSame (state S.Store conn.old) (state S.Store conn.new) }
+    ensures row { IsTrue (state S.Store conn.new).is_open
+        → IfOk result (Answers sql.now key.now (state S.Store conn.old) (state S.Store conn.new)) }
+    ensures answered { HasCleanDisk (state S.Store conn.new) → IsAnswered result
+        → IsTrue (state S.Store conn.new).is_open }
     ensures clean { doubt (state S.Store conn.old).is_clean ≤ doubt (state S.Store conn.new).is_clean }
-    ensures survives { IsPlain (understood conn.old.schema sql.now) → Survives (state S.Store conn.old) (state S.Store conn.new) (λ _. ⊥) }
+    ensures survives { IsPlain (understood conn.old.schema sql.now)
+        → Survives (state S.Store conn.old) (state S.Store conn.new) (λ _. ⊥) }
 {
     match select_row(conn, sql, key) {
         Ok(found) => Ok(found),
@@ -56,29 +67,43 @@ fn select<S: Alter>(
 }
 
 /// Kind and body of the object at an id.
-pub fn select_object<S: Alter>(conn: &mut Connection<S>, id: &[u8]) -> Result<Option<Row>, KeeperFault>
+pub fn select_object<S: Alter>(
+    conn: &mut Connection<S>,
+    id: &[u8],
+) -> Result<Option<Row>, KeeperFault>
     requires idle { conn.old.in_transaction ≡ false }
     ensures idle { conn.new.in_transaction ≡ false }
     ensures was_open { IsTrue (state S.Store conn.new).is_open → IsTrue (state S.Store conn.old).is_open }
-    ensures same { IsTrue (state S.Store conn.new).is_open → conn.old.schema ≡ store_schema → IsSame (state S.Store conn.old) (state S.Store conn.new) }
-    ensures found { IsTrue (state S.Store conn.new).is_open → conn.old.schema ≡ store_schema → IfOk result (Selects ((state S.Store conn.old).now.trees 0) id.now two_columns) }
-    ensures answered { HasCleanDisk (state S.Store conn.new) → IsAnswered result → IsTrue (state S.Store conn.new).is_open }
+    ensures same { IsTrue (state S.Store conn.new).is_open → conn.old.schema ≡ store_schema
+        → IsSame (state S.Store conn.old) (state S.Store conn.new) }
+    ensures found { IsTrue (state S.Store conn.new).is_open → conn.old.schema ≡ store_schema
+        → IfOk result (Selects ((state S.Store conn.old).now.trees 0) id.now two_columns) }
+    ensures answered { HasCleanDisk (state S.Store conn.new) → IsAnswered result
+        → IsTrue (state S.Store conn.new).is_open }
     ensures clean { doubt (state S.Store conn.old).is_clean ≤ doubt (state S.Store conn.new).is_clean }
-    ensures survives { conn.old.schema ≡ store_schema → Survives (state S.Store conn.old) (state S.Store conn.new) (λ _. ⊥) }
+    ensures survives { conn.old.schema ≡ store_schema
+        → Survives (state S.Store conn.old) (state S.Store conn.new) (λ _. ⊥) }
 {
     select(conn, "SELECT kind, body FROM objects WHERE id = ?1", id)
 }
 
 /// The id that a reference name stands at.
-pub fn select_ref<S: Alter>(conn: &mut Connection<S>, name: &[u8]) -> Result<Option<Row>, KeeperFault>
+pub fn select_ref<S: Alter>(
+    conn: &mut Connection<S>,
+    name: &[u8],
+) -> Result<Option<Row>, KeeperFault>
     requires idle { conn.old.in_transaction ≡ false }
     ensures idle { conn.new.in_transaction ≡ false }
     ensures was_open { IsTrue (state S.Store conn.new).is_open → IsTrue (state S.Store conn.old).is_open }
-    ensures same { IsTrue (state S.Store conn.new).is_open → conn.old.schema ≡ store_schema → IsSame (state S.Store conn.old) (state S.Store conn.new) }
-    ensures found { IsTrue (state S.Store conn.new).is_open → conn.old.schema ≡ store_schema → IfOk result (Selects ((state S.Store conn.old).now.trees 2) name.now one_column) }
-    ensures answered { HasCleanDisk (state S.Store conn.new) → IsAnswered result → IsTrue (state S.Store conn.new).is_open }
+    ensures same { IsTrue (state S.Store conn.new).is_open → conn.old.schema ≡ store_schema
+        → IsSame (state S.Store conn.old) (state S.Store conn.new) }
+    ensures found { IsTrue (state S.Store conn.new).is_open → conn.old.schema ≡ store_schema
+        → IfOk result (Selects ((state S.Store conn.old).now.trees 2) name.now one_column) }
+    ensures answered { HasCleanDisk (state S.Store conn.new) → IsAnswered result
+        → IsTrue (state S.Store conn.new).is_open }
     ensures clean { doubt (state S.Store conn.old).is_clean ≤ doubt (state S.Store conn.new).is_clean }
-    ensures survives { conn.old.schema ≡ store_schema → Survives (state S.Store conn.old) (state S.Store conn.new) (λ _. ⊥) }
+    ensures survives { conn.old.schema ≡ store_schema
+        → Survives (state S.Store conn.old) (state S.Store conn.new) (λ _. ⊥) }
 {
     select(conn, "SELECT id FROM refs WHERE name = ?1", name)
 }
@@ -91,11 +116,15 @@ pub fn select_next_object<S: Alter>(
     requires idle { conn.old.in_transaction ≡ false }
     ensures idle { conn.new.in_transaction ≡ false }
     ensures was_open { IsTrue (state S.Store conn.new).is_open → IsTrue (state S.Store conn.old).is_open }
-    ensures same { IsTrue (state S.Store conn.new).is_open → conn.old.schema ≡ store_schema → IsSame (state S.Store conn.old) (state S.Store conn.new) }
-    ensures found { IsTrue (state S.Store conn.new).is_open → conn.old.schema ≡ store_schema → IfOk result (Follows ((state S.Store conn.old).now.trees 0) after.now key_and_column) }
-    ensures answered { HasCleanDisk (state S.Store conn.new) → IsAnswered result → IsTrue (state S.Store conn.new).is_open }
+    ensures same { IsTrue (state S.Store conn.new).is_open → conn.old.schema ≡ store_schema
+        → IsSame (state S.Store conn.old) (state S.Store conn.new) }
+    ensures found { IsTrue (state S.Store conn.new).is_open → conn.old.schema ≡ store_schema
+        → IfOk result (Follows ((state S.Store conn.old).now.trees 0) after.now key_and_column) }
+    ensures answered { HasCleanDisk (state S.Store conn.new) → IsAnswered result
+        → IsTrue (state S.Store conn.new).is_open }
     ensures clean { doubt (state S.Store conn.old).is_clean ≤ doubt (state S.Store conn.new).is_clean }
-    ensures survives { conn.old.schema ≡ store_schema → Survives (state S.Store conn.old) (state S.Store conn.new) (λ _. ⊥) }
+    ensures survives { conn.old.schema ≡ store_schema
+        → Survives (state S.Store conn.old) (state S.Store conn.new) (λ _. ⊥) }
 {
     select(
         conn,
@@ -112,11 +141,15 @@ pub fn select_next_ref<S: Alter>(
     requires idle { conn.old.in_transaction ≡ false }
     ensures idle { conn.new.in_transaction ≡ false }
     ensures was_open { IsTrue (state S.Store conn.new).is_open → IsTrue (state S.Store conn.old).is_open }
-    ensures same { IsTrue (state S.Store conn.new).is_open → conn.old.schema ≡ store_schema → IsSame (state S.Store conn.old) (state S.Store conn.new) }
-    ensures found { IsTrue (state S.Store conn.new).is_open → conn.old.schema ≡ store_schema → IfOk result (Follows ((state S.Store conn.old).now.trees 2) after.now key_and_column) }
-    ensures answered { HasCleanDisk (state S.Store conn.new) → IsAnswered result → IsTrue (state S.Store conn.new).is_open }
+    ensures same { IsTrue (state S.Store conn.new).is_open → conn.old.schema ≡ store_schema
+        → IsSame (state S.Store conn.old) (state S.Store conn.new) }
+    ensures found { IsTrue (state S.Store conn.new).is_open → conn.old.schema ≡ store_schema
+        → IfOk result (Follows ((state S.Store conn.old).now.trees 2) after.now key_and_column) }
+    ensures answered { HasCleanDisk (state S.Store conn.new) → IsAnswered result
+        → IsTrue (state S.Store conn.new).is_open }
     ensures clean { doubt (state S.Store conn.old).is_clean ≤ doubt (state S.Store conn.new).is_clean }
-    ensures survives { conn.old.schema ≡ store_schema → Survives (state S.Store conn.old) (state S.Store conn.new) (λ _. ⊥) }
+    ensures survives { conn.old.schema ≡ store_schema
+        → Survives (state S.Store conn.old) (state S.Store conn.new) (λ _. ⊥) }
 {
     select(
         conn,

@@ -1,4 +1,4 @@
-use Rattle.std.proofs.Common.{◌≡◌, false, IsTrue, refl, sym, ◌∙◌, rules, arith}
+use Rattle.std.proofs.Common.{◌≡◌, false, IsTrue, sym, ◌∙◌, rules, arith}
 use Rattle.sqlite.specs.Effect.{IsDatabase}
 use Rattle.sqlite.specs.Held.{state}
 use Rattle.sqlite_trees.specs.View.{IsClean}
@@ -24,6 +24,7 @@ returns-in-Ok-clause-again g c = λ clean_now.
     record {
       is_open = opens.0.is_open;
       was_open = (c.into_store-store.ensures.undone.kept clean).was_open o;
+      settled = opens.0.clean;
       trees = trees ∙ (c.into_store-store.ensures.undone.undone o).0;
       sound = sound;
       shaped = shaped_by v (state g.S.Store c.in-Ok.conn).now (g.met.S.Alter.listed c.into_store-store.result whole) (g.met.S.Store.ordered c.into_store-store.result whole) sound trees;

@@ -1,4 +1,4 @@
-use Rattle.std.proofs.Common.{◌≡◌, IsTrue, not, ap, ◌∙◌}
+use Rattle.std.proofs.Common.{not, ap, ◌∙◌}
 use Rattle.sqlite.specs.Held.{state}
 use Rattle.keeper_sqlite.proofs.Selecting.{clean_if_open, prepared_open, prepared_same}
 use Rattle.keeper_sqlite.proofs.refusals.is_alive.Goals as goal

@@ -1,4 +1,4 @@
-use Rattle.std.proofs.Common.{◌≡◌, [], ◌∷◌, Some, sym, ap, ◌∙◌, rules}
+use Rattle.std.proofs.Common.{[], ◌∷◌, Some, sym, ap, ◌∙◌, rules}
 use Rattle.keeper_sqlite.proofs.Comparing.{one_item}
 use Rattle.keeper_sqlite.proofs.schemas.is_first_alone.Goals as goal
 

@@ -1,4 +1,4 @@
-use Rattle.std.proofs.Common.{◌≡◌, [], ◌∷◌, Some, sym, ap, ◌∙◌, rules}
+use Rattle.std.proofs.Common.{Some, sym, ap, ◌∙◌, rules}
 use Rattle.sqlite_value.specs.Keys.{plain}
 use Rattle.keeper_sqlite.proofs.Comparing.{one_item}
 use Rattle.keeper_sqlite.proofs.schemas.is_plain_alone.Goals as goal

@@ -1,4 +1,4 @@
-use Rattle.std.proofs.Common.{◌≡◌, IsTrue, not, ap, ◌∙◌, sym, subst}
+use Rattle.std.proofs.Common.{not, ap, ◌∙◌}
 use Rattle.sqlite.specs.Held.{state}
 use Rattle.keeper_sqlite.proofs.Selecting.{clean_if_open, query_open, query_same, plain_survives, row_opens, none_opens}
 use Rattle.keeper_sqlite.proofs.statements.select_row.Goals as goal
@@ -35,7 +35,6 @@ returns-in-Err-clause-same g c = λ now plain. query_same (state g.S.Store c.arg
 
 pub returns-in-Err-clause-survives : goal.returns-in-Err-clause-survives
 returns-in-Err-clause-survives g c = λ plain. plain_survives _ _ (state g.S.Store c.args.conn.now) (state g.S.Store c.query_row.new.self) plain c.query_row.ensures.survives
-
 
 pub returns-in-Ok-clause-answered : goal.returns-in-Ok-clause-answered
 returns-in-Ok-clause-answered g c = λ clean. row_opens (state g.S.Store c.args.conn.now) (state g.S.Store c.query_row.new.self) _ _ _ (c.in-Ok.ensures.row clean)

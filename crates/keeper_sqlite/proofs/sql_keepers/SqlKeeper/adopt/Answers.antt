@@ -1,12 +1,19 @@
-use Rattle.std.proofs.Common.{◌≡◌, true, refl, sym, subst, ◌∙◌}
+use Rattle.std.proofs.Common.{sym, ap, ◌∙◌}
 use Rattle.sqlite.specs.Held.{state}
-use Rattle.keeper_sqlite.proofs.Keeping.{lawful_by, left_alone}
+use Rattle.keeper_sqlite.specs.Rows.{repository_in}
+use Rattle.keeper_sqlite.proofs.Keeping.{held_is, lawful_by, left_alone}
 use Rattle.keeper_sqlite.proofs.Reopening.{store_by}
 use Rattle.keeper_sqlite.proofs.Selecting.{clean_if_open}
 use Rattle.keeper_sqlite.proofs.sql_keepers.SqlKeeper.adopt.Goals as goal
 
 pub returns-clause-left : goal.returns-clause-left
 returns-clause-left g c = left_alone c.is_store_schema-known.result (state g.S.Store c.in_ok-conn.conn) (lawful_by g.S.Store c.in_ok-conn.conn g.met.S.Store.shut_if_dirty g.met.S.Store.settled g.met.S.Store.stays)
+
+pub returns-clause-held : goal.returns-clause-held
+returns-clause-held g c = λ has r told.
+    let held = held_is c.is_store_schema-known.result (state g.S.Store c.in_ok-conn.conn) r told in
+    let clean = clean_if_open _ _ (g.met.S.Store.shut_if_dirty c.in_ok-conn.conn.store) held.0 in
+    sym held.1 ∙ ap repository_in (c.in_ok-conn.ensures.kept clean has)
 
 pub invariant_of-result : goal.invariant_of-result
 invariant_of-result g c = record {

@@ -1,4 +1,4 @@
-use Rattle.std.proofs.Common.{◌≡◌, ◌⊎◌, inl, Bool, true, false, Ok, Err, IsTrue, not, refl, sym, ap, subst, ◌∙◌}
+use Rattle.std.proofs.Common.{inl, Bool, true, Ok, Err, not, refl, sym, ap, subst, ◌∙◌}
 use Rattle.keeper_api.specs.Changes.{changed}
 use Rattle.keeper_api.specs.Keepers.{Leaves}
 use Rattle.keeper_api.specs.declared.keeper_faults.KeeperFault.TheVariants.{Failed}
@@ -7,7 +7,7 @@ use Rattle.sqlite.specs.Held.{state}
 use Rattle.keeper_sqlite.specs.Rows.{repository_in}
 use Rattle.keeper_sqlite.specs.States.{IsStore}
 use Rattle.keeper_sqlite.specs.Telling.{TellsAfter}
-use Rattle.keeper_sqlite.proofs.Keeping.{content_at, tells_at, left_at, lawful_by, made_content, made_leaves, refused_content, refused_leaves, doubted_leaves, told_after, failed_after}
+use Rattle.keeper_sqlite.proofs.Keeping.{content_at, tells_at, left_at, lawful_by, made_content, made_leaves, refused_content, doubted_leaves, told_after, failed_after}
 use Rattle.keeper_sqlite.proofs.Selecting.{clean_if_open}
 use Rattle.keeper_sqlite.proofs.sql_keepers.SqlKeeper.make.Goals as goal
 
