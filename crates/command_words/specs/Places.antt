@@ -1,7 +1,7 @@
 -- The two words in front of a command's: where the store is, and where the key file is.
-use Rattle.std.specs.Prelude.{◌≡◌, ◌≢◌, ◌∷◌, ℕ, List, codes, IsTrue}
+use Rattle.std.specs.Prelude.{◌≡◌, ◌≢◌, [], ◌∷◌, ℕ, List, codes, IsTrue}
 use Rattle.std.specs.Bool.{nat_eq}
-use Rattle.std.specs.List.{ends_with}
+use Rattle.std.specs.List.{ends_with, starts_with}
 use Rattle.command_words.specs.declared.places.KeyPlace.{KeyPlace}
 use Rattle.command_words.specs.declared.places.KeyPlace.TheVariants as key
 use Rattle.command_words.specs.declared.places.Store.{Store}
@@ -11,14 +11,20 @@ use Rattle.command_words.specs.declared.places.Store.TheVariants as store
 abbrev pub store_text : Store → List ℕ
 store_text store.Memory = codes "-"
 store_text (store.Directory path) = path.now
+store_text (store.Database path) = path.now
 
 -- the text ends in a slash
 abbrev pub IsFolder : List ℕ → Type 0
 IsFolder text = IsTrue (ends_with nat_eq text (codes "/"))
 
+-- the text is not empty, begins in no dash and ends in no slash
+abbrev pub IsDatabase : List ℕ → Type 0
+IsDatabase text = (text ≢ []) × (¬ IsTrue (starts_with nat_eq text (codes "-"))) × (¬ IsFolder text)
+
 abbrev pub IsStore : Store → Type 0
 IsStore store.Memory = Unit {0}
 IsStore (store.Directory path) = IsFolder path.now
+IsStore (store.Database path) = IsDatabase path.now
 
 -- the text that stands for a key file
 abbrev pub key_text : KeyPlace → List ℕ

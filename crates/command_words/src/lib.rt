@@ -29,7 +29,7 @@ mod words_fault;
 pub use commands::{Command, Height, Width};
 pub use ids::{read_key_ids, read_object_ids};
 pub use numbers::read_count;
-pub use places::{FrontWords, KeyPlace, Store, after_places};
+pub use places::{FrontWords, KeyPlace, Store, after_places, store_at};
 pub use reading::read_command;
 pub use spaced::split_space;
 pub use words_fault::WordsFault;

@@ -1,7 +1,7 @@
 //! The two words in front of a command's: the store and the key file.
 
 ghost use Rattle.std.specs.Prelude.{◌≡◌, ◌≢◌, ◌↔◌, map, string_bytes, IfSome, IfNone, IsTrue};
-ghost use Rattle.command_words.specs.Places.{AreNoPlaces, ArePlaces, IsFolder, IsKey, IsStore, key_text, store_text};
+ghost use Rattle.command_words.specs.Places.{AreNoPlaces, ArePlaces, IsDatabase, IsFolder, IsKey, IsStore, key_text, store_text};
 
 use crate::first_words::{is_word, split_first};
 
@@ -12,6 +12,8 @@ pub enum Store<'a> {
     Memory,
     /// In a folder, named by a text that ends in `/`.
     Directory(&'a str),
+    /// In the database file at this path: a text that does not begin in `-` nor end in `/`, and is not empty.
+    Database(&'a str),
 }
 
 /// Where the key file is.
@@ -37,8 +39,20 @@ fn is_folder(text: &str) -> bool
     text.as_bytes().ends_with(b"/")
 }
 
-// The store that a text stands for; None where it stands for none.
-fn store_at(text: &str) -> Option<Store>
+fn is_database(text: &str) -> bool
+    ensures { IsTrue result ↔ IsDatabase text.now }
+{
+    if text.is_empty() {
+        return false;
+    }
+    if text.as_bytes().starts_with(b"-") {
+        return false;
+    }
+    !is_folder(text)
+}
+
+/// The store that a text stands for; None where it stands for none.
+pub fn store_at(text: &str) -> Option<Store>
     ensures found { IfSome result (λ store. (store_text store ≡ text.now) × IsStore store) }
     ensures none { IfNone result ((store : Store) → IsStore store → store_text store ≢ text.now) }
 {
@@ -47,6 +61,9 @@ fn store_at(text: &str) -> Option<Store>
     }
     if is_folder(text) {
         return Some(Store::Directory(text));
+    }
+    if is_database(text) {
+        return Some(Store::Database(text));
     }
     None
 }

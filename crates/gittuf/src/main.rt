@@ -15,8 +15,10 @@ use endings::{Part, Refusal};
 use gittuf_cli::{Outside, run};
 use keeper_api::{Keeper, MemKeeper};
 use keeper_directory::{DirKeeper, OpenFault};
+use keeper_sqlite::{SqlFault, SqlKeeper};
 use octets::Octets;
-use program_start::words_of;
+use program_start::{refuse_schema, words_of};
+use sqlite::{File, FileStore};
 use std::process::ExitCode;
 
 // What a key file in memory has room for: the bytes of the largest key file and of its marks, and the calls of a
@@ -112,11 +114,44 @@ fn run_in(rt: &HostRuntime, folder: &str, places: FrontWords, needs: &Needs) -> 
     status
 }
 
+// The store in a database file, which is made where nothing is for a command that may change the store alone.
+fn open_database(
+    rt: &HostRuntime,
+    path: &str,
+    needs: &Needs,
+) -> Result<SqlKeeper<FileStore<File>>, SqlFault> {
+    if needs.change {
+        SqlKeeper::to_change(rt, path)
+    } else {
+        SqlKeeper::to_read(rt, path)
+    }
+}
+
+// Runs the command of the words over the store in a database file.
+fn run_over_database(rt: &HostRuntime, path: &str, places: FrontWords, needs: &Needs) -> u8 {
+    let keeper = match open_database(rt, path, needs) {
+        Ok(keeper) => keeper,
+        Err(SqlFault::BadSchema { found }) => {
+            return refuse_schema(rt.alloc(), rt.stderr(), found);
+        }
+        Err(SqlFault::Failed) => return refuse(rt, Refusal::Fault { part: Part::Keeper }),
+        Err(SqlFault::Memory) => return refuse(rt, Refusal::Memory),
+    };
+    let (status, keeper) = run_with_key(rt, places, needs, keeper);
+    if keeper.end().is_err() && status < 2 {
+        return refuse(rt, Refusal::Fault { part: Part::Keeper });
+    }
+    status
+}
+
 // Opens what the words name first, and runs the command of the words after them.
 fn start(rt: &HostRuntime, words: &[String]) -> u8 {
     let Some(places) = after_places(words) else {
         return refuse(rt, Refusal::Words);
     };
+    if places.command.is_empty() {
+        return refuse(rt, Refusal::Words);
+    }
     let needs = match needs_of(rt.alloc(), places.command) {
         Ok(needs) => needs,
         Err(refusal) => return refuse(rt, refusal),
@@ -124,6 +159,7 @@ fn start(rt: &HostRuntime, words: &[String]) -> u8 {
     match places.store {
         Store::Memory => run_with_key(rt, places, &needs, MemKeeper::new(rt.alloc())).0,
         Store::Directory(folder) => run_in(rt, folder, places, &needs),
+        Store::Database(path) => run_over_database(rt, path, places, &needs),
     }
 }
 

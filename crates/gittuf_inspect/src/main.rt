@@ -14,7 +14,8 @@ use edge_io::StdSink;
 use endings::{Ending, Part, Refusal};
 use keeper_api::{Keeper, MemKeeper};
 use keeper_directory::{DirKeeper, OpenFault};
-use program_start::words_of;
+use keeper_sqlite::{SqlFault, SqlKeeper};
+use program_start::{refuse_schema, words_of};
 use std::process::ExitCode;
 
 // Says a refusal, and answers its status.
@@ -47,10 +48,28 @@ fn tell_folder(rt: &HostRuntime, folder: &str, asked: Asked) -> u8 {
     }
 }
 
+// Tells what is asked for over the store in a database file that is there.
+fn tell_database(rt: &HostRuntime, path: &str, asked: Asked) -> u8 {
+    match SqlKeeper::to_read(rt, path) {
+        Ok(keeper) => {
+            let mut keeper = keeper;
+            let status = tell(rt, asked, &mut keeper);
+            if keeper.end().is_err() && status < 2 {
+                return refuse(rt, Refusal::Fault { part: Part::Keeper });
+            }
+            status
+        }
+        Err(SqlFault::BadSchema { found }) => refuse_schema(rt.alloc(), rt.stderr(), found),
+        Err(SqlFault::Failed) => refuse(rt, Refusal::Fault { part: Part::Keeper }),
+        Err(SqlFault::Memory) => refuse(rt, Refusal::Memory),
+    }
+}
+
 fn start(rt: &HostRuntime, words: &[String]) -> u8 {
     match read_words(rt.alloc(), words) {
         Ok((Store::Memory, asked)) => tell(rt, asked, &mut MemKeeper::new(rt.alloc())),
         Ok((Store::Directory(folder), asked)) => tell_folder(rt, folder, asked),
+        Ok((Store::Database(path), asked)) => tell_database(rt, path, asked),
         Err(WordsFault::Outside) => refuse(rt, Refusal::Words),
         Err(WordsFault::Memory) => refuse(rt, Refusal::Memory),
     }

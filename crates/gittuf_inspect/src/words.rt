@@ -2,7 +2,7 @@
 
 use clap::error::ErrorKind;
 use clap::{Arg, ArgAction, ArgMatches, Command};
-use command_words::{Store, WordsFault, read_count, read_key_ids};
+use command_words::{Store, WordsFault, read_count, read_key_ids, store_at};
 use git_object::{LOG_NAME, RefFault, RefName};
 use octets::Items;
 use root_metadata::{KeyIds, id_set};
@@ -27,17 +27,6 @@ pub(crate) enum Asked {
         root: Option<KeyIds>,
         names: Items<RefName>,
     },
-}
-
-// The store that a text stands for; None where it stands for none.
-fn store_at(text: &str) -> Option<Store> {
-    if text == "-" {
-        return Some(Store::Memory);
-    }
-    if text.as_bytes().ends_with(b"/") {
-        return Some(Store::Directory(text));
-    }
-    None
 }
 
 // A command with the option `--root`, and with no flags for help and version.

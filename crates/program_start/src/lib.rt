@@ -6,4 +6,4 @@
 
 mod starting;
 
-pub use starting::{refuse, words_of};
+pub use starting::{refuse, refuse_schema, words_of};

@@ -6,6 +6,7 @@ ghost use Rattle.endings.specs.declared.ending.Refusal.TheVariants as refusal;
 
 use edge_io::{StdSink, write_all};
 use endings::Refusal;
+use std::alloc::Global;
 use std::env;
 use std::io::{ErrorKind, Write};
 use std::rt::Env;
@@ -39,4 +40,19 @@ pub fn refuse<W: Write + Drop>(faults_out: W, refusal: &Refusal) -> u8
     let mut sink = StdSink::new(faults_out);
     let _ = write_all(&mut sink, refusal.line().as_slice());
     refusal.status()
+}
+
+/// Says that a database has another schema, by its number, where the line can be written, and answers the status of a
+/// refused input, or that of want of memory.
+pub fn refuse_schema<W: Write + Drop>(alloc: Global, faults_out: W, found: i64) -> u8
+    ensures { (result ≡ 3) ⊎ (result ≡ refusal_status refusal.Memory) }
+{
+    match format!(in alloc; "schema {found}\n") {
+        Ok(line) => {
+            let mut sink = StdSink::new(faults_out);
+            let _ = write_all(&mut sink, line.as_bytes());
+            3
+        }
+        Err(_) => refuse(faults_out, &Refusal::Memory),
+    }
 }
