@@ -152,6 +152,30 @@ def leads_out_where_it_stood(repositories):
     clones.verdict("alice", f"accepted {MAIN} 3 entries")
 
 
+def goes_on_after_a_vain_policy(repositories):
+    """a policy that is none is refused, and one that was recorded in vain before the hook keeps no later one from being taken"""
+    clones = another(repositories, "gated policies")
+    clones.clone("mallory")
+    clones.gittuf("mallory", "log")
+    evil = clones.commit("mallory", "evil")
+    clones.git("update-ref", POLICY, evil, who="mallory")
+    clones.gittuf("mallory", "record", POLICY, "--anyway")
+    pushed = ("--quiet", "origin", f"+{POLICY}:{POLICY}", f"{LOG}:{LOG}")
+    clones.gittuf("server.git", "hook", "install", "--server")
+    denied(clones, "mallory", *pushed, part=f"violation {POLICY} 3 not-epoch")
+    clones.gittuf("server.git", "hook", "--remove")
+    clones.git("push", *pushed, who="mallory")
+    clones.gittuf("server.git", "hook", "install", "--server")
+    clones.git("fetch", "--quiet", who="alice")
+    clones.gittuf("alice", "log")
+    clones.gittuf("alice", "policy", "rule", "docs", "file:docs/*", "--persons", "bob")
+    clones.sign("alice")
+    clones.gittuf("alice", "policy", "apply")
+    clones.git("push", "--quiet", "origin", f"+{POLICY}:{POLICY}", f"{LOG}:{LOG}", who="alice")
+    clones.git("fetch", "--quiet", who="bob")
+    want(b"rule docs" in clones.gittuf("bob", "policy", "show"), True, "whether the later policy is in force")
+
+
 def takes_many_at_once(repositories):
     """64 references in one push are judged at once: branches that are recorded are taken, and with one that is not none of them is"""
     clones = gated(repositories, "gated many")
@@ -228,6 +252,7 @@ CHECKS = (
     takes_what_is_lawful,
     refuses_what_is_not,
     leads_out_where_it_stood,
+    goes_on_after_a_vain_policy,
     takes_many_at_once,
     takes_one_of_two,
     takes_all_or_nothing_when_stopped,
