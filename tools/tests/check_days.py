@@ -1,4 +1,4 @@
-"""The check of tools/test on random days of four persons, of which tools/try-days makes more."""
+"""The checks of tools/test on random days of four persons, of which tools/try-days makes more."""
 
 from made_days import Days
 
@@ -10,4 +10,9 @@ def judge_as_the_whole(repositories):
     return Days(repositories, SEED).pass_by(STEPS)
 
 
-CHECKS = (judge_as_the_whole,)
+def keep_a_server_lawful(repositories):
+    """over random steps of the four nothing unlawful comes into a server that has the hook, and its log never goes back"""
+    return Days(repositories, SEED, is_gated=True).pass_by(STEPS)
+
+
+CHECKS = (judge_as_the_whole, keep_a_server_lawful)

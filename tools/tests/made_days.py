@@ -1,7 +1,7 @@
 """Random days of four persons over one server: two whom the rule of main asks, one whom none asks, and one who attacks.
 
 Whatever they do, each verdict of a clone is the program's on the whole stream of that clone, and no word ends but by a
-status that the pages tell.
+status that the pages tell. Where the server has the hook, nothing on it is ever unlawful, and its log never goes back.
 """
 
 import random
@@ -19,8 +19,11 @@ BETWEEN = 4
 class Days:
     """The clones of the four, and what is drawn for them from a seed."""
 
-    def __init__(self, repositories, seed):
-        self.clones, self.drawn = another(repositories, f"days {seed}"), random.Random(seed)
+    def __init__(self, repositories, seed, is_gated=False):
+        self.clones, self.drawn = another(repositories, f"days {seed}{' gated' if is_gated else ''}"), random.Random(seed)
+        self.is_gated, self.log = is_gated, self.clones.tip("server.git", LOG)
+        if is_gated:
+            self.clones.gittuf("server.git", "hook", "install", "--server")
         root = self.clones.gittuf("alice", "key", "--id").decode().strip()
         for who in PERSONS[2:]:
             self.clones.clone(who)
@@ -112,6 +115,19 @@ class Days:
     def step(self, who, way):
         self.did.append(f"{who} {way.__name__}")
         way(self, who)
+        if self.is_gated:
+            self.look_at_server()
+
+    def look_at_server(self):
+        """Holds what is recorded on the server to what is lawful, and its log to what goes on from where it was."""
+        before, self.log = self.log, self.clones.tip("server.git", LOG)
+        goes_on = run("git", "-C", self.clones.path("server.git"), "merge-base", "--is-ancestor", before, self.log)[0]
+        want(goes_on, 0, f"whether the log of the server goes on after {self.did}")
+        stream = run(GIT_TO_STREAM, self.clones.path("server.git"))[1]
+        for name in (MAIN, "refs/gittuf/policy", "refs/gittuf/attestations"):
+            status, line, _ = run(LAUNCHER, "-", "-", "verify-ref", name, "--stdin", input=stream)
+            want(status, 0, f"the server's verdict {line} after {self.did}")
+            self.verdicts += 1
 
     def look(self, who):
         """Holds each verdict of a clone on what is there to the program's on its whole stream."""
