@@ -143,6 +143,10 @@ def pushes_all_or_nothing(repositories):
     want(clones.gittuf("alice", "push", "main", "v1").decode(), f"pushed {MAIN} {tip}\npushed refs/tags/v1 {tip}\n", "what push prints")
     for name in (MAIN, "refs/tags/v1", LOG):
         want(clones.tip("server.git", name), clones.tip("alice", name), f"where the server has {name}")
+    # What was recorded meanwhile goes along.
+    clones.git("tag", "v2", who="alice")
+    clones.gittuf("alice", "record", "v2")
+    want(clones.gittuf("alice", "push").decode(), f"pushed {MAIN} {tip}\npushed refs/tags/v2 {tip}\n", "what push takes along")
     clones.git("pull", "--quiet", who="bob")
     clones.gittuf("bob", "verify")
     clones.commit("bob")

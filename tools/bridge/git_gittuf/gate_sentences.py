@@ -23,7 +23,7 @@ def of_tip(line, numbers):
     way = f"git gittuf push {name.word} takes it with the log that records it"
     if numbers:
         says = f"stands at {recorded[:12]}" if int(recorded, 16) else "is gone"
-        return f"entry {numbers[-1]} says that {name.shown} {says}, and by this push it would {stands}: {way}"
+        return f"entry {numbers[-1]} says that {name.shown} {says}, and by this push it would {stands}: git gittuf push takes along what is recorded"
     records = f"git gittuf record {name.word} records that, and {way}"
     if not int(recorded, 16):
         return f"{name.shown} would {stands}, a rule protects it, and no entry says that it does: {records}"

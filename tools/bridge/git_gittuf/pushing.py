@@ -3,9 +3,10 @@
 import os
 import sys
 
-from git_gittuf import history, names, remotes, seen, syncing, verifying
-from git_gittuf.repository import ATTESTATIONS, LOG, POLICY, STAGED, TARGETS, ZEROS, Stopped
+from git_gittuf import following, history, looking, names, remotes, seen, syncing, verifying
 from git_gittuf.hook_calls import ANYWAY
+from git_gittuf.remotes import is_before
+from git_gittuf.repository import ATTESTATIONS, LOG, POLICY, STAGED, TARGETS, ZEROS, Stopped
 from git_gittuf.shown import plain, plain_lines, quoted
 from git_gittuf.telling import say
 from stream_format import Git
@@ -44,6 +45,32 @@ def named(work, words):
         found[name] = references.get(name)
         if found[name] is None and name not in history.recorded_names(work):
             raise names.no_such(repository, word, history.recorded_names(work))
+    return found
+
+
+def goes_on_there(repository, remote, name, value, known):
+    """Whether a push moves a reference at a remote without force, as far as was seen; `known` are those that its log records."""
+    there = repository.references().get(names.remote_branch(name, remote)) if name.startswith(names.HEADS) else None
+    if value is None:
+        return there is not None
+    if name.startswith(names.HEADS):
+        return there is None or repository.are_commits([there, value]) and is_before(repository, there, value)
+    # A tag that it has is not moved.
+    return name.startswith(names.TAGS) and name not in known
+
+
+def recorded_since(work, remote):
+    """What entries record that a remote's log lacks, where it stands here as the log has it: it goes with them."""
+    repository, references = work.repository, work.repository.references()
+    there = references.get(remotes.beside(remote, LOG))
+    listed = history.entries(work.asked("log")) if LOG in references else ()
+    count = following.count_of(repository, there) if there and is_before(repository, there, references[LOG]) else 0
+    known = {rest[0] for _, _, kind, rest in listed[:count] if kind == b"ref"}
+    found = {}
+    for name in dict.fromkeys(rest[0] for _, _, kind, rest in listed[count:] if kind == b"ref"):
+        value = references.get(name)
+        if (value or ZEROS) == looking.last_of(repository, listed, name) and goes_on_there(repository, remote, name, value, known):
+            found[name] = value
     return found
 
 
@@ -115,6 +142,7 @@ def push(work, words):
         found = named(work, words)
         if not anyway:
             expect_recorded(work, remote, found)
+        found = {**found, **recorded_since(work, remote)}
         done, why = pushed(work, remote, found, anyway)
         if done:
             seen.pushed(work.repository, remote)

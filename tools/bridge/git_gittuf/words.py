@@ -47,8 +47,8 @@ Every day
       [--anyway]                signs it all the same, here and below
   approve BRANCH [COMMIT]       sign that it may go to this commit's files, or to where it stands here, or with --delete
       [--delete] [--anyway]     that it may be gone, where a rule wants that of the key here
-  push [BRANCH ..]              push these or the branch that is checked out with the log, all or nothing; where another
-      [--remote R] [--anyway]   was faster it does what sync does, and pushes again
+  push [BRANCH ..]              push these or the branch that is checked out, and what else is recorded since, with the
+      [--remote R] [--anyway]   log, all or nothing; where another was faster it does what sync does, and pushes again
   sync [--remote R] [--anyway]  fetch, and where another recorded first, record what is still lawful after that anew
   recover BRANCH [--anyway]     lead out of a violation: sign the skips, say which files are wanted, and then record
   verify [BRANCH ..]            say whether each change was lawful; with no name, of all that the log speaks of and of
