@@ -150,7 +150,8 @@ impl DeskState {
         ensures reads { OnOk result ((r : Repository) (log more : List Taken) → R.content keeper.new ≡ Some r
             → Follows log self.old.engine → AreEntries r (ids_behind self.old.log.log self.old.engine) more
             → AreBoundedBehind (real_rules self.old.engine.rules.anchor) log more
-            → R.reads keeper.new ≤ R.reads keeper.old + reads_behind (real_rules self.old.engine.rules.anchor) log more) }
+            → R.reads keeper.new ≤ R.reads keeper.old
+            + reads_behind (real_rules self.old.engine.rules.anchor) log more) }
         ensures free { ids_behind self.old.log.log self.old.engine ≡ [] → R.reads keeper.new ≡ R.reads keeper.old }
     {
         verdict_behind(alloc, keeper, self.log.rows(), &mut self.engine, name)

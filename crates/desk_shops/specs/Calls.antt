@@ -52,8 +52,8 @@ module _ {R : Type 0} (keeper_of : keeper.Ghosts R) where
     StandsAfterPush push seat reply_.Fault = Stands keeper_of store state h
     StandsAfterPush push seat reply_.Memory = Stands keeper_of store state h
 
-    -- after settling: with one member more, of nobody, exactly where the entry in doubt is taken in; and over a store that
-    -- tells what it holds `Moved` never comes
+    -- after settling: with one member more, of nobody, exactly where the entry in doubt is taken in; and over a store
+    -- that tells what it holds `Moved` never comes
     abbrev pub StandsAfterSettling : Settled → Type 0
     StandsAfterSettling settled_.Clear = Stands keeper_of store state h × (state.log.doubt ≡ None)
     StandsAfterSettling (settled_.TookIn id) = AddsOne id 0 × (state.log.doubt ≡ None)

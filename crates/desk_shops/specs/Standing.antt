@@ -33,16 +33,16 @@ pub record Lags (h : History) (engine : Engine) : Type 0 where
   pub follows : Follows log engine
   pub entries : AreEntriesOf log h.members
 
--- The desk's log and the store stand for the history, and the engine judges by no anchor. What it took is known while the
--- store tells what it holds.
+-- The desk's log and the store stand for the history, and the engine judges by no anchor. What it took is known while
+-- the store tells what it holds.
 pub record Stands {R : Type 0} (keeper_of : keeper.Ghosts R) (store : R) (state : DeskState) (h : History) : Type 0
   where
     pub desk : StandsFor keeper_of store state.log h
     pub anchor : state.engine.rules.anchor ≡ None
     pub engine : (r : Repository) → keeper_of.content store ≡ Some r → Lags h state.engine
 
--- by the entries of all members, each judged in the repository of its own member or of a later one, this is the verdict on
--- the reference at the value that it has in the last repository
+-- by the entries of all members, each judged in the repository of its own member or of a later one, this is the verdict
+-- on the reference at the value that it has in the last repository
 pub record IsVerdictOf (h : History) (name : List ℕ) (verdict : Verdict Fault) : Type 0 where
   pub log : List Taken
   pub entries : AreEntriesOf log h.members
