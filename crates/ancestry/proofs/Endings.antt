@@ -1,16 +1,14 @@
 -- What a walk has found where it stops.
-use Rattle.std.proofs.Common.{◌≡◌, ◌≤◌, ◌<◌, ◌+◌, ◌++◌, ◌||◌, ℕ, suc, zero, Bool, true, false, List, [], ◌∷◌, length, take, Option, Some, None, refl, sym, ap, subst, ◌∙◌, arith}
+use Rattle.std.proofs.Common.{◌≡◌, ◌≤◌, ◌<◌, ◌+◌, ◌++◌, ◌||◌, ℕ, suc, zero, Bool, true, false, List, [], ◌∷◌, length, take, Some, refl, sym, ap, subst, ◌∙◌, arith}
 use Rattle.std.specs.Prelude.{slice_get}
-use Rattle.std.specs.List.{list_any}
 use Rattle.std.specs.Str.{bytes_eq}
 use Rattle.std.proofs.lemmas.Bool.{true≢false}
 use Rattle.std.proofs.lemmas.List.{append_assoc, append-nil, length-append, take_at}
-use Rattle.std.proofs.lemmas.List.Folds.{list_any-append}
 use Rattle.std.proofs.lemmas.Slice.Eq.{bytes_eq-Decides}
-use Rattle.ancestry.specs.Descents.{AreMore, IsAncestor, IsDescent, IsWalked}
+use Rattle.ancestry.specs.Descents.{IsAncestor, IsDescent, IsWalked}
 use Rattle.ancestry.specs.Order.{Parents, ancestors, commits, has_id, met, parent_lines}
 use Rattle.ancestry.specs.declared.descents.Descent.TheVariants.{No, TooFar, Yes}
-use Rattle.ancestry.proofs.Order.{Front, ancestors_front, met_closed}
+use Rattle.ancestry.proofs.Order.{ancestors_front, met_closed}
 use Rattle.ancestry.proofs.Turns.{IsAtTurn, has_more, order_at, take_front}
 
 or_true : (b : Bool) → (b || true) ≡ true

@@ -1,4 +1,8 @@
 pub mod Order
 pub mod Turns
+pub mod Passing
 pub mod Endings
+pub mod Walks
 pub mod Reaching
+pub mod CommitsRead
+pub mod Peeling

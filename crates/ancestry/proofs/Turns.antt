@@ -1,16 +1,12 @@
 -- A walk turn by turn, and what it is at its end.
-use Rattle.std.proofs.Common.{◌≡◌, ◌≤◌, ◌<◌, ◌+◌, ◌++◌, ◌||◌, ℕ, suc, zero, Bool, true, false, cond, List, [], ◌∷◌, length, take, drop, Option, Some, None, refl, sym, ap, subst, ◌∙◌, arith}
+use Rattle.std.proofs.Common.{◌≡◌, ◌≤◌, ◌+◌, ◌++◌, ◌||◌, ℕ, suc, zero, Bool, true, false, cond, List, [], ◌∷◌, length, take, Option, Some, None, refl, sym, ap, ◌∙◌, arith}
 use Rattle.std.specs.Prelude.{is_some, slice_get}
-use Rattle.std.specs.List.{filter, list_any}
 use Rattle.std.specs.Str.{bytes_eq}
-use Rattle.std.proofs.lemmas.Bool.{true≢false}
-use Rattle.std.proofs.lemmas.List.{append_assoc, append-nil, length-append, length_push, take-append-drop, take-append-le, take_at}
+use Rattle.std.proofs.lemmas.List.{append_assoc, append-nil, length_push}
 use Rattle.std.proofs.lemmas.List.Elements.{filter-append}
 use Rattle.std.proofs.lemmas.List.Folds.{list_any-append}
-use Rattle.ancestry.specs.Descents.{AreMore, IsAncestor, IsDescent}
 use Rattle.ancestry.specs.Order.{Parents, after_turn, ancestors, commits, has_id, is_commit, met, parent_lines, parents_or_none, with_new}
-use Rattle.ancestry.specs.declared.descents.Descent.TheVariants.{No, TooFar, Yes}
-use Rattle.ancestry.proofs.Order.{Front, ancestors_front, met_closed, met_first, met_suc, new_few, new_front}
+use Rattle.ancestry.proofs.Order.{Front, met_first, met_suc, new_few, new_front}
 
 -- ids in which one of them is first found behind a front
 head_of : (front rest : List (List ℕ)) (id : List ℕ) → slice_get (front ++ rest) (length front) ≡ Some id → (more : List (List ℕ)) × (rest ≡ id ∷ more)

@@ -1,5 +1,5 @@
 -- The order of a commit's ancestors: breadth first, parents in their order, each commit at its first visit.
-use Rattle.std.specs.Prelude.{◌≡◌, ◌++◌, ◌+◌, ◌∷◌, [], ℕ, suc, zero, Bool, true, List, length, Option, Some, None}
+use Rattle.std.specs.Prelude.{◌++◌, ◌+◌, ◌∷◌, [], ℕ, suc, zero, Bool, List, length, Option, Some, None}
 use Rattle.std.specs.Prelude.{is_some, slice_get, if◌then◌else◌}
 use Rattle.std.specs.List.{filter, list_any}
 use Rattle.std.specs.Str.{bytes_eq}

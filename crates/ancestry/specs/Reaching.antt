@@ -1,5 +1,5 @@
 -- What is reached from a commit by parents, to read the order of ancestors aloud.
-use Rattle.std.specs.Prelude.{◌≡◌, ◌↔◌, ℕ, Bool, true, List, Some}
+use Rattle.std.specs.Prelude.{◌≡◌, ◌↔◌, ℕ, true, List, Some}
 use Rattle.std.specs.List.{IsDistinct}
 use Rattle.std.specs.Str.{bytes_eq}
 use Rattle.ancestry.specs.Order.{Parents, ancestors, has_id, is_commit, met}

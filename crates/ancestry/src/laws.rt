@@ -1,6 +1,8 @@
 //! Laws of the order of ancestors.
 
 ghost use Rattle.std.specs.Prelude.{◌≡◌, ◌≤◌, ◌+◌, ◌++◌, ℕ, List, length};
+ghost use Rattle.git_object.specs.Repository.{Repository};
+ghost use Rattle.ancestry.specs.Commits.{AreParentsAt, commit_parents};
 ghost use Rattle.ancestry.specs.Descents.{IsDescent};
 ghost use Rattle.ancestry.specs.Order.{Parents, ancestors, met};
 ghost use Rattle.ancestry.specs.Reaching.{IsOrderOfReached};
@@ -29,4 +31,10 @@ pub fn closed()
 /// The order of ancestors has each commit that is reached from the first by parents, and no other; and no id is met twice.
 pub fn reached()
     ensures { (parents : Parents) (root : List ℕ) → IsOrderOfReached parents root }
+{}
+
+/// What the definitions call the parents at an id are those that the commit of this id names, and none where there is no
+/// such commit.
+pub fn parents()
+    ensures { (r : Repository) (id : List ℕ) → AreParentsAt r id (commit_parents r id) }
 {}

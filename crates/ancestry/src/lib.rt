@@ -4,7 +4,11 @@
 
 #![tactic(auto)]
 
+mod commits;
 mod descents;
 pub mod laws;
+mod targets;
+mod walking;
 
 pub use descents::Descent;
+pub use targets::descends;
