@@ -5,6 +5,7 @@ use octets::{Memory, Octets};
 use std::alloc::Global;
 
 const TIP: &[u8] = b"GET /v1/tip HTTP/1.1\r\nhost: a\r\n\r\n";
+
 const PUSH: &[u8] = b"POST /v1/push HTTP/1.1\r\ncontent-length: 5\r\n\r\nabcde";
 
 // Whether the first bytes of a text, one a call, ask that, where this call fails.
@@ -33,7 +34,13 @@ fn wanted_at(end: usize, all: usize, whole: Wanted) -> Wanted {
 #[test]
 fn a_request_is_cut_at_each_byte(rt: HostRuntime) -> Result<(), Memory> {
     for end in 0..TIP.len() + 1 {
-        let is_so = asks(rt.alloc(), TIP, end, 0, wanted_at(end, TIP.len(), Wanted::Tip))?;
+        let is_so = asks(
+            rt.alloc(),
+            TIP,
+            end,
+            0,
+            wanted_at(end, TIP.len(), Wanted::Tip),
+        )?;
         want(&rt, end, is_so);
     }
     for end in 0..PUSH.len() + 1 {
@@ -47,7 +54,13 @@ fn a_request_is_cut_at_each_byte(rt: HostRuntime) -> Result<(), Memory> {
 #[test]
 fn a_source_fails_at_each_call(rt: HostRuntime) -> Result<(), Memory> {
     for before in 0..PUSH.len() {
-        let is_so = asks(rt.alloc(), PUSH, PUSH.len(), before as u64 + 1, Wanted::LinkFailed)?;
+        let is_so = asks(
+            rt.alloc(),
+            PUSH,
+            PUSH.len(),
+            before as u64 + 1,
+            Wanted::LinkFailed,
+        )?;
         want(&rt, before, is_so);
     }
     // The call after the last byte is not made.

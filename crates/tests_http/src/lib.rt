@@ -11,6 +11,8 @@ mod cut_rows;
 #[cfg(test)]
 mod edge_rows;
 #[cfg(test)]
+mod reply_rows;
+#[cfg(test)]
 mod request_rows;
 #[cfg(test)]
 mod slow_sources;

@@ -15,25 +15,73 @@ const ROUTES: [(&[u8], Wanted); 22] = [
     (b"", Wanted::Silent),
     (b"GET /v1/tip HTTP/1.1\r\n\r\n", Wanted::Tip),
     (b"GET /v1/tip HTTP/1.0\n\n", Wanted::Tip),
-    (b"GET /v1/tip HTTP/1.1\r\nhost: a\r\ncontent-length: 9\r\n\r\n", Wanted::Tip),
-    (b"GET /v1/tip HTTP/1.1\r\n\r\nGET /v1/stream HTTP/1.1\r\n\r\n", Wanted::Tip),
+    (
+        b"GET /v1/tip HTTP/1.1\r\nhost: a\r\ncontent-length: 9\r\n\r\n",
+        Wanted::Tip,
+    ),
+    (
+        b"GET /v1/tip HTTP/1.1\r\n\r\nGET /v1/stream HTTP/1.1\r\n\r\n",
+        Wanted::Tip,
+    ),
     (b"GET /v1/stream HTTP/1.1\r\n\r\n", Wanted::Stream),
-    (b"GET /v1/verify/refs/heads/main HTTP/1.1\r\n\r\n", Wanted::Verify(b"refs/heads/main")),
-    (b"GET /v1/verify/refs/gittuf/reference-state-log HTTP/1.1\r\n\r\n", BAD),
-    (b"GET /v1/verify/refs/gittuf/policy HTTP/1.1\r\n\r\n", Wanted::Verify(b"refs/gittuf/policy")),
+    (
+        b"GET /v1/verify/refs/heads/main HTTP/1.1\r\n\r\n",
+        Wanted::Verify(b"refs/heads/main"),
+    ),
+    (
+        b"GET /v1/verify/refs/gittuf/reference-state-log HTTP/1.1\r\n\r\n",
+        BAD,
+    ),
+    (
+        b"GET /v1/verify/refs/gittuf/policy HTTP/1.1\r\n\r\n",
+        Wanted::Verify(b"refs/gittuf/policy"),
+    ),
     (b"GET /v1/verify/refs/heads/a..b HTTP/1.1\r\n\r\n", BAD),
     (b"GET /v1/verify/refs%2Fheads/a HTTP/1.1\r\n\r\n", BAD),
-    (b"GET /v1/verify/ HTTP/1.1\r\n\r\n", Wanted::Refused(Refusal::NotFound)),
-    (b"GET /v1/verify HTTP/1.1\r\n\r\n", Wanted::Refused(Refusal::NotFound)),
-    (b"GET /v1/tip/ HTTP/1.1\r\n\r\n", Wanted::Refused(Refusal::NotFound)),
-    (b"GET /v1/tip?a HTTP/1.1\r\n\r\n", Wanted::Refused(Refusal::NotFound)),
-    (b"GET / HTTP/1.1\r\n\r\n", Wanted::Refused(Refusal::NotFound)),
-    (b"POST /v2 HTTP/1.1\r\n\r\n", Wanted::Refused(Refusal::NotFound)),
-    (b"GET /v1/push HTTP/1.1\r\n\r\n", Wanted::Refused(Refusal::MethodNotAllowed)),
-    (b"POST /v1/tip HTTP/1.1\r\n\r\n", Wanted::Refused(Refusal::MethodNotAllowed)),
-    (b"HEAD /v1/tip HTTP/1.1\r\n\r\n", Wanted::Refused(Refusal::MethodNotAllowed)),
-    (b"get /v1/tip HTTP/1.1\r\n\r\n", Wanted::Refused(Refusal::MethodNotAllowed)),
-    (b"POST /v1/verify/a HTTP/1.1\r\n\r\n", Wanted::Refused(Refusal::MethodNotAllowed)),
+    (
+        b"GET /v1/verify/ HTTP/1.1\r\n\r\n",
+        Wanted::Refused(Refusal::NotFound),
+    ),
+    (
+        b"GET /v1/verify HTTP/1.1\r\n\r\n",
+        Wanted::Refused(Refusal::NotFound),
+    ),
+    (
+        b"GET /v1/tip/ HTTP/1.1\r\n\r\n",
+        Wanted::Refused(Refusal::NotFound),
+    ),
+    (
+        b"GET /v1/tip?a HTTP/1.1\r\n\r\n",
+        Wanted::Refused(Refusal::NotFound),
+    ),
+    (
+        b"GET / HTTP/1.1\r\n\r\n",
+        Wanted::Refused(Refusal::NotFound),
+    ),
+    (
+        b"POST /v2 HTTP/1.1\r\n\r\n",
+        Wanted::Refused(Refusal::NotFound),
+    ),
+    (
+        b"GET /v1/push HTTP/1.1\r\n\r\n",
+        Wanted::Refused(Refusal::MethodNotAllowed),
+    ),
+    (
+        b"POST /v1/tip HTTP/1.1\r\n\r\n",
+        Wanted::Refused(Refusal::MethodNotAllowed),
+    ),
+    (
+        b"HEAD /v1/tip HTTP/1.1\r\n\r\n",
+        Wanted::Refused(Refusal::MethodNotAllowed),
+    ),
+    (
+        b"get /v1/tip HTTP/1.1\r\n\r\n",
+        Wanted::Refused(Refusal::MethodNotAllowed),
+    ),
+    (
+        b"POST /v1/verify/a HTTP/1.1\r\n\r\n",
+        Wanted::Refused(Refusal::MethodNotAllowed),
+    ),
 ];
 
 #[test]
@@ -46,19 +94,58 @@ fn each_route_is_asked(rt: HostRuntime) -> Result<(), Memory> {
 }
 
 const LENGTHS: [(&[u8], Wanted); 20] = [
-    (b"POST /v1/push HTTP/1.1\r\ncontent-length: 3\r\n\r\nabc", Wanted::Push(b"abc")),
-    (b"POST /v1/push HTTP/1.1\r\ncontent-length: 3\r\n\r\nabcd", Wanted::Push(b"abc")),
-    (b"POST /v1/push HTTP/1.1\r\ncontent-length: 3\r\n\r\nab", BAD),
-    (b"POST /v1/push HTTP/1.1\r\nContent-Length: 0\r\n\r\n", Wanted::Push(b"")),
-    (b"POST /v1/push HTTP/1.1\r\ncontent-length:\t 2 \r\n\r\nab", Wanted::Push(b"ab")),
-    (b"POST /v1/push HTTP/1.1\r\n\r\nabc", Wanted::Refused(Refusal::LengthRequired)),
-    (b"POST /v1/push HTTP/1.1\r\ncontent-length: 1\r\ncontent-length: 1\r\n\r\na", BAD),
-    (b"POST /v1/push HTTP/1.1\r\ncontent-length: 1\r\nCONTENT-LENGTH: 2\r\n\r\nab", BAD),
-    (b"POST /v1/push HTTP/1.1\r\ncontent-length: 1, 1\r\n\r\na", BAD),
-    (b"POST /v1/push HTTP/1.1\r\ncontent-length: +1\r\n\r\na", BAD),
-    (b"POST /v1/push HTTP/1.1\r\ncontent-length: -1\r\n\r\na", BAD),
-    (b"POST /v1/push HTTP/1.1\r\ncontent-length: 01\r\n\r\na", BAD),
-    (b"POST /v1/push HTTP/1.1\r\ncontent-length: 1 1\r\n\r\na", BAD),
+    (
+        b"POST /v1/push HTTP/1.1\r\ncontent-length: 3\r\n\r\nabc",
+        Wanted::Push(b"abc"),
+    ),
+    (
+        b"POST /v1/push HTTP/1.1\r\ncontent-length: 3\r\n\r\nabcd",
+        Wanted::Push(b"abc"),
+    ),
+    (
+        b"POST /v1/push HTTP/1.1\r\ncontent-length: 3\r\n\r\nab",
+        BAD,
+    ),
+    (
+        b"POST /v1/push HTTP/1.1\r\nContent-Length: 0\r\n\r\n",
+        Wanted::Push(b""),
+    ),
+    (
+        b"POST /v1/push HTTP/1.1\r\ncontent-length:\t 2 \r\n\r\nab",
+        Wanted::Push(b"ab"),
+    ),
+    (
+        b"POST /v1/push HTTP/1.1\r\n\r\nabc",
+        Wanted::Refused(Refusal::LengthRequired),
+    ),
+    (
+        b"POST /v1/push HTTP/1.1\r\ncontent-length: 1\r\ncontent-length: 1\r\n\r\na",
+        BAD,
+    ),
+    (
+        b"POST /v1/push HTTP/1.1\r\ncontent-length: 1\r\nCONTENT-LENGTH: 2\r\n\r\nab",
+        BAD,
+    ),
+    (
+        b"POST /v1/push HTTP/1.1\r\ncontent-length: 1, 1\r\n\r\na",
+        BAD,
+    ),
+    (
+        b"POST /v1/push HTTP/1.1\r\ncontent-length: +1\r\n\r\na",
+        BAD,
+    ),
+    (
+        b"POST /v1/push HTTP/1.1\r\ncontent-length: -1\r\n\r\na",
+        BAD,
+    ),
+    (
+        b"POST /v1/push HTTP/1.1\r\ncontent-length: 01\r\n\r\na",
+        BAD,
+    ),
+    (
+        b"POST /v1/push HTTP/1.1\r\ncontent-length: 1 1\r\n\r\na",
+        BAD,
+    ),
     (b"POST /v1/push HTTP/1.1\r\ncontent-length:\r\n\r\na", BAD),
     (
         b"POST /v1/push HTTP/1.1\r\ncontent-length: 67108865\r\n\r\n",
@@ -70,10 +157,22 @@ const LENGTHS: [(&[u8], Wanted); 20] = [
             length: 9223372036854775807,
         }),
     ),
-    (b"POST /v1/push HTTP/1.1\r\ncontent-length: 9223372036854775808\r\n\r\n", BAD),
-    (b"GET /v1/tip HTTP/1.1\r\ncontent-length: 9223372036854775808\r\n\r\n", BAD),
-    (b"GET /v1/none HTTP/1.1\r\ntransfer-encoding: chunked\r\n\r\n", BAD),
-    (b"GET /v1/tip HTTP/1.1\r\nTransfer-Encoding: identity\r\n\r\n", BAD),
+    (
+        b"POST /v1/push HTTP/1.1\r\ncontent-length: 9223372036854775808\r\n\r\n",
+        BAD,
+    ),
+    (
+        b"GET /v1/tip HTTP/1.1\r\ncontent-length: 9223372036854775808\r\n\r\n",
+        BAD,
+    ),
+    (
+        b"GET /v1/none HTTP/1.1\r\ntransfer-encoding: chunked\r\n\r\n",
+        BAD,
+    ),
+    (
+        b"GET /v1/tip HTTP/1.1\r\nTransfer-Encoding: identity\r\n\r\n",
+        BAD,
+    ),
 ];
 
 #[test]
