@@ -1,7 +1,9 @@
 """The checks of tools/test on gittuf-inspect, over the kept folder beside it and over that folder changed."""
 
+import base64
 import json
 import os
+import re
 import shutil
 
 from checking import LAUNCHER, TOP, ZEROS, Skip, run, want
@@ -10,9 +12,26 @@ INSPECT = os.path.join(TOP, "crates", "gittuf_inspect", "out", "gittuf_inspect")
 KEPT = os.path.join(TOP, "crates", "gittuf_inspect", "data", "guarded")
 MAIN, POLICY, ATTESTATIONS, NONE = "refs/heads/main", "refs/gittuf/policy", "refs/gittuf/attestations", "refs/heads/none"
 NAMES = (MAIN, POLICY, ATTESTATIONS, NONE)
-# What the log of that folder is: 3, 5, 6 and 9 are of main, and 7 skips 6, which a stranger recorded.
+# What the log of that folder is: 1 is of the policy, 3, 5, 6 and 9 are of main, 2, 4 and 8 of the attestations, and 7 skips
+# 6, which a stranger recorded. Alice signed all but 6, and Bob approved 3, 5 and 9; the rule of main wants both.
 LOG = "refs/gittuf/reference-state-log"
-AT = {6: "da2dfc0ffcd77d14983d059960152d0014e60d53fcab64fdb36637349d74bdfa"}
+AT = {
+    4: "5c6f979188ed66b1dfdf693a7e431f34b5a9a0fb2ea83d1066fc955aa1e1b679",
+    6: "da2dfc0ffcd77d14983d059960152d0014e60d53fcab64fdb36637349d74bdfa",
+}
+ALICE = "d9e0439828b3396be23817275008675ebfe1626113a89f75197e7e79628c38e0"
+BOB = "49f09f1690f5e84d85882704776516641ca03c08101750a2770c77eb916b1062"
+STRANGER = "1a39b7dd3a7b8e9b3c934151221ae029f1e48776b52463eab0d76fdf798d1aa2"
+NOBODY = 64 * "5"
+FIRST, SECOND = (
+    "6f195ad07186b8d30af89af424a426922e9cd93ed30ca8c636af6db2542b3e7f",
+    "aa12024838dd65160c7ddb29e5294b57599333694f1992846de6db25208028b5",
+)
+POLICY_AT = "40b38bae9033631e7ff88984a1956045cae76434fdfc200c4e9b2830970f11f2"
+FILES = (
+    "37f88b5446f9940b259c56dfd33bc89754d374d0c1403d9d9182adc84e44cd62",
+    "9536c63a122f2fdf94e0f2df75dc264d4db3d4d01858e73030fdd53f79b36b98",
+)
 TIP = "f7779ec4fdcf2d19cc4442ed5754a0027aa5ca903fb828a86ab7d7c718ee44c2"
 STRANGERS = "fb3b85cf96402aba8408bb6ba3b6c32e575fae99ce206bed80f3e93193ac603f"
 
@@ -29,10 +48,10 @@ def kept(repositories, name, **changed):
     return f"{place}/"
 
 
-def told(folder, *names):
-    """The status with which the verdicts on some names are told, and the objects of the lines."""
-    status, output, errors = run(INSPECT, folder, "verdicts", *names)
-    want(errors, b"", "what is said beside the verdicts")
+def told(folder, *names, word="verdicts"):
+    """The status with which the verdicts on some names, or what else a word asks for, are told, and the objects of the lines."""
+    status, output, errors = run(INSPECT, folder, word, *names)
+    want(errors, b"", "what is said beside the lines")
     lines = output.decode().splitlines()
     found = [json.loads(it) for it in lines]
     want([json.dumps(it, sort_keys=True, separators=(",", ":"), ensure_ascii=False) for it in found], lines, "the lines")
@@ -80,12 +99,102 @@ def tells_others(repositories):
     as_verify_ref(cut, status, found[1:])
 
 
+def tells_all(repositories):
+    """gittuf-inspect verdicts without names tells each that the log speaks of, and then the other branches and tags"""
+    folder = kept(repositories, "inspected whole")
+    status, found = told(folder)
+    want(([it["reference"] for it in found], status), ([POLICY, ATTESTATIONS, MAIN], 0), "the names that the log speaks of")
+    want(found, told(folder, POLICY, ATTESTATIONS, MAIN)[1], "their verdicts")
+    others = ("refs/heads/other", "refs/heads/a", "refs/tags/one", "refs/notes/none")
+    more = kept(repositories, "inspected more", **{it: TIP for it in others})
+    status, found = told(more)
+    want([it["reference"] for it in found[3:]], ["refs/heads/a", "refs/heads/other", "refs/tags/one"], "those that it does not")
+    want((found[3], status), ({"kept": TIP, "recorded": ZEROS, "reference": "refs/heads/a", "verdict": "tip-differs"}, 1), "one of them")
+
+
+def would(folder, target, keys, name=MAIN, faults=(), **line):
+    """Holds what an entry of a name would be found to be to a line, in which what is not given is as of an entry that is lawful."""
+    own = {"id": ZEROS, "key": None, "kind": "reference", "reference": name, "rescued": None, "signed": False, "skipped": None}
+    stood = {"epoch": 1, "from": FIRST, "number": 5, "prior": 3, "signers": [BOB, ALICE], "target": target}
+    found = {"fault": faults[0] if faults else None, "verdict": "refused" if faults else "authorised"}
+    wanted = {**own, **stood, **found, **line}
+    others = [{"fault": it, "number": wanted["number"], "reference": name, "verdict": "violation"} for it in faults]
+    found = told(folder, name, target, "--key", keys, word="would")
+    want(found, (int(bool(faults)), [wanted, *others]), f"what would be found with {keys}")
+
+
+def tells_would(repositories):
+    """gittuf-inspect would tells of an entry what is found of it once it is recorded, and which rule is not met"""
+    before = kept(repositories, "inspected before", **{LOG: AT[4]})
+    short = [{"got": 1, "kind": "ref-rule", "need": 2, "rule": "main"}]
+    would(before, SECOND, ALICE)
+    would(before, SECOND, f"{NOBODY},{ALICE}")
+    would(before, SECOND, NOBODY, faults=short, signers=[BOB])
+    would(before, FIRST, ALICE, faults=short, signers=[ALICE])
+    would(before, FIRST, f"{ALICE},{BOB}")
+    would(before, ZEROS, ALICE, faults=short, signers=[ALICE])
+    nothing = {"from": None, "prior": None}
+    would(before, SECOND, ALICE, name=NONE, signers=[ALICE], **nothing)
+    would(before, NOBODY, ALICE, faults=[{"id": NOBODY, "kind": "broken"}], signers=[])
+    policy = {"name": POLICY, "signers": [], "from": POLICY_AT, "prior": 1}
+    would(before, POLICY_AT, NOBODY, **policy)
+    would(before, ZEROS, ALICE, faults=[{"kind": "not-epoch", "why": "unreadable"}], **policy)
+    empty = kept(repositories, "inspected empty")
+    os.remove(os.path.join(empty, *LOG.split("/")))
+    would(empty, FIRST, ALICE, faults=[{"kind": "no-policy"}], number=1, epoch=None, signers=[], **nothing)
+
+
+def body_of(id):
+    with open(os.path.join(KEPT, "objects", id), "rb") as file:
+        return file.read()
+
+
+def payload_of(id):
+    """What an envelope of the kept folder holds, as a line."""
+    body = body_of(id)
+    return base64.b64decode(json.loads(body[body.index(b"{") :])["payload"]) + b"\n"
+
+
+def tells_policies(repositories):
+    """gittuf-inspect policy tells the files of the policy in force, and nothing where there is none"""
+    folder = kept(repositories, "inspected policy")
+    want(run(INSPECT, folder, "policy"), (0, b"".join(map(payload_of, FILES)), b""), "the policy")
+    want(run(INSPECT, folder, "policy", "--root", NOBODY), (0, b"", b""), "the policy of others")
+
+
+def leaves_of(key):
+    """The leaves that entries of the kept folder name of a key of one level."""
+    bodies = map(body_of, os.listdir(os.path.join(KEPT, "objects")))
+    found = [re.search(rb"\nlmssig %s (\S+)\n" % key.encode(), body) for body in bodies]
+    return [int.from_bytes(base64.b64decode(it[1])[:4], "big") for it in found if it]
+
+
+def tells_leaves(repositories):
+    """gittuf-inspect used tells the greatest leaf of a key that signed an entry, and null of a key that signed none"""
+    folder = kept(repositories, "inspected leaves")
+    leaf = {"key": ALICE, "leaf": max(leaves_of(ALICE))}
+    keys = {it["keyid"]: it["public"] for it in json.loads(payload_of(FILES[0]))["keys"]}
+    for key in (ALICE, keys[ALICE]):
+        want(told(folder, "--key", key, word="used"), (0, [leaf]), "the leaf of a key that signed entries")
+    for key, id in ((BOB, BOB), (keys[BOB], BOB), (STRANGER, STRANGER), (NOBODY, NOBODY)):
+        want(told(folder, "--key", key, word="used"), (0, [{"key": id, "leaf": None}]), "that of a key that signed none")
+    want(len(leaves_of(STRANGER)), 1, "the entries of a key that no policy has")
+
+
 def tells_breaks(repositories):
     """gittuf-inspect tells a log that is no chain with status 3, and refuses other words with status 2"""
     broken = kept(repositories, "inspected broken", **{LOG: TIP})
     want(run(INSPECT, broken, "verdicts", MAIN), (3, f"log-broken {TIP}\n".encode(), b""), "what is told of a log that breaks")
-    for words in ((), ("verdicts",), ("verdicts", LOG), ("verdicts", "main"), ("log", "--from", "0"), ("log", "--root", ZEROS[1:])):
+    for words in (("would", MAIN, TIP, "--key", ALICE), ("verdicts",), ("policy",), ("used", "--key", ALICE)):
+        want(run(INSPECT, broken, *words), (3, f"log-broken {TIP}\n".encode(), b""), f"what is told of {words}")
+    outside = (
+        *((), ("verdicts", LOG), ("verdicts", "main"), ("log", "--from", "0"), ("log", "--root", ZEROS[1:]), ("policy", MAIN)),
+        *(("would", MAIN, TIP), ("would", MAIN, "--key", ALICE), ("would", LOG, TIP, "--key", ALICE)),
+        *(("used",), ("used", "--key", ALICE[1:]), ("used", "--key", 60 * "zz")),
+        *(("would", MAIN, TIP[1:], "--key", ALICE), ("would", MAIN, TIP, "--key", f"{ALICE},")),
+    )
+    for words in outside:
         want(run(INSPECT, broken, *words), (2, b"", b"words refused\n"), f"what is told of {words}")
 
 
-CHECKS = (tells_accepted, tells_others, tells_breaks)
+CHECKS = (tells_accepted, tells_others, tells_all, tells_would, tells_leaves, tells_policies, tells_breaks)

@@ -4,6 +4,8 @@
 
 #![tactic(auto)]
 
+mod listing;
+mod policies;
 mod running;
 mod words;
 

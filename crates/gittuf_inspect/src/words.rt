@@ -2,11 +2,13 @@
 
 use clap::error::ErrorKind;
 use clap::{Arg, ArgAction, ArgMatches, Command};
-use command_words::{Store, WordsFault, read_count, read_key_ids, store_at};
-use git_object::{LOG_NAME, RefFault, RefName};
-use octets::Items;
+use command_words::{Store, WordsFault, read_count, read_key_ids, read_object_ids, store_at};
+use git_object::{KeyId, LOG_NAME, ObjectId, RefFault, RefName};
+use json_fields::read_hex;
+use octets::{Items, Octets};
 use root_metadata::{KeyIds, id_set};
 use std::alloc::{AllocError, Global};
+use would_be::Proposed;
 
 /// The most ids of keys that are given.
 const MOST_KEYS: usize = 64;
@@ -22,11 +24,33 @@ pub(crate) enum Asked {
         root: Option<KeyIds>,
         first: u64,
     },
-    /// The verdicts on references, any but the log's own.
+    /// The verdicts on references, any but the log's own; with none, on each that the log speaks of and each branch and tag
+    /// that the store has.
     Verdicts {
         root: Option<KeyIds>,
         names: Items<RefName>,
     },
+    /// What would be found of an entry, if these keys signed it now.
+    Would {
+        root: Option<KeyIds>,
+        proposed: Proposed,
+    },
+    /// The policy in force.
+    Policy {
+        root: Option<KeyIds>,
+    },
+    /// The greatest leaf of a key that stands signed.
+    Used {
+        root: Option<KeyIds>,
+        key: NamedKey,
+    },
+}
+
+/// A key, by its id or by its public bytes.
+#[derive(Drop)]
+pub(crate) enum NamedKey {
+    Id(KeyId),
+    Public(Octets),
 }
 
 // A command with the option `--root`, and with no flags for help and version.
@@ -47,9 +71,24 @@ fn verdicts_command<'a>(alloc: Global) -> Result<Command<'a>, AllocError> {
     rooted(alloc, "verdicts")?.arg(
         Arg::new(alloc, "ref")
             .action(ArgAction::Append)
-            .num_args(1..)
-            .required(true),
+            .num_args(0..),
     )
+}
+
+// A command with the options `--root` and `--key`.
+fn keyed<'a>(alloc: Global, name: &'a str) -> Result<Command<'a>, AllocError> {
+    let key = Arg::new(alloc, "key").long("key").action(ArgAction::Set);
+    rooted(alloc, name)?.arg(key.required(true))
+}
+
+fn would_command<'a>(alloc: Global) -> Result<Command<'a>, AllocError> {
+    keyed(alloc, "would")?
+        .arg(Arg::new(alloc, "ref").action(ArgAction::Set).required(true))?
+        .arg(
+            Arg::new(alloc, "target")
+                .action(ArgAction::Set)
+                .required(true),
+        )
 }
 
 // What a command finds in the words.
@@ -71,15 +110,41 @@ fn matches_of<'a>(
     }
 }
 
+// The keys that a text lists, as a set.
+fn keys_of(alloc: Global, text: &str) -> Result<KeyIds, WordsFault> {
+    match read_key_ids(alloc, text, MOST_KEYS) {
+        Ok(Some(ids)) => match id_set(alloc, ids.as_slice()) {
+            Ok(set) => Ok(set),
+            Err(_) => Err(WordsFault::Memory),
+        },
+        Ok(None) => Err(WordsFault::Outside),
+        Err(_) => Err(WordsFault::Memory),
+    }
+}
+
 // The keys that the first policy must have, if they are given.
 fn root_in(alloc: Global, matches: &ArgMatches) -> Result<Option<KeyIds>, WordsFault> {
     let Some(text) = matches.get_str("root") else {
         return Ok(None);
     };
-    match read_key_ids(alloc, text, MOST_KEYS) {
-        Ok(Some(ids)) => match id_set(alloc, ids.as_slice()) {
-            Ok(set) => Ok(Some(set)),
-            Err(_) => Err(WordsFault::Memory),
+    let keys = keys_of(alloc, text)?;
+    Ok(Some(keys))
+}
+
+// The value of an argument that is asked for.
+fn value_of<'a>(matches: &'a ArgMatches, name: &str) -> Result<&'a str, WordsFault> {
+    match matches.get_str(name) {
+        Some(text) => Ok(text),
+        None => Err(WordsFault::Outside),
+    }
+}
+
+// The id that a word writes.
+fn id_of(alloc: Global, text: &str) -> Result<ObjectId, WordsFault> {
+    match read_object_ids(alloc, text, 1) {
+        Ok(Some(ids)) => match ids.get(0) {
+            Some(id) => Ok(*id),
+            None => Err(WordsFault::Outside),
         },
         Ok(None) => Err(WordsFault::Outside),
         Err(_) => Err(WordsFault::Memory),
@@ -112,7 +177,7 @@ fn name_of(alloc: Global, text: &str) -> Result<RefName, WordsFault> {
 fn names_in(alloc: Global, matches: &ArgMatches) -> Result<Items<RefName>, WordsFault> {
     let mut names = Items::new(alloc);
     let Some(texts) = matches.get_strs("ref") else {
-        return Err(WordsFault::Outside);
+        return Ok(names);
     };
     for text in texts {
         let name = name_of(alloc, text)?;
@@ -121,6 +186,39 @@ fn names_in(alloc: Global, matches: &ArgMatches) -> Result<Items<RefName>, Words
         }
     }
     Ok(names)
+}
+
+fn proposed_in(alloc: Global, matches: &ArgMatches) -> Result<Proposed, WordsFault> {
+    let name = name_of(alloc, value_of(matches, "ref")?)?;
+    let target = id_of(alloc, value_of(matches, "target")?)?;
+    let keys = keys_of(alloc, value_of(matches, "key")?)?;
+    Ok(Proposed { name, target, keys })
+}
+
+fn public_of(alloc: Global, bytes: &[u8]) -> Result<NamedKey, WordsFault> {
+    match Octets::from_slice(alloc, bytes) {
+        Ok(public) => Ok(NamedKey::Public(public)),
+        Err(_) => Err(WordsFault::Memory),
+    }
+}
+
+// The key that a word names: an id, or the 56 or 60 bytes of its public part, in hexadecimal.
+fn key_of(alloc: Global, text: &str) -> Result<NamedKey, WordsFault> {
+    let text = text.as_bytes();
+    match text.len() {
+        112 => match read_hex::<56>(text) {
+            Some(bytes) => public_of(alloc, &bytes),
+            None => Err(WordsFault::Outside),
+        },
+        120 => match read_hex::<60>(text) {
+            Some(bytes) => public_of(alloc, &bytes),
+            None => Err(WordsFault::Outside),
+        },
+        _ => match read_hex::<32>(text) {
+            Some(bytes) => Ok(NamedKey::Id(KeyId(bytes))),
+            None => Err(WordsFault::Outside),
+        },
+    }
 }
 
 // What the words behind the store ask for.
@@ -137,6 +235,26 @@ fn read_asked(alloc: Global, first: &str, words: &[String]) -> Result<Asked, Wor
         return Ok(Asked::Verdicts {
             root: root_in(alloc, &matches)?,
             names: names_in(alloc, &matches)?,
+        });
+    }
+    if first == "would" {
+        let matches = matches_of(would_command(alloc), words)?;
+        return Ok(Asked::Would {
+            root: root_in(alloc, &matches)?,
+            proposed: proposed_in(alloc, &matches)?,
+        });
+    }
+    if first == "policy" {
+        let matches = matches_of(rooted(alloc, "policy"), words)?;
+        return Ok(Asked::Policy {
+            root: root_in(alloc, &matches)?,
+        });
+    }
+    if first == "used" {
+        let matches = matches_of(keyed(alloc, "used"), words)?;
+        return Ok(Asked::Used {
+            root: root_in(alloc, &matches)?,
+            key: key_of(alloc, value_of(&matches, "key")?)?,
         });
     }
     Err(WordsFault::Outside)
