@@ -14,8 +14,9 @@ from rows_histories import History, MAIN, POLICY
 from rows_policies import root_of_people, rule, rule_file
 from rows_signing import OneLeaf
 
-# So many seconds a run has, and so many bytes of memory, whatever it is given.
-SECONDS, MEMORY = 60, 1 << 30
+# So many seconds of the processor a run has, and so many bytes of memory, whatever it is given; and by the clock, which
+# what else is at work changes, so many.
+SECONDS, CLOCK_SECONDS, MEMORY = 60, 1800, 1 << 30
 # The lines on standard error by status, as gittuf --help has them.
 LINES = {
     0: rb"",
@@ -72,9 +73,9 @@ class Fuzz:
         """Runs the program, and holds how it ended to the table."""
         start = time.monotonic()
         try:
-            ran = subprocess.run((PROGRAM, *words), input=given, cwd=self.folder, capture_output=True, timeout=SECONDS, preexec_fn=limited, check=False)
+            ran = subprocess.run((PROGRAM, *words), input=given, cwd=self.folder, capture_output=True, timeout=CLOCK_SECONDS, preexec_fn=limited, check=False)
         except subprocess.TimeoutExpired:
-            raise Found(words, given, f"it did not end in {SECONDS} s") from None
+            raise Found(words, given, f"it did not end in {CLOCK_SECONDS} s") from None
         said = f"it ended with {ran.returncode} after {time.monotonic() - start:.1f} s, and said {ran.stderr[-300:]!r}"
         if ran.returncode not in statuses or not LINES[ran.returncode].fullmatch(ran.stderr):
             raise Found(words, given, said)
@@ -210,4 +211,5 @@ class Found(Failure):
 
 def limited():
     resource.setrlimit(resource.RLIMIT_AS, (MEMORY, MEMORY))
+    resource.setrlimit(resource.RLIMIT_CPU, (SECONDS, SECONDS))
     resource.setrlimit(resource.RLIMIT_CORE, (0, 0))
