@@ -2,7 +2,8 @@
 use Rattle.std.specs.Prelude.{◌++◌, ℕ, List, codes, decimal}
 use Rattle.hex.specs.Hex.{encode_lower}
 use Rattle.desk_requests.specs.declared.requests.Refusal.{Refusal}
-use Rattle.desk_requests.specs.declared.requests.Refusal.TheVariants.{BadRequest, NotFound, MethodNotAllowed, LengthRequired}
+use Rattle.desk_requests.specs.declared.requests.Refusal.TheVariants.{BadRequest, NotFound}
+use Rattle.desk_requests.specs.declared.requests.Refusal.TheVariants.{MethodNotAllowed, LengthRequired}
 use Rattle.desk_requests.specs.declared.requests.Refusal.TheVariants as why
 use Rattle.desk_steps.specs.declared.replies.Reply.{Reply}
 use Rattle.desk_steps.specs.declared.replies.Reply.TheVariants.{Already, Done, Fault, Incomplete, Malformed, Memory}

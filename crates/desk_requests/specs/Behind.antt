@@ -6,7 +6,8 @@ use Rattle.desk_requests.specs.declared.requests.Asked.{Asked}
 
 -- bytes were read behind those that had begun, and this is what is asked with all of them. They are as many as were to
 -- come, or the input ended
-pub record Behind (wanted : List ℕ → Asked) (len : ℕ) (begun : List ℕ) (before after : Option (List ℕ)) (asks : Asked) : Type 0 where
+pub record Behind (wanted : List ℕ → Asked) (len : ℕ) (begun : List ℕ) (before after : Option (List ℕ))
+    (asks : Asked) : Type 0 where
   pub more : List ℕ
   pub read : before ≡ with_front more after
   pub asks_is : asks ≡ wanted (begun ++ more)

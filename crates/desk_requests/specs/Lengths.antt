@@ -1,5 +1,6 @@
 -- What the fields of a head say of the length of the body.
-use Rattle.std.specs.Prelude.{◌≡◌, ◌<◌, ◌^◌, ℕ, List, [], ◌∷◌, Option, Some, None, codes, decimal, map, bytes_eq, if◌then◌else◌, Bool}
+use Rattle.std.specs.Prelude.{◌≡◌, ◌<◌, ◌^◌, ℕ, List, [], ◌∷◌, Option, Some, None, codes, decimal, map}
+use Rattle.std.specs.Prelude.{bytes_eq, if◌then◌else◌, Bool}
 use Rattle.std.specs.Char.{to_ascii_lowercase}
 use Rattle.httparse.specs.Grammar.{RequestHead}
 use Rattle.httparse.specs.Spans.{name_and_value}
@@ -11,7 +12,8 @@ same_name a b = bytes_eq (map to_ascii_lowercase a) (map to_ascii_lowercase b)
 -- the values of the fields of this name, in their order
 abbrev pub values_of : List ℕ → List (List ℕ × List ℕ) → List (List ℕ)
 values_of name [] = []
-values_of name (field ∷ fields) = (if same_name name field.0 then field.1 ∷ values_of name fields else values_of name fields)
+values_of name (field ∷ fields) =
+    (if same_name name field.0 then field.1 ∷ values_of name fields else values_of name fields)
 
 -- the length that these values of `content-length` give: none, or the one that there is, which is a number below 2^63
 abbrev pub Gives : List (List ℕ) → Option ℕ → Type 0

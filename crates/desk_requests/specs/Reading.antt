@@ -1,5 +1,6 @@
 -- How far a request is read.
-use Rattle.std.specs.Prelude.{◌≡◌, ◌≢◌, ◌≤◌, ◌⊎◌, ◌++◌, ℕ, Bool, true, false, List, [], Option, Some, Result, Ok, Err, length}
+use Rattle.std.specs.Prelude.{◌≡◌, ◌≢◌, ◌≤◌, ◌⊎◌, ◌++◌, ℕ, Bool, true, false, List, [], Option, Some}
+use Rattle.std.specs.Prelude.{Result, Ok, Err, length}
 use Rattle.std.specs.Prelude.{nat_lt, if◌then◌else◌}
 use Rattle.octets.specs.Content.{with_front}
 use Rattle.edge_io.specs.Read.{IsAtEnd}
@@ -24,7 +25,8 @@ pub record IsWhole (bytes : List ℕ) : Type 0 where
   pub head : RequestHead
   pub rest : List ℕ
   pub has : HasHead bytes head rest
-  pub body : (said : Option ℕ) → Says head said → body_len (allowed head.method (page_of head.target)) said ≤ length rest
+  pub body : (said : Option ℕ) → Says head said
+      → body_len (allowed head.method (page_of head.target)) said ≤ length rest
 
 -- a request is whole, or some bytes came before which no head can stand, whatever follows
 abbrev pub HasEnough : List ℕ → Type 0
