@@ -1,4 +1,4 @@
-//! Tests of requests: at both edges of each refusal, cut at each byte, and over sources that fail.
+//! Tests of requests and replies over HTTP: at both edges of each refusal, and where a sink fails.
 //!
 //! What it promises, and where to begin: `README.md` in this crate's folder.
 
@@ -7,12 +7,8 @@
 #[cfg(test)]
 mod answers;
 #[cfg(test)]
-mod cut_rows;
-#[cfg(test)]
 mod edge_rows;
 #[cfg(test)]
 mod reply_rows;
 #[cfg(test)]
 mod request_rows;
-#[cfg(test)]
-mod slow_sources;
