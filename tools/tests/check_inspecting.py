@@ -43,7 +43,9 @@ def kept(repositories, name, **changed):
     place = repositories.path(name)
     shutil.copytree(KEPT, place)
     for ref, id in changed.items():
-        with open(os.path.join(place, *ref.split("/")), "w", encoding="ascii") as file:
+        path = os.path.join(place, *ref.split("/"))
+        os.makedirs(os.path.dirname(path), exist_ok=True)
+        with open(path, "w", encoding="ascii") as file:
             file.write(f"{id}\n")
     return f"{place}/"
 
