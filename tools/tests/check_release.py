@@ -23,7 +23,7 @@ NOBODY = 65534
 # What the first start may take of the processor.
 MOST_MS = 1000
 # Each of two programs stands in the package and in the archive.
-MOST_BYTES = 2_500_000
+MOST_BYTES = 6_500_000
 
 
 def runs_without_a_toolchain(repositories):

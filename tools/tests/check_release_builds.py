@@ -94,7 +94,7 @@ def keeps_what_is_built(repositories):
     lines = [it for it in errors.decode().splitlines() if " crates: " in it]
     want(len(lines), 3, f"how many lines say how far the build is in {errors!r}")
     for number, line in enumerate(lines, 1):
-        want((f"gittuf: {number} of 4" in line, line.endswith(" min left")), (True, True), f"what {line!r} says")
+        want((f"gittuf: {number} of " in line, line.endswith(" min left")), (True, True), f"what {line!r} says")
     builds = [f"{it} run --cpu={NEWER}" for it in ("source_check", "gittuf")]
     called = noted()
     want((called[0], called[1].split(" --jobs")[0], called[2:]), ("source_check check", "gittuf all check", builds), "what was called")
