@@ -1,5 +1,7 @@
 mod Blocks
 mod ChMaj
+mod Cut
+mod Joined
 mod Lanes
 mod Rotations
 mod Sixteen

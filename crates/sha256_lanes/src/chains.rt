@@ -47,7 +47,7 @@ fn lane_in(word: u32x8, place: usize) -> u32
 }
 
 // The bytes that one lane of a row of words spells.
-fn bytes_in(state: &[u32x8; 8], place: usize) -> [u8; 32]
+pub(crate) fn bytes_in(state: &[u32x8; 8], place: usize) -> [u8; 32]
     requires { place < 8 }
     ensures { result ≡ digest_bytes (lane state.now place) 8 }
 {

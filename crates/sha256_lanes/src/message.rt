@@ -19,7 +19,7 @@ const PADDING: u32 = 0x8000_0000;
 
 // The number that four bytes spell, the high one first.
 #[inline(always)]
-fn load(bytes: &[u8], at: usize) -> u32
+pub(crate) fn load(bytes: &[u8], at: usize) -> u32
     requires { at + 4 ≤ length bytes.now }
     ensures word { result ≡ word_at bytes.now at }
     ensures bytes { to_be_bytes w32 result ≡ take 4 (drop at bytes.now) }

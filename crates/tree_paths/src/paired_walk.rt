@@ -55,7 +55,8 @@ fn pair_entries<R: Keeper>(
         (entry_steps (steps readings.trees (left - 1)) to.now front.now second.now (is_dir second.now.mode)) counts w) }
     ensures sides { IfOk result (λ w. IfBoth w (λ c. (readings : Readings) → Told (R.content keeper.new) readings
         → Sides (entry_steps (steps readings.trees (left - 1)) from.now front.now first.now (is_dir first.now.mode))
-        (entry_steps (steps readings.trees (left - 1)) to.now front.now second.now (is_dir second.now.mode)) paths.old paths.new (R.reads keeper.old) (R.reads keeper.new))) }
+        (entry_steps (steps readings.trees (left - 1)) to.now front.now second.now (is_dir second.now.mode))
+        paths.old paths.new (R.reads keeper.old) (R.reads keeper.new))) }
     ensures few { IfOk result (λ w. IfBoth w (AreFew 0)) }
     ensures same { Undisturbed R.Keeper keeper.old keeper.new }
     ensures cause { HasCause keeper_failed (R.faults keeper.old) (R.faults keeper.new) result }
@@ -113,7 +114,8 @@ fn pair_place<R: Keeper>(
         (piece (steps readings.trees (left - 1)) to.now front.now (option_copied second.entry)) counts w) }
     ensures sides { IfOk result (λ w. IfBoth w (λ c. (readings : Readings) → Told (R.content keeper.new) readings
         → Sides (piece (steps readings.trees (left - 1)) from.now front.now (option_copied first.entry))
-        (piece (steps readings.trees (left - 1)) to.now front.now (option_copied second.entry)) paths.old paths.new (R.reads keeper.old) (R.reads keeper.new))) }
+        (piece (steps readings.trees (left - 1)) to.now front.now (option_copied second.entry))
+        paths.old paths.new (R.reads keeper.old) (R.reads keeper.new))) }
     ensures takes { IfOk result (λ w. IfBoth w (λ c. Takes (option_copied first.entry) counts.from c.from
         × Takes (option_copied second.entry) counts.to c.to)) }
     ensures same { Undisturbed R.Keeper keeper.old keeper.new }

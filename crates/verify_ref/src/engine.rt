@@ -153,6 +153,7 @@ impl Engine {
         ensures known { (r : Repository) → AreKnownIn r self.new.known }
         ensures rules { self.new.rules ≡ self.old.rules }
         ensures follows { (log : List Taken) → Follows log self.old → Follows log self.new }
+        ensures entries { self.new.entries ≡ self.old.entries }
         ensures count { taken self.new.entries ≡ taken self.old.entries }
     {
         self.known = KnownTrees::new(alloc);
