@@ -9,16 +9,14 @@ mod needs;
 
 use crate::hints::{hint_at_shared_key, hint_at_slow_key};
 use crate::needs::{Needs, needs_of};
-use command_words::{FrontWords, KeyPlace, Store, after_places};
-use edge_io::{Disk, Failed, FileDisk, MemDisk, OsClock, OsEntropy, StdSink, StdSource};
+use command_words::{FrontWords, KeyPlace, after_places};
+use edge_io::{Failed, FileDisk, MemDisk, OsClock, OsEntropy, StdSink, StdSource};
+use either_kind::EitherDisk;
 use endings::{Part, Refusal};
 use gittuf_cli::{Outside, run};
-use keeper_api::{Keeper, MemKeeper};
-use keeper_directory::{DirKeeper, OpenFault};
-use keeper_sqlite::{SqlFault, SqlKeeper};
 use octets::Octets;
-use program_start::{refuse_schema, words_of};
-use sqlite::{File, FileStore};
+use program_start::words_of;
+use program_stores::{AnyKeeper, end_store, open_store};
 use std::process::ExitCode;
 
 // What a key file in memory has room for: the bytes of the largest key file and of its marks, and the calls of a
@@ -27,18 +25,44 @@ const KEY_BYTES: usize = 32_840;
 
 const KEY_CALLS: usize = 1_024;
 
+// A key file at a path, or one in memory.
+type AnyDisk = EitherDisk<FileDisk, MemDisk>;
+
 // Says a refusal, and answers its status.
 fn refuse(rt: &HostRuntime, refusal: Refusal) -> u8 {
     program_start::refuse(rt.stderr(), &refusal)
 }
 
+// The key file at a path.
+fn open_file(rt: &HostRuntime, path: &str) -> Result<AnyDisk, Refusal> {
+    match FileDisk::open(rt, path) {
+        Ok(disk) => {
+            hint_at_shared_key(rt, &disk);
+            Ok(EitherDisk::First(disk))
+        }
+        Err(Failed) => Err(Refusal::Fault { part: Part::Disk }),
+    }
+}
+
+// The key file that the words name, where the command uses one, and else an empty one in memory.
+fn open_key(rt: &HostRuntime, key: KeyPlace, needs: &Needs) -> Result<AnyDisk, Refusal> {
+    hint_at_slow_key(rt, needs);
+    match key {
+        KeyPlace::File(path) if needs.key => open_file(rt, path),
+        _ => match MemDisk::new(Octets::new(rt.alloc()), KEY_BYTES, KEY_CALLS) {
+            Ok(disk) => Ok(EitherDisk::Second(disk)),
+            Err(_) => Err(Refusal::Memory),
+        },
+    }
+}
+
 // Runs the command of the words over a store, a key file and the standard streams, and gives the store back.
-fn run_over<R: Keeper + Drop, D: Disk + Drop>(
+fn run_over(
     rt: &HostRuntime,
     command: &[String],
-    keeper: R,
-    disk: D,
-) -> (u8, R) {
+    keeper: AnyKeeper,
+    disk: AnyDisk,
+) -> (u8, AnyKeeper) {
     let mut outside = Outside {
         source: StdSource::new(rt.stdin()),
         sink: StdSink::new(rt.stdout()),
@@ -52,99 +76,20 @@ fn run_over<R: Keeper + Drop, D: Disk + Drop>(
     (status, outside.keeper)
 }
 
-// Runs the command over a store and the key file at a path.
-fn run_with_file<R: Keeper + Drop>(
-    rt: &HostRuntime,
-    path: &str,
-    command: &[String],
-    keeper: R,
-) -> (u8, R) {
-    match FileDisk::open(rt, path) {
-        Ok(disk) => {
-            hint_at_shared_key(rt, &disk);
-            run_over(rt, command, keeper, disk)
-        }
-        Err(Failed) => (refuse(rt, Refusal::Fault { part: Part::Disk }), keeper),
-    }
-}
-
-// Runs the command over a store and the key file that the words name.
-fn run_with_key<R: Keeper + Drop>(
-    rt: &HostRuntime,
-    places: FrontWords,
-    needs: &Needs,
-    keeper: R,
-) -> (u8, R) {
-    hint_at_slow_key(rt, needs);
-    match places.key {
-        KeyPlace::File(path) if needs.key => run_with_file(rt, path, places.command, keeper),
-        _ => match MemDisk::new(Octets::new(rt.alloc()), KEY_BYTES, KEY_CALLS) {
-            Ok(disk) => run_over(rt, places.command, keeper, disk),
-            Err(_) => (refuse(rt, Refusal::Memory), keeper),
-        },
-    }
-}
-
-// The store in a folder. One that is not there is made for a command that may change the store alone, so that a wrong
-// path is not taken for an empty store.
-fn open(rt: &HostRuntime, folder: &str, needs: &Needs) -> Result<DirKeeper, Refusal> {
-    let opened = if needs.change {
-        DirKeeper::to_change(rt, rt.alloc(), folder)
-    } else {
-        DirKeeper::to_read(rt, rt.alloc(), folder)
-    };
-    match opened {
-        Ok(keeper) => Ok(keeper),
-        Err(OpenFault::Failed) => Err(Refusal::Fault { part: Part::Keeper }),
-        Err(OpenFault::Memory) => Err(Refusal::Memory),
-    }
-}
-
-// Runs the command of the words over the store in a folder. Where the folder stays locked after an answer, that is a
-// fault; after a refusal its own status and line say enough.
-fn run_in(rt: &HostRuntime, folder: &str, places: FrontWords, needs: &Needs) -> u8 {
-    let keeper = match open(rt, folder, needs) {
+// Opens the store first and then the key file, runs the command over them, and ends the use of the store.
+fn run_command(rt: &HostRuntime, places: FrontWords, needs: &Needs) -> u8 {
+    let keeper = match open_store(rt, places.store, needs.change) {
         Ok(keeper) => keeper,
-        Err(refusal) => return refuse(rt, refusal),
+        Err(status) => return status,
     };
-    let (status, keeper) = run_with_key(rt, places, needs, keeper);
-    if keeper.end(rt.alloc()).is_err() && status < 2 {
-        return refuse(rt, Refusal::Fault { part: Part::Keeper });
-    }
-    status
-}
-
-// The store in a database file, which is made where nothing is for a command that may change the store alone.
-fn open_database(
-    rt: &HostRuntime,
-    path: &str,
-    needs: &Needs,
-) -> Result<SqlKeeper<FileStore<File>>, SqlFault> {
-    if needs.change {
-        SqlKeeper::to_change(rt, path)
-    } else {
-        SqlKeeper::to_read(rt, path)
-    }
-}
-
-// Runs the command of the words over the store in a database file.
-fn run_over_database(rt: &HostRuntime, path: &str, places: FrontWords, needs: &Needs) -> u8 {
-    let keeper = match open_database(rt, path, needs) {
-        Ok(keeper) => keeper,
-        Err(SqlFault::BadSchema { found }) => {
-            return refuse_schema(rt.alloc(), rt.stderr(), found);
-        }
-        Err(SqlFault::Failed) => return refuse(rt, Refusal::Fault { part: Part::Keeper }),
-        Err(SqlFault::Memory) => return refuse(rt, Refusal::Memory),
+    let (status, keeper) = match open_key(rt, places.key, needs) {
+        Ok(disk) => run_over(rt, places.command, keeper, disk),
+        Err(refusal) => (refuse(rt, refusal), keeper),
     };
-    let (status, keeper) = run_with_key(rt, places, needs, keeper);
-    if keeper.end().is_err() && status < 2 {
-        return refuse(rt, Refusal::Fault { part: Part::Keeper });
-    }
-    status
+    end_store(rt, keeper, status)
 }
 
-// Opens what the words name first, and runs the command of the words after them.
+// Reads what the words ask for, and does it.
 fn start(rt: &HostRuntime, words: &[String]) -> u8 {
     let Some(places) = after_places(words) else {
         return refuse(rt, Refusal::Words);
@@ -152,14 +97,9 @@ fn start(rt: &HostRuntime, words: &[String]) -> u8 {
     if places.command.is_empty() {
         return refuse(rt, Refusal::Words);
     }
-    let needs = match needs_of(rt.alloc(), places.command) {
-        Ok(needs) => needs,
-        Err(refusal) => return refuse(rt, refusal),
-    };
-    match places.store {
-        Store::Memory => run_with_key(rt, places, &needs, MemKeeper::new(rt.alloc())).0,
-        Store::Directory(folder) => run_in(rt, folder, places, &needs),
-        Store::Database(path) => run_over_database(rt, path, places, &needs),
+    match needs_of(rt.alloc(), places.command) {
+        Ok(needs) => run_command(rt, places, &needs),
+        Err(refusal) => refuse(rt, refusal),
     }
 }
 

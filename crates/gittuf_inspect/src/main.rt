@@ -13,11 +13,9 @@ use crate::running::inspect;
 use crate::words::{Asked, read_words};
 use command_words::{Store, WordsFault};
 use edge_io::StdSink;
-use endings::{Ending, Part, Refusal};
-use keeper_api::{Keeper, MemKeeper};
-use keeper_directory::{DirKeeper, OpenFault};
-use keeper_sqlite::{SqlFault, SqlKeeper};
-use program_start::{refuse_schema, words_of};
+use endings::{Ending, Refusal};
+use program_start::words_of;
+use program_stores::{AnyKeeper, end_store, open_store};
 use std::process::ExitCode;
 
 // Says a refusal, and answers its status.
@@ -26,7 +24,7 @@ fn refuse(rt: &HostRuntime, refusal: Refusal) -> u8 {
 }
 
 // Tells what is asked for over a store and standard output.
-fn tell<R: Keeper>(rt: &HostRuntime, asked: Asked, keeper: &mut R) -> u8 {
+fn tell(rt: &HostRuntime, asked: Asked, keeper: &mut AnyKeeper) -> u8 {
     let mut sink = StdSink::new(rt.stdout());
     match inspect(rt.alloc(), asked, &mut sink, keeper) {
         Ending::Refused { refusal } => refuse(rt, refusal),
@@ -34,44 +32,21 @@ fn tell<R: Keeper>(rt: &HostRuntime, asked: Asked, keeper: &mut R) -> u8 {
     }
 }
 
-// Tells what is asked for over the store in a folder, which is only read.
-fn tell_folder(rt: &HostRuntime, folder: &str, asked: Asked) -> u8 {
-    match DirKeeper::to_read(rt, rt.alloc(), folder) {
+// Opens the store, which is only read, tells what is asked for, and ends the use of the store.
+fn tell_over(rt: &HostRuntime, store: Store, asked: Asked) -> u8 {
+    match open_store(rt, store, false) {
         Ok(keeper) => {
             let mut keeper = keeper;
             let status = tell(rt, asked, &mut keeper);
-            if keeper.end(rt.alloc()).is_err() && status < 2 {
-                return refuse(rt, Refusal::Fault { part: Part::Keeper });
-            }
-            status
+            end_store(rt, keeper, status)
         }
-        Err(OpenFault::Failed) => refuse(rt, Refusal::Fault { part: Part::Keeper }),
-        Err(OpenFault::Memory) => refuse(rt, Refusal::Memory),
-    }
-}
-
-// Tells what is asked for over the store in a database file that is there.
-fn tell_database(rt: &HostRuntime, path: &str, asked: Asked) -> u8 {
-    match SqlKeeper::to_read(rt, path) {
-        Ok(keeper) => {
-            let mut keeper = keeper;
-            let status = tell(rt, asked, &mut keeper);
-            if keeper.end().is_err() && status < 2 {
-                return refuse(rt, Refusal::Fault { part: Part::Keeper });
-            }
-            status
-        }
-        Err(SqlFault::BadSchema { found }) => refuse_schema(rt.alloc(), rt.stderr(), found),
-        Err(SqlFault::Failed) => refuse(rt, Refusal::Fault { part: Part::Keeper }),
-        Err(SqlFault::Memory) => refuse(rt, Refusal::Memory),
+        Err(status) => status,
     }
 }
 
 fn start(rt: &HostRuntime, words: &[String]) -> u8 {
     match read_words(rt.alloc(), words) {
-        Ok((Store::Memory, asked)) => tell(rt, asked, &mut MemKeeper::new(rt.alloc())),
-        Ok((Store::Directory(folder), asked)) => tell_folder(rt, folder, asked),
-        Ok((Store::Database(path), asked)) => tell_database(rt, path, asked),
+        Ok((store, asked)) => tell_over(rt, store, asked),
         Err(WordsFault::Outside) => refuse(rt, Refusal::Words),
         Err(WordsFault::Memory) => refuse(rt, Refusal::Memory),
     }

@@ -1,10 +1,10 @@
 -- What a store has under the id of an object.
-use Rattle.std.proofs.Common.{◌≡◌, ◌+◌, ◌<◌, ℕ, Bool, true, false, not, List, [], ◌∷◌, ◌++◌, get_or, length, take, Option, Some, None, refl, sym, ap, subst, ◌∙◌}
+use Rattle.std.proofs.Common.{◌≡◌, ◌+◌, ◌<◌, ℕ, Bool, true, false, not, List, [], ◌∷◌, ◌++◌, get_or, length, take, drop, Option, Some, None, refl, sym, ap, subst, ◌∙◌}
 use Rattle.std.specs.Prelude.{IfNone, IfSome}
 use Rattle.std.proofs.lemmas.Bool.{true≢false}
-use Rattle.std.proofs.lemmas.List.{take_more}
+use Rattle.std.proofs.lemmas.List.{take-append-drop, take_more}
 use Rattle.git_object.proofs.ObjectAt.{object_none, object_there}
-use Rattle.git_object.proofs.Runs.{all_push}
+use Rattle.git_object.proofs.Runs.{all_front, all_last, all_push}
 use Rattle.git_object.specs.Objects.{Pair, pair_id}
 use Rattle.git_object.specs.Repository.{HasObject, Repository, object_at}
 use Rattle.keeper_api.specs.Growing.{ClashesNowhere, NoneClashes}
@@ -39,3 +39,23 @@ clash_missing r pair id found at is none =
 pub not_false : (b : Bool) → not b ≡ false → b ≡ true
 not_false true e = refl
 not_false false e = absurd (true≢false e)
+
+-- another object that is kept under this one's id is a clash
+pub clash_other : (r : Repository) (pair had : Pair) (id : List ℕ) (found : Option Pair) → id ≡ pair_id pair → found ≡ Some had → IfSome found (HasObject r id)
+    → (had ≡ pair → ⊥) → ClashesNowhere r pair → ⊥
+clash_other r pair had id found at is has other nowhere =
+    let there : HasObject r id had = subst (λ (f : Option Pair). IfSome f (HasObject r id)) is has in
+    other (sym (nowhere id had (object_there r id had there) (sym at)))
+
+-- where one of these clashes, not all are without a clash
+pub clash_one : (r : Repository) (pairs : List Pair) (i : ℕ) (pair : Pair) → i < length pairs → pair ≡ get_or pairs i pair
+    → (ClashesNowhere r pair → ⊥) → NoneClashes pairs r → ⊥
+clash_one r pairs i pair within here clash none =
+    let front : NoneClashes (take (i + 1) pairs) r = all_front (ClashesNowhere r) (take (i + 1) pairs) (drop (i + 1) pairs)
+        (subst (λ (ps : List Pair). NoneClashes ps r) (sym (take-append-drop (i + 1) pairs)) none) in
+    clash (all_last (ClashesNowhere r) (take i pairs) pair
+        (subst (λ (ps : List Pair). NoneClashes ps r) (take_more pairs i pair within ∙ ap (λ (p : Pair). take i pairs ++ p ∷ []) (sym here)) front))
+
+pub not_true : (b : Bool) → not b ≡ true → b ≡ true → ⊥
+not_true true e is = true≢false (sym e)
+not_true false e is = true≢false (sym is)

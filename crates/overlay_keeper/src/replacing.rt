@@ -18,7 +18,7 @@ fn is_same_kind(a: Kind, b: Kind) -> bool
 }
 
 fn is_same(a: &Object, b: &Object) -> bool
-    ensures { IsTrue result → a.now ≡ b.now }
+    ensures { IsTrue result ↔ (a.now ≡ b.now) }
 {
     is_same_kind(a.kind(), b.kind()) && a.body() == b.body()
 }
@@ -27,6 +27,8 @@ fn is_same(a: &Object, b: &Object) -> bool
 fn clashes<R: Keeper>(alloc: Global, keeper: &mut R, object: &Object) -> Result<bool, KeeperFault>
     ensures none { IfOk result (λ clash. clash ≡ false → (r : Repository) → R.content keeper.new ≡ Some r
         → ClashesNowhere r object.now) }
+    ensures some { IfOk result (λ clash. clash ≡ true → (r : Repository) → R.content keeper.new ≡ Some r
+        → ClashesNowhere r object.now → ⊥) }
     ensures same { Undisturbed R.Keeper keeper.old keeper.new }
     ensures cause { HasCause keeper_failed (R.faults keeper.old) (R.faults keeper.new) result }
 {
@@ -44,6 +46,8 @@ pub fn replaces<R: Keeper>(
 ) -> Result<bool, KeeperFault>
     ensures none { IfOk result (λ clash. clash ≡ false → (r : Repository) → R.content keeper.new ≡ Some r
         → NoneClashes objects.now r) }
+    ensures some { IfOk result (λ clash. clash ≡ true → (r : Repository) → R.content keeper.new ≡ Some r
+        → NoneClashes objects.now r → ⊥) }
     ensures same { Undisturbed R.Keeper keeper.old keeper.new }
     ensures cause { HasCause keeper_failed (R.faults keeper.old) (R.faults keeper.new) result }
 {

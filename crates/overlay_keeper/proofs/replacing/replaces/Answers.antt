@@ -1,5 +1,5 @@
 use Rattle.std.proofs.Common.{rules}
-use Rattle.overlay_keeper.proofs.Clashing.{clash_push}
+use Rattle.overlay_keeper.proofs.Clashing.{clash_one, clash_push}
 use Rattle.overlay_keeper.proofs.replacing.replaces.Goals as goal
 
 pub objects-preserved : goal.objects-preserved
@@ -9,3 +9,8 @@ objects-preserved g c = record {
   same = search rules;
   quiet = search rules;
 }
+
+pub returns-then-branch-clause-some : goal.returns-then-branch-clause-some
+returns-then-branch-clause-some g c = λ yes r told.
+    clash_one r c.args.objects.now c.objects.object-index c.object-item.result c.objects-test.true c.object-item.is
+    (c.in_ok-clashes.ensures.some c.if-branch.true r told)
