@@ -1,0 +1,2 @@
+-- what is asked
+pub mod Asked
