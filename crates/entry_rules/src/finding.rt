@@ -23,6 +23,7 @@ use crate::signing::{approved, joined, listed_ids, signer_among};
 use git_object::{ObjectId, RefName};
 use judging::{Finding, KeyIds};
 use keeper_api::{Keeper, KeeperFault};
+use known_signers::KnownSigners;
 use policy_epochs::Policy;
 use policy_reading::own_state;
 use rsl_chain::{Entry, EntryBody};
@@ -75,6 +76,7 @@ fn tree_of<R: Keeper>(
 fn signers_for<R: Keeper>(
     alloc: Global,
     keeper: &mut R,
+    signed: &KnownSigners,
     policy: &Policy,
     entry: &Entry,
     name: &RefName,
@@ -89,7 +91,16 @@ fn signers_for<R: Keeper>(
     ensures cause { HasCause keeper_failed (R.faults keeper.old) (R.faults keeper.new) result }
     ensures reads { R.reads keeper.new ≤ R.reads keeper.old + approval_reads (option_copied attested.entry) }
 {
-    let approvers = approved(alloc, keeper, &policy.keys, name, from, attested, tree)?;
+    let approvers = approved(
+        alloc,
+        keeper,
+        signed,
+        &policy.keys,
+        name,
+        from,
+        attested,
+        tree,
+    )?;
     let signer = signer_among(&policy.keys, entry);
     Ok(joined(alloc, signer, &approvers)?)
 }
@@ -98,6 +109,7 @@ fn signers_for<R: Keeper>(
 fn find_broken<R: Keeper>(
     alloc: Global,
     keeper: &mut R,
+    signed: &KnownSigners,
     policy: &Policy,
     entry: &Entry,
     name: &RefName,
@@ -117,7 +129,9 @@ fn find_broken<R: Keeper>(
     ensures cause { HasCause keeper_failed (R.faults keeper.old) (R.faults keeper.new) result }
 {
     let tree = tree_of(alloc, keeper, target)?;
-    let signers = signers_for(alloc, keeper, policy, entry, name, from, attested, tree)?;
+    let signers = signers_for(
+        alloc, keeper, signed, policy, entry, name, from, attested, tree,
+    )?;
     let signers = listed_ids(alloc, &signers)?;
     Ok(Finding {
         fault: Some(Fault::Broken { id }),
@@ -130,6 +144,7 @@ fn find_change<R: Keeper>(
     alloc: Global,
     keeper: &mut R,
     known: &KnownTrees,
+    signed: &KnownSigners,
     policy: &Policy,
     entry: &Entry,
     name: &RefName,
@@ -153,13 +168,14 @@ fn find_change<R: Keeper>(
     match compared(alloc, keeper, known, from, target)? {
         Comparison::Broken { id } => {
             find_broken(
-                alloc, keeper, policy, entry, name, target, from, attested, id,
+                alloc, keeper, signed, policy, entry, name, target, from, attested, id,
             )
         }
         Comparison::Changed { from: _, to, paths } => {
             let signers = signers_for(
                 alloc,
                 keeper,
+                signed,
                 policy,
                 entry,
                 name,
@@ -180,6 +196,7 @@ pub fn find<R: Keeper>(
     alloc: Global,
     keeper: &mut R,
     known: &KnownTrees,
+    signed: &KnownSigners,
     policy: &Policy,
     entry: &Entry,
     from: &ObjectId,
@@ -201,7 +218,7 @@ pub fn find<R: Keeper>(
     match &entry.body {
         EntryBody::Reference { name, target } => {
             find_change(
-                alloc, keeper, known, policy, entry, name, target, from, attested,
+                alloc, keeper, known, signed, policy, entry, name, target, from, attested,
             )
         }
         EntryBody::Annotation {

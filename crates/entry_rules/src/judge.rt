@@ -24,6 +24,7 @@ use crate::signing::signer_among;
 use git_object::{KeyId, ObjectId, RefName};
 use judging::{Finding, Judge, JudgeFault};
 use keeper_api::{Keeper, KeeperFault};
+use known_signers::KnownSigners;
 use octets::Memory;
 use policy_epochs::{Policy, PolicyFault, succession_fault};
 use policy_reading::check_policy;
@@ -36,6 +37,7 @@ use tree_paths::{Comparison, KnownTrees};
 #[derive(Drop)]
 pub struct EntryRules {
     anchor: Option<KeyIds>,
+    signed: KnownSigners,
 }
 
 impl EntryRules {
@@ -43,7 +45,10 @@ impl EntryRules {
     pub fn new(anchor: Option<KeyIds>) -> EntryRules
         ensures { result.anchor ≡ anchor }
     {
-        EntryRules { anchor }
+        EntryRules {
+            anchor,
+            signed: KnownSigners::new(),
+        }
     }
 }
 
@@ -193,7 +198,16 @@ impl<'a, R: Keeper> Judge<Policy, Fault, R> for KnowingRules<'a> {
         from: &ObjectId,
         attested: Option<&ObjectId>,
     ) -> Result<Finding<Fault>, JudgeFault> {
-        judged(find(alloc, store, self.known, policy, entry, from, attested))
+        judged(find(
+            alloc,
+            store,
+            self.known,
+            &self.rules.signed,
+            policy,
+            entry,
+            from,
+            attested,
+        ))
     }
 
     fn has_same_tree(

@@ -10,9 +10,9 @@ ghost use Rattle.keeper_api.specs.Undisturbed.{Undisturbed};
 ghost use Rattle.entry_rules.specs.RealRules.{approval_reads};
 ghost use Rattle.entry_rules.specs.Signing.{approved, is_signed_by, joined, listed, signer_among};
 
-use approvals::approvers;
 use git_object::{KeyId, ObjectId, RefName};
 use keeper_api::{Keeper, KeeperFault};
+use known_signers::{KnownSigners, approvers};
 use lms_keys::verify_any;
 use octets::{Items, Memory};
 use root_metadata::{Key, KeyIds, Keys, id_set};
@@ -95,6 +95,7 @@ pub fn joined(alloc: Global, signer: Option<KeyId>, approvers: &KeyIds) -> Resul
 pub fn approved<R: Keeper>(
     alloc: Global,
     keeper: &mut R,
+    signed: &KnownSigners,
     keys: &Keys,
     name: &RefName,
     from: &ObjectId,
@@ -114,5 +115,5 @@ pub fn approved<R: Keeper>(
     let Some(tree) = tree else {
         return Ok(id_set(alloc, &[])?);
     };
-    approvers(alloc, keeper, attestations, name, from, &tree, keys)
+    approvers(alloc, keeper, signed, attestations, name, from, &tree, keys)
 }
