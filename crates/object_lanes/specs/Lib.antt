@@ -1,0 +1,2 @@
+-- objects without their ids, and what is hashed of each
+pub mod Groups
