@@ -18,6 +18,8 @@ mod folder_steps;
 #[cfg(test)]
 mod keeper_rows;
 #[cfg(test)]
+mod lane_rows;
+#[cfg(test)]
 mod line_rows;
 #[cfg(test)]
 mod reading_rows;
