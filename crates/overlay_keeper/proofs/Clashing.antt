@@ -52,9 +52,9 @@ pub clash_one : (r : Repository) (pairs : List Pair) (i : ℕ) (pair : Pair) →
     → (ClashesNowhere r pair → ⊥) → NoneClashes pairs r → ⊥
 clash_one r pairs i pair within here clash none =
     let front : NoneClashes (take (i + 1) pairs) r = all_front (ClashesNowhere r) (take (i + 1) pairs) (drop (i + 1) pairs)
-        (subst (λ (ps : List Pair). NoneClashes ps r) (sym (take-append-drop (i + 1) pairs)) none) in
+    (subst (λ (ps : List Pair). NoneClashes ps r) (sym (take-append-drop (i + 1) pairs)) none) in
     clash (all_last (ClashesNowhere r) (take i pairs) pair
-        (subst (λ (ps : List Pair). NoneClashes ps r) (take_more pairs i pair within ∙ ap (λ (p : Pair). take i pairs ++ p ∷ []) (sym here)) front))
+    (subst (λ (ps : List Pair). NoneClashes ps r) (take_more pairs i pair within ∙ ap (λ (p : Pair). take i pairs ++ p ∷ []) (sym here)) front))
 
 pub not_true : (b : Bool) → not b ≡ true → b ≡ true → ⊥
 not_true true e is = true≢false (sym e)
