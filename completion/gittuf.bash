@@ -36,7 +36,7 @@ _git_gittuf() {
         at=$((at + 1))
     done
     if [ "$((COMP_CWORD - at))" -le 1 ]; then
-        _gittuf_reply -W 'setup key policy record approve verify recover push sync skip note log explain report export doctor hook'
+        _gittuf_reply -W 'setup key policy record approve verify recover push sync skip note log explain report export mirror evidence doctor hook'
         return
     fi
     case ${COMP_WORDS[at + 1]} in
@@ -50,6 +50,8 @@ _git_gittuf() {
         log) _gittuf_reply -W '-v --json' ;;
         report) _gittuf_reply -f -W '-o --root --pinned' ;;
         explain) _gittuf_reply -f -W "-v --json $(_gittuf_branches)" ;;
+        mirror) _gittuf_reply -f -W "--into $(git remote 2> /dev/null)" ;;
+        evidence) _gittuf_reply -f -W '-o --check --from --key' ;;
         skip | note) _gittuf_reply -W '-m --anyway' ;;
         hook) _gittuf_reply -W 'install --server --remove' ;;
         policy)

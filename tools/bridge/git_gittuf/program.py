@@ -71,6 +71,26 @@ def told(store, key, *words, input=b""):
     return status, printed, said.decode(errors="replace").strip()
 
 
+def offered(store, pieces, *words):
+    """The same as `told` for standard input in pieces, which is not held as a whole. The program may take it for none early."""
+    command = (LAUNCHER, store, "-", *words)
+    how = {"stdin": subprocess.PIPE, "stdout": subprocess.PIPE, "stderr": subprocess.PIPE, "pass_fds": Git.kept_open}
+    with subprocess.Popen(command, **how) as ran:
+        try:
+            with ran.stdin:
+                for it in pieces:
+                    ran.stdin.write(it)
+        except BrokenPipeError:
+            # What it says of that decides.
+            pass
+        except BaseException:
+            ran.kill()
+            raise
+        # It prints a line, and only once nothing more comes in.
+        printed, said = ran.stdout.read(), ran.stderr.read()
+    return ran.returncode, printed, said.decode(errors="replace").strip()
+
+
 def ended(store, key, words, input, output, errors):
     command = (LAUNCHER, store, key, *words)
     sys.stdout.flush()

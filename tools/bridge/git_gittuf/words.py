@@ -3,7 +3,8 @@
 import argparse
 import re
 
-from git_gittuf import commands, doctor, explaining, hook_calls, hooks, listing, policy_commands, policy_edits, pushing, recovering, reporting, verifying
+from git_gittuf import commands, doctor, dossiers, explaining, hook_calls, hooks, listing, mirroring, policy_commands, policy_edits, pushing
+from git_gittuf import recovering, reporting, verifying
 from git_gittuf.repository import Stopped
 from git_gittuf.shown import plain
 
@@ -65,6 +66,14 @@ Every day
       [--root ..] [--pinned]    and what this rests on
   explain NAME [-v] [--json]    print the rules that protect a branch or a path; -v and --json say whom they ask
   export                        print the stream of the store, without the content of files
+  mirror REMOTE [--into STORE]  offer what a remote, or a repository at a path, has to a mirror: a store whose log only
+                                grows. It takes a log that goes on from its own, and tells of one that is shorter or
+                                that is another past, of which it keeps the entry that differs. STORE is a folder, or
+                                a database where it ends in .db
+  evidence ENTRY ENTRY -o FILE  write a dossier, for others, of two entries that one key signed: of one number, or with
+      [--from STORE] [--key K]  one leaf. They stand in a mirror or here, or in STORE; K is the public part of a key that
+                                no policy here names
+  evidence --check FILE         say what such a dossier shows
   hook install [--server]       let git push be refused where it would leave something unlawful, before it leaves this
                                 clone, or in a server's repository before it is taken; a hook that stands there is
                                 called first. git -c gittuf.anyway=true push leaves a clone all the same
@@ -82,7 +91,7 @@ what was asked for, 4 what is outside, as a repository that is none, or another 
 
 WORDS = (
     "setup", "key", "doctor", "record", "approve", "verify", "recover", "push", "sync", "skip", "note", "log", "explain",
-    "report", "export", "policy", "hook",
+    "report", "export", "mirror", "evidence", "policy", "hook",
 )  # fmt: skip
 STEPS = ("init", "person", "rotate", "rule", "show", "sign", "discard", "apply")
 
@@ -233,7 +242,15 @@ def words_of_judging(take):
         take[name].add_argument("--json", action="store_true")
     take["explain"].add_argument("name")
     take["explain"].set_defaults(work=explaining.explain)
-    for name in ("doctor", "verify", "log", "explain", "export", "report"):
+    take["mirror"].add_argument("remote", metavar="REMOTE")
+    take["mirror"].add_argument("--into", metavar="STORE")
+    take["mirror"].set_defaults(work=mirroring.mirror)
+    take["evidence"].add_argument("entries", nargs="*")
+    for words in (("-o", "--output"), ("--check",), ("--key",)):
+        take["evidence"].add_argument(*words)
+    take["evidence"].add_argument("--from", dest="source", metavar="STORE")
+    take["evidence"].set_defaults(work=dossiers.evidence)
+    for name in ("doctor", "verify", "log", "explain", "export", "report", "mirror", "evidence"):
         take[name].set_defaults(reads=True)
 
 

@@ -1,0 +1,194 @@
+"""The checks of tools/test on mirrors of a server, and on dossiers of what it showed."""
+
+import hashlib
+import os
+import shutil
+
+from checking import LAUNCHER, at_terminal, run, want
+from guarded_clones import MAIN, another
+
+LOG = "refs/gittuf/reference-state-log"
+# Where a clone has the log of its remote.
+THEIRS = "refs/gittuf-remotes/origin/reference-state-log"
+ORIGIN = ("mirror", "origin")
+
+
+def mirrored(repositories, name):
+    """Clones, and carol's, who signs nothing and keeps a mirror of the server, which has two entries."""
+    clones = another(repositories, name)
+    clones.clone("carol", key=False)
+    clones.gittuf("carol", "verify", "main")
+    before = clones.git("for-each-ref", who="carol")
+    want(clones.gittuf("carol", *ORIGIN), b"taken 0 2\n", "what the first offer prints")
+    want(clones.git("for-each-ref", who="carol"), before, "the own references after it")
+    return clones
+
+
+def note(clones, who, text):
+    """Signs a note as the next entry of the log, and returns its id."""
+    clones.gittuf(who, "note", "1", "-m", text)
+    return clones.tip(who, LOG)
+
+
+def store_of(clones, who="carol"):
+    """The folder of the one mirror that a clone has."""
+    top = os.path.join(clones.path(who), ".git", "gittuf", "mirrors")
+    (place,) = os.listdir(top)
+    return os.path.join(top, place, "store", "")
+
+
+def files_of(folder):
+    """The files below a folder with their texts."""
+    found = {}
+    for at, _, names in os.walk(folder):
+        for it in names:
+            with open(os.path.join(at, it), "rb") as file:
+                found[os.path.relpath(os.path.join(at, it), folder)] = file.read()
+    return found
+
+
+def shows_two_histories(clones):
+    """Lets alice sign entry 3 twice, as the server showed an old state in between; returns both ids, of which the mirror has the first."""
+    shutil.copytree(clones.path("server.git"), clones.path("older.git"))
+    first = note(clones, "alice", "first")
+    clones.git("push", "--quiet", "origin", LOG, who="alice")
+    want(clones.gittuf("carol", *ORIGIN), b"taken 2 3\n", "what an offer of one entry more prints")
+    os.rename(clones.path("server.git"), clones.path("newer.git"))
+    os.rename(clones.path("older.git"), clones.path("server.git"))
+    clones.clone("another", key=False)
+    clones.git("config", "gittuf.key", clones.path("alice.key"), who="another")
+    second = note(clones, "another", "second")
+    clones.git("push", "--quiet", "origin", LOG, who="another")
+    return first, second
+
+
+def only_grows(repositories):
+    """a mirror takes what goes on from it, and stays as it was where the server shows less, the same, or no log, by a remote or a path"""
+    clones = mirrored(repositories, "mirror grows")
+    clones.gittuf("carol", *ORIGIN)
+    whole = files_of(store_of(clones))
+    want(f"{LOG}\n" in [f"{it}\n" for it in whole], True, "whether the mirror has the log")
+    want(clones.gittuf("carol", *ORIGIN), b"same 2\n", "what the same offer prints")
+    log = clones.tip("server.git", LOG)
+    clones.git("update-ref", LOG, clones.tip("server.git", f"{LOG}~1"), who="server.git")
+    want(clones.gittuf("carol", *ORIGIN, status=1), b"behind 2 1\n", "what a shorter log prints")
+    clones.git("update-ref", "-d", LOG, who="server.git")
+    want(clones.gittuf("carol", *ORIGIN, status=1), b"behind 2 0\n", "what no log prints")
+    clones.git("update-ref", LOG, clones.tip("server.git", MAIN), who="server.git")
+    broken = f"log-broken {clones.tip('server.git', MAIN)}\n".encode()
+    want(clones.gittuf("carol", *ORIGIN, status=3), broken, "what a branch in the place of the log prints")
+    want(files_of(store_of(clones)), whole, "the mirror after all of that")
+    clones.git("update-ref", LOG, log, who="server.git")
+    want(clones.gittuf("carol", *ORIGIN), b"same 2\n", "what the log prints once it is back")
+    for into, store in (("kept", "kept/"), ("kept.db", "kept.db")):
+        words = ("mirror", clones.path("server.git"), "--into", clones.path(into))
+        want(clones.gittuf("carol", *words), b"taken 0 2\n", f"what the first offer into {into} prints")
+        want(clones.gittuf("carol", *words), b"same 2\n", f"what the second offer into {into} prints")
+        judged = run(LAUNCHER, clones.path("") + store, "-", "verify-ref", MAIN)
+        want(judged[:2], (0, f"accepted {MAIN} 1 entries\n".encode()), f"the verdict over {into}")
+    clones.refused("carol", "mirror", "nowhere", status=3, part="nowhere is no remote, and nothing stands at")
+
+
+def keeps_another_past(repositories):
+    """a server that shows two histories is told, the mirror keeps both entries, and their dossier shows the fork to whoever has it"""
+    clones = mirrored(repositories, "mirror forked")
+    first, second = shows_two_histories(clones)
+    whole = files_of(store_of(clones))
+    line = f"forked 3 {first} {second}\n"
+    status, said = at_terminal("git gittuf mirror origin", clones.path("carol"))
+    way = f"git gittuf evidence {first} {second} -o FILE"
+    want((status, said.startswith(line), f"{first[:12]}, signed by alice" in said, way in said), (1, True, True, True), f"what is said: {said}")
+    more = {name: text for name, text in files_of(store_of(clones)).items() if whole.get(name) != text}
+    want({*more}, {f"objects/{second}", f"refs/mirror/fork/3/{second}"}, "what the mirror has more")
+    want(clones.gittuf("carol", *ORIGIN, status=1).decode(), line, "what the same offer prints once more")
+    path = clones.path("fork.dossier")
+    want(clones.gittuf("carol", "evidence", first, second, "-o", path), b"fork 3\n", "what evidence prints")
+    for who in ("alice", "bob", "carol"):
+        want(clones.gittuf(who, "evidence", "--check", path), b"fork 3\n", f"what the dossier shows {who}")
+    status, said = at_terminal("git gittuf evidence --check ../fork.dossier", clones.path("bob"))
+    want((status, "alice signed two entries of number 3" in said), (0, True), f"what is said: {said}")
+    clones.gittuf("carol", "mirror", "../newer.git", "--into", "../both.db")
+    want(clones.gittuf("carol", "mirror", "origin", "--into", "../both.db", status=1).decode(), line, "what the fork prints for a database")
+    words = ("evidence", first, second, "--from", "../both.db", "-o", "../again.dossier")
+    want(clones.gittuf("carol", *words), b"fork 3\n", "what evidence prints from a database")
+    with open(path, "rb") as file, open(clones.path("again.dossier"), "rb") as again:
+        want(again.read(), file.read(), "the dossier from a database")
+
+
+def shows_a_leaf_used_twice(repositories):
+    """two entries that a copied key file signed with one leaf are shown as that, and a changed dossier shows nothing"""
+    clones = mirrored(repositories, "leaf twice")
+    shutil.copyfile(clones.path("alice.key"), clones.path("copy.key"))
+    shutil.copyfile(clones.path("alice.key.pub"), clones.path("copy.key.pub"))
+    first = note(clones, "alice", "first")
+    clones.git("push", "--quiet", "origin", LOG, who="alice")
+    clones.git("update-ref", LOG, f"{LOG}~1", who="server.git")
+    clones.clone("other", key=False)
+    clones.git("config", "gittuf.key", clones.path("copy.key"), who="other")
+    leaf = clones.used("alice") - 1
+    second = note(clones, "other", "second")
+    clones.git("fetch", "--quiet", clones.path("other"), f"+{LOG}:{THEIRS}", who="alice")
+    path = clones.path("leaf.dossier")
+    shown = f"fork 3\nreuse {leaf}\n".encode()
+    want(clones.gittuf("alice", "evidence", first, second, "-o", path), shown, "what evidence prints")
+    with open(path, "rb") as file:
+        text = file.read()
+    at = text.index(b"lmssig ") + 200
+    for name, changed, status, output in (
+        ("whole", text, 0, shown),
+        ("changed", text[:at] + (b"A" if text[at : at + 1] != b"A" else b"B") + text[at + 1 :], 1, b"nothing\n"),
+        ("cut", text[:-1], 3, b""),
+        ("empty", b"", 3, b""),
+    ):
+        with open(path, "wb") as file:
+            file.write(changed)
+        want(clones.gittuf("bob", "evidence", "--check", path, status=status), output, f"what the dossier shows that is {name}")
+
+
+def refuses_what_shows_nothing(repositories):
+    """no dossier is written of entries of two keys, of one entry, or of two that were signed in turn, and each is told"""
+    clones = mirrored(repositories, "no dossier")
+    first, second = note(clones, "alice", "first"), note(clones, "alice", "second")
+    clones.gittuf("alice", "push")
+    clones.git("pull", "--quiet", who="bob")
+    third = note(clones, "bob", "third")
+    path = clones.path("none.dossier")
+    part = "one is signed by alice and the other by bob: a dossier shows what one key signed"
+    clones.git("fetch", "--quiet", clones.path("bob"), f"+{LOG}:{THEIRS}", who="alice")
+    clones.refused("alice", "evidence", second, third, "-o", path, status=3, part=part)
+    for pair in ((first, second), (first, first)):
+        want(clones.gittuf("alice", "evidence", *pair, "-o", path, status=1), b"nothing\n", "what evidence prints")
+    unknown = hashlib.sha256(b"").hexdigest()
+    clones.refused("alice", "evidence", first, unknown, "-o", path, status=3, part=f"has the object {unknown}")
+    clones.refused("alice", "evidence", first, status=2, part="evidence takes two entries and -o FILE")
+    clones.refused("alice", "evidence", first, second, "--key", "00", "-o", path, status=3, part="--key is not the public part")
+    want(os.path.exists(path), False, "whether a file was written")
+
+
+def mends_after_a_stop(repositories):
+    """what a stopped call left is taken away by the next one, and a mirror in the middle of a change is told and not taken for one"""
+    clones = mirrored(repositories, "mirror stopped")
+    store = store_of(clones)
+    place = os.path.dirname(store.rstrip("/"))
+    for it in ("fetched.git/packed-refs.lock", "fetched.git/config.lock", "fetched.git/refs/heads/main.lock", "store/open.lock"):
+        os.makedirs(os.path.dirname(os.path.join(place, it)), exist_ok=True)
+        with open(os.path.join(place, it), "wb"):
+            pass
+    note(clones, "alice", "first")
+    clones.git("push", "--quiet", "origin", LOG, who="alice")
+    want(clones.gittuf("carol", *ORIGIN), b"taken 2 3\n", "what an offer after a stop prints")
+    shutil.rmtree(os.path.join(place, "fetched.git", "objects"))
+    want(clones.gittuf("carol", *ORIGIN), b"same 3\n", "what an offer prints where a fetch was stopped at its start")
+    for it in ("open.lock", "commit.lock"):
+        with open(os.path.join(store, it), "wb"):
+            pass
+    clones.refused("carol", *ORIGIN, status=4, part="was left in the middle of a change, and counts for nothing")
+
+
+CHECKS = (
+    only_grows,
+    keeps_another_past,
+    shows_a_leaf_used_twice,
+    refuses_what_shows_nothing,
+    mends_after_a_stop,
+)
