@@ -165,6 +165,54 @@ def refuses_what_shows_nothing(repositories):
     want(os.path.exists(path), False, "whether a file was written")
 
 
+def places_of(text):
+    """Places in a dossier: each of its first line and key, of what is around a size and at the end, and some of the bodies."""
+    at = text.index(b"\nright ")
+    return sorted({*range(300), *range(at - 4, at + 20), *range(len(text) - 8, len(text)), *range(300, len(text), 211)})
+
+
+def shows_nothing_of_changed_dossiers(repositories):
+    """a dossier that is cut, and one in which a byte is another, is none or shows nothing, at each place that is looked at"""
+    clones = mirrored(repositories, "dossiers")
+    first, second = shows_two_histories(clones)
+    clones.gittuf("carol", *ORIGIN, status=1)
+    path = clones.path("fork.dossier")
+    clones.gittuf("carol", "evidence", first, second, "-o", path)
+    with open(path, "rb") as file:
+        text = file.read()
+    check = lambda given: run(LAUNCHER, "-", "-", "evidence-check", input=given)
+    want(check(text), (0, b"fork 3\n", b""), "what the whole dossier shows")
+    want(check(text + b"\n"), (3, b"", b"input\n"), "what it shows with a line feed more")
+    for at in places_of(text):
+        want(check(text[:at]), (3, b"", b"input\n"), f"what is told of the first {at} bytes")
+        told = check(text[:at] + bytes((text[at] ^ 1,)) + text[at + 1 :])
+        want(told in ((3, b"", b"input\n"), (1, b"nothing\n", b"")), True, f"what is told where byte {at} is another: {told}")
+    return f"{len(places_of(text))} places of {len(text)} bytes"
+
+
+def is_mended_by_an_offer(repositories):
+    """an object of a mirror that is damaged breaks its log, and is whole again once an offer goes on from there that has it"""
+    clones = mirrored(repositories, "mirror damaged")
+    recorded = clones.tip("alice")
+    path = os.path.join(store_of(clones), "objects", recorded)
+    whole = files_of(store_of(clones))
+    with open(path, "wb") as file:
+        file.write(b"commit 1\0x")
+    judged = lambda: run(LAUNCHER, store_of(clones), "-", "verify-ref", MAIN)[:2]
+    want(judged(), (1, f"violation {MAIN} 2 broken {recorded}\n".encode()), "the verdict over the damaged mirror")
+    want(clones.gittuf("carol", *ORIGIN), b"same 2\n", "what an offer that adds nothing prints")
+    note(clones, "alice", "first")
+    clones.git("push", "--quiet", "origin", LOG, who="alice")
+    want(clones.gittuf("carol", *ORIGIN), b"taken 2 3\n", "what an offer that goes on prints")
+    want({*whole.items()} - {*files_of(store_of(clones)).items()} - {(LOG, whole[LOG])}, set(), "what the mirror had and lacks then")
+    want(judged(), (0, f"accepted {MAIN} 1 entries\n".encode()), "the verdict then")
+    tip = clones.tip("alice", LOG)
+    with open(os.path.join(store_of(clones), "objects", tip), "wb") as file:
+        file.write(b"commit 1\0x")
+    broken = f"log-broken {tip}\n".encode()
+    want(clones.gittuf("carol", *ORIGIN, status=3), broken, "what an offer prints where the mirror's own log breaks")
+
+
 def mends_after_a_stop(repositories):
     """what a stopped call left is taken away by the next one, and a mirror in the middle of a change is told and not taken for one"""
     clones = mirrored(repositories, "mirror stopped")
@@ -190,5 +238,7 @@ CHECKS = (
     keeps_another_past,
     shows_a_leaf_used_twice,
     refuses_what_shows_nothing,
+    shows_nothing_of_changed_dossiers,
+    is_mended_by_an_offer,
     mends_after_a_stop,
 )
