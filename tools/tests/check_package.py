@@ -13,7 +13,7 @@ from guarded_clones import MAIN, SMALL, TOOL
 
 PACKAGE = os.path.join(TOP, "tools", "package")
 WORDS = ("setup", "key", "policy", "record", "approve", "verify", "recover", "push", "sync", "skip", "note", "log", "explain", "report", "export")
-WORDS += ("doctor", "hook")
+WORDS += ("mirror", "evidence", "doctor", "hook")
 # What git gittuf and the launcher call, and no toolchain among it.
 NEEDED = ("sh", "cat", "env", "git", "readlink", "sync")
 PAGES = ("gittuf-program.1", "git-gittuf.1")
