@@ -141,6 +141,7 @@ def of_line(line, remote=None):
 OF_STATUS = {
     ("policy-apply", 3): "The policy is not taken, for this reason; what is in force goes on. git gittuf policy show says who signed.",
     ("approve", 3): "The commit cannot be read as a whole, or the approval has no room.",
+    ("mirror", 3): "What is there is past the limits of a stream, or the database is of another schema: nothing was taken.",
     (None, 4): "Something outside failed: the disk, the key file's rights, or another program that has it. Nothing was judged.",
     (None, 5): "There was not enough memory.",
     (None, 6): "Each signature of this key is used up: git gittuf key makes another at a new gittuf.key, for policy person.",
