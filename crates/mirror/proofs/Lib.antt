@@ -1,4 +1,5 @@
 pub mod Compared
+pub mod ForkNames
 pub mod Going
 pub mod ManyOffers
 pub mod Offered

@@ -33,10 +33,11 @@ pub fn fork_name(alloc: Global, number: u64, id: &ObjectId) -> Result<RefName, M
     requires { number ≤ 1000000 }
     ensures { IfOk result (λ name. name ≡ fork_name number id.now) }
 {
+    let _ = id.as_bytes();
     let text = fork_text(alloc, number, id)?;
     match RefName::read(alloc, text.as_slice()) {
         Ok(name) => Ok(name),
-        Err(RefFault::BadRef) => Err(Memory),
+        Err(RefFault::BadRef) => unreachable!(),
         Err(RefFault::Memory) => Err(Memory),
     }
 }
