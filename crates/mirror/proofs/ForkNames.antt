@@ -147,9 +147,9 @@ fork_is_named number id few is = record {
   begins = refl;
   utf8 = IsUtf8-from_ascii (fork_name number id) (ascii (fork_name number id) low);
   short = let d = length-decimal-le 7 number (omega arith) (omega (arith, few)) (omega (arith, few)) in
-    let h = length-hexadecimal id is in
-    let whole = length-append digits (47 ∷ hex) in
-    omega (arith, d, h, whole);
+      let h = length-hexadecimal id is in
+      let whole = length-append digits (47 ∷ hex) in
+      omega (arith, d, h, whole);
   few = subst (λ (parts : List (List ℕ)). length parts ≤ 16) (sym parts_are) (omega arith);
   whole = ap (list_all is_component) parts_are ∙ both_true (component digits number_is.some (lacks digits a)) (both_true (component hex some (lacks hex b)) refl);
   plain = list_all-append is_plain digits (47 ∷ hex) ∙ both_true (plain_digits digits a) (plain_digits hex b);
@@ -160,21 +160,30 @@ fork_is_named number id few is = record {
   where
     digits : List ℕ
     digits = decimal number
+
     hex : List ℕ
     hex = encode_lower id
+
     number_is : IsNumber digits
     number_is = decimal_is_number number (omega (arith, few))
+
     a : AllPass is_lower_digit digits
     a = decimals digits number_is.digits
+
     b : AllPass is_lower_digit hex
     b = (id_is_lower id is).1
+
     some : 0 < length hex
     some = let h = length-hexadecimal id is in omega (arith, h)
+
     lacks : (text : List ℕ) → AllPass is_lower_digit text → has_byte 46 text ≡ false
     lacks text all = digits_lack 46 text refl all
+
     dotless : has_byte 46 (fork_name number id) ≡ false
     dotless = lacks_append 46 digits (47 ∷ hex) (lacks digits a) (lacks hex b)
+
     low : list_all (λ c. nat_le c 127) (fork_name number id) ≡ true
     low = list_all-append (λ (c : ℕ). nat_le c 127) digits (47 ∷ hex) ∙ both_true (low_digits digits a) (low_digits hex b)
+
     parts_are : components (fork_name number id) ≡ codes "refs" ∷ codes "mirror" ∷ codes "fork" ∷ digits ∷ hex ∷ []
     parts_are = ap (λ (parts : List (List ℕ)). codes "refs" ∷ codes "mirror" ∷ codes "fork" ∷ parts) (word_part digits hex a ∙ ap (λ (parts : List (List ℕ)). digits ∷ parts) (last_part hex b))
