@@ -15,6 +15,7 @@ import sys
 import tempfile
 import time
 
+import rows_of_entries
 from check_locks import wait_for
 from check_repositories import Repositories
 from checking import PROGRAM, Failure, run, want, want_run
@@ -23,7 +24,8 @@ from made_databases import small_database, small_objects
 from made_folders import END, HEADER, IMPORTED, object_file, stream_of
 from made_folders import command as folder_command
 
-KILLS, BIG, RECORDS = 24, 400, 12
+KILLS, BIG = 24, 400
+JUDGED = rows_of_entries.ROWS[:8]
 KINDS = {b"blob": 1, b"tree": 2, b"commit": 3, b"tag": 4}
 # Who is nobody on every system, for what the owner of all files may do anyway.
 NOBODY = 65534
@@ -64,6 +66,20 @@ def goes_between(repositories):
         is_sound(place)
     kinds = {kind for kind, in rows_of(second, "SELECT DISTINCT kind FROM objects")}
     want(kinds <= set(KINDS.values()) and len(kinds) > 2, True, f"whether {kinds} are kinds")
+
+
+def judges_alike(repositories):
+    """a database gives the verdict and the log that the stream itself gives, in histories with policies, approvals and skips"""
+    reference = "refs/heads/main"
+    for row in JUDGED:
+        stream = row()[0].repository.stream()
+        stream = stream if isinstance(stream, bytes) else stream.encode()
+        place = repositories.path(f"{row.__name__}.db")
+        want_run(command(place, "import"), 0, IMPORTED, input=stream)
+        told = run(PROGRAM, "-", "-", "verify-ref", reference, "--stdin", input=stream)
+        want(told[0] < 2, True, f"whether {row.__name__} is judged")
+        want_run(command(place, "verify-ref", reference), *told)
+        want_run(command(place, "export"), 0, stream)
 
 
 def takes_rows_of_others(repositories):
@@ -337,6 +353,7 @@ def stops_anywhere(repositories):
 CHECKS = (
     holds_what_came,
     goes_between,
+    judges_alike,
     takes_rows_of_others,
     tells_another_schema,
     tells_foreign_tables,
