@@ -1,0 +1,3 @@
+mod Numbers
+mod Mending
+pub mod Walks
