@@ -2,7 +2,6 @@
 use Rattle.std.proofs.Common.{◌≡◌, ◌⊎◌, ◌&&◌, ◌||◌, ◌<◌, ◌≤◌, ◌+◌, ◌-◌, ◌++◌, ℕ, suc, Bool, true, false, cond, not, nat_le, nat_lt, is_none, is_some, ltb-true, List, [], ◌∷◌, Option, Some, None, length, drop, refl, ap, sym, subst, inl, inr, ◌∙◌, arith}
 use Rattle.std.specs.List.{filter}
 use Rattle.std.specs.Option.{option_and_then, option_map, unwrap_or}
-use Rattle.std.specs.Str.{bytes_eq}
 use Rattle.std.specs.Cmp.Lexicographic.{bytes_decides}
 use Rattle.std.proofs.lemmas.Bool.{and_parts, cases_lt, leb-true, lt-leb, true≢false}
 use Rattle.std.proofs.lemmas.List.{length-append, length-take-le, take-append-drop}
@@ -12,12 +11,12 @@ use Rattle.rsl_chain.specs.declared.entries.EntryBody.{EntryBody}
 use Rattle.rsl_chain.specs.declared.entries.EntryBody.TheVariants.{Reference, Annotation}
 use Rattle.recovery.specs.Lanes.{Lane, first_of, is_in, is_outside, last_of}
 use Rattle.judging.specs.Rules.{Rules, is_same_tree, same_tree}
-use Rattle.judging.specs.Logs.{above, authorised, before, completes, entry_at, fault_of, from, is_entry_of, keeps_tree, lane, numbers, pending, prior, prior_target, rescued, skipped, target_at, unskipped}
-use Rattle.judging.specs.Readings.{IsPrior, IsRescue}
+use Rattle.judging.specs.Logs.{above, authorised, before, completes, entry_at, fault_of, from, is_entry_of, keeps_tree, lane, numbers, pending, prior, rescued, skipped, target_at, unskipped}
+use Rattle.judging.specs.Readings.{IsRescue}
 use Rattle.judging.specs.Steps.{recorded}
 use Rattle.judging.specs.Verdicts.{IsJudged}
 use Rattle.judging.specs.declared.verdicts.Verdict.TheVariants.{Accepted}
-use Rattle.judging.proofs.Appends.{entry_new, entry_old, fault_old, long}
+use Rattle.judging.proofs.Appends.{entry_new, entry_old, fault_old}
 use Rattle.judging.proofs.Counting.{filter_same, filter_twice, first_number, last_number}
 use Rattle.judging.proofs.LaneSteps.{reference_lanes}
 use Rattle.judging.proofs.Notes.{in_numbers}

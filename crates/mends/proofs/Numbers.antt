@@ -1,9 +1,9 @@
 -- Filters of the numbers from 1 to n, and their ends.
-use Rattle.std.proofs.Common.{◌≡◌, ◌<◌, ◌≤◌, ◌&&◌, ◌||◌, ◌++◌, ℕ, suc, zero, Bool, true, false, cond, not, nat_le, nat_lt, List, [], ◌∷◌, Option, Some, None, refl, ap, sym, inl, inr, ◌∙◌, arith}
+use Rattle.std.proofs.Common.{◌≡◌, ◌<◌, ◌≤◌, ◌&&◌, ◌++◌, ℕ, suc, zero, Bool, true, false, cond, not, nat_le, nat_lt, List, [], ◌∷◌, Some, None, refl, ap, sym, inl, inr, ◌∙◌, arith}
 use Rattle.std.specs.List.{filter}
-use Rattle.std.proofs.lemmas.Bool.{cases_Bool, cases_eq, cases_lt, le-leb, le-ltb, lt-leb, lt-ltb}
+use Rattle.std.proofs.lemmas.Bool.{cases_eq, cases_lt, le-leb, le-ltb, lt-leb, lt-ltb}
 use Rattle.std.proofs.lemmas.List.{append-nil}
-use Rattle.recovery.specs.Lanes.{first_of, last_of}
+use Rattle.recovery.specs.Lanes.{last_of}
 use Rattle.judging.specs.Logs.{numbers}
 use Rattle.judging.proofs.Counting.{filter_same, filter_suc, filter_twice}
 

@@ -1,9 +1,9 @@
 -- The way back over a reference's entries: where it begins, a step of it, and where it ends.
-use Rattle.std.proofs.Common.{◌≡◌, ◌⊎◌, ◌&&◌, ◌<◌, ◌≤◌, ◌+◌, ◌-◌, ◌==◌, ◌++◌, ℕ, suc, zero, Bool, true, false, cond, not, nat_le, nat_lt, List, [], ◌∷◌, Option, Some, None, length, drop, refl, ap, sym, subst, inl, inr, ◌∙◌, arith, append_assoc}
+use Rattle.std.proofs.Common.{◌≡◌, ◌⊎◌, ◌&&◌, ◌<◌, ◌≤◌, ◌+◌, ◌-◌, ◌++◌, ℕ, suc, Bool, true, false, cond, not, nat_le, nat_lt, List, [], ◌∷◌, Option, Some, None, length, drop, refl, ap, sym, inl, inr, ◌∙◌, arith, append_assoc}
 use Rattle.std.specs.Prelude.{reverse}
-use Rattle.std.specs.List.{filter, list_any}
+use Rattle.std.specs.List.{filter}
 use Rattle.std.specs.Option.{option_and_then, option_map, unwrap_or}
-use Rattle.std.proofs.lemmas.Bool.{cases_Bool, cases_lt, le-leb, le-ltb, lt-leb, lt-ltb, ne_eqb, true≢false}
+use Rattle.std.proofs.lemmas.Bool.{le-leb, le-ltb, lt-ltb, ne_eqb, true≢false}
 use Rattle.std.proofs.lemmas.List.{append-nil, length-append, length-take-le, reverse-append, reverse-reverse, take-append-drop}
 use Rattle.std.proofs.lemmas.List.Elements.{filter-append}
 use Rattle.rsl_chain.specs.Entries.{Taken, target_of}
@@ -14,7 +14,7 @@ use Rattle.judging.specs.Rules.{Rules}
 use Rattle.judging.proofs.Appends.{entry_old, skips_old}
 use Rattle.judging.proofs.Counting.{filter_suc, number_some, some_number}
 use Rattle.judging.proofs.Readers.{no_prior_reads, prior_reads}
-use Rattle.mends.specs.Mends.{ahead_of, back_to, from_on, way_back}
+use Rattle.mends.specs.Mends.{back_to, from_on, way_back}
 use Rattle.mends.specs.Walking as walking
 use Rattle.mends.specs.Walking.{HasEnded, IsWalked, up_to}
 use Rattle.mends.proofs.Numbers.{last_push, no_last, none_on, shorter}
