@@ -4,3 +4,4 @@ mod Walked
 mod Lines
 mod OneAccount
 mod Would
+mod WaysBack

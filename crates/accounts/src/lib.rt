@@ -8,6 +8,7 @@
 mod entry_lines;
 mod judged_log;
 pub mod laws;
+mod mending;
 mod pass;
 mod rows;
 mod verdict_lines;
@@ -15,6 +16,7 @@ mod would_lines;
 
 pub use entry_lines::entry_line;
 pub use judged_log::JudgedLog;
+pub use mending::mend_of;
 pub use pass::judge_log;
 pub use verdict_lines::{ToldVerdict, tell_verdict};
 pub use would_lines::{ToldWould, fault_line, tell_would};
