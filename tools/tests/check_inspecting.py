@@ -162,6 +162,11 @@ def tells_policies(repositories):
     folder = kept(repositories, "inspected policy")
     want(run(INSPECT, folder, "policy"), (0, b"".join(map(payload_of, FILES)), b""), "the policy")
     want(run(INSPECT, folder, "policy", "--root", NOBODY), (0, b"", b""), "the policy of others")
+    for target in (POLICY_AT, ZEROS, FIRST):
+        words = ("policy", "--against", target), ("would", POLICY, target, "--key", NOBODY)
+        want(*(run(INSPECT, folder, *it) for it in words), f"what is told of a policy at {target}")
+    want(run(INSPECT, folder, "policy", "--against", POLICY_AT)[0], 0, "the status of one that may come into force")
+    want(run(INSPECT, folder, "policy", "--against", FIRST)[0], 1, "the status of one that is none")
 
 
 def leaves_of(key):
@@ -193,6 +198,7 @@ def tells_breaks(repositories):
         *((), ("verdicts", LOG), ("verdicts", "main"), ("log", "--from", "0"), ("log", "--root", ZEROS[1:]), ("policy", MAIN)),
         *(("would", MAIN, TIP), ("would", MAIN, "--key", ALICE), ("would", LOG, TIP, "--key", ALICE)),
         *(("used",), ("used", "--key", ALICE[1:]), ("used", "--key", 60 * "zz")),
+        *(("policy", "--against"), ("policy", "--against", TIP[1:])),
         *(("would", MAIN, TIP[1:], "--key", ALICE), ("would", MAIN, TIP, "--key", f"{ALICE},")),
     )
     for words in outside:

@@ -91,6 +91,11 @@ fn would_command<'a>(alloc: Global) -> Result<Command<'a>, AllocError> {
         )
 }
 
+fn policy_command<'a>(alloc: Global) -> Result<Command<'a>, AllocError> {
+    let against = Arg::new(alloc, "against").long("against");
+    rooted(alloc, "policy")?.arg(against.action(ArgAction::Set))
+}
+
 // What a command finds in the words.
 fn matches_of<'a>(
     command: Result<Command<'a>, AllocError>,
@@ -195,6 +200,23 @@ fn proposed_in(alloc: Global, matches: &ArgMatches) -> Result<Proposed, WordsFau
     Ok(Proposed { name, target, keys })
 }
 
+// The policy in force, or what would be found of an entry that records another one, of which no key of an entry decides.
+fn policy_asked(alloc: Global, matches: &ArgMatches) -> Result<Asked, WordsFault> {
+    let root = root_in(alloc, matches)?;
+    let Some(text) = matches.get_str("against") else {
+        return Ok(Asked::Policy { root });
+    };
+    let target = id_of(alloc, text)?;
+    let Ok(name) = RefName::of_policy(alloc) else {
+        return Err(WordsFault::Memory);
+    };
+    let keys = KeyIds::new(alloc);
+    Ok(Asked::Would {
+        root,
+        proposed: Proposed { name, target, keys },
+    })
+}
+
 fn public_of(alloc: Global, bytes: &[u8]) -> Result<NamedKey, WordsFault> {
     match Octets::from_slice(alloc, bytes) {
         Ok(public) => Ok(NamedKey::Public(public)),
@@ -245,10 +267,8 @@ fn read_asked(alloc: Global, first: &str, words: &[String]) -> Result<Asked, Wor
         });
     }
     if first == "policy" {
-        let matches = matches_of(rooted(alloc, "policy"), words)?;
-        return Ok(Asked::Policy {
-            root: root_in(alloc, &matches)?,
-        });
+        let matches = matches_of(policy_command(alloc), words)?;
+        return policy_asked(alloc, &matches);
     }
     if first == "used" {
         let matches = matches_of(keyed(alloc, "used"), words)?;
