@@ -27,6 +27,8 @@ FIRST, SECOND = (
     "6f195ad07186b8d30af89af424a426922e9cd93ed30ca8c636af6db2542b3e7f",
     "aa12024838dd65160c7ddb29e5294b57599333694f1992846de6db25208028b5",
 )
+# The tree of the second.
+TREE = "17653574b22bf755390afd9a499d6360119a31cb3d7c34955a395f38705d2d3f"
 POLICY_AT = "40b38bae9033631e7ff88984a1956045cae76434fdfc200c4e9b2830970f11f2"
 FILES = (
     "37f88b5446f9940b259c56dfd33bc89754d374d0c1403d9d9182adc84e44cd62",
@@ -97,7 +99,8 @@ def tells_others(repositories):
     cut = kept(repositories, "inspected cut", **{LOG: AT[6], MAIN: STRANGERS})
     status, found = told(cut, POLICY, MAIN)
     fault = {"got": 0, "kind": "ref-rule", "need": 2, "rule": "main"}
-    want(found[1], {"fault": fault, "number": 6, "reference": MAIN, "verdict": "violation"}, "a stranger's entry")
+    mends = {"from": SECOND, "prior": 5, "skip": [6], "tree": TREE}
+    want(found[1], {"fault": fault, "mends": mends, "number": 6, "reference": MAIN, "verdict": "violation"}, "a stranger's entry")
     as_verify_ref(cut, status, found[1:])
 
 

@@ -13,10 +13,11 @@ use Rattle.judging.specs.declared.verdicts.EntryVerdict.{EntryVerdict}
 use Rattle.judging.specs.declared.verdicts.EntryVerdict.TheVariants.{Authorised, Refused, Noted}
 use Rattle.judging.specs.declared.verdicts.Verdict.{Verdict}
 use Rattle.judging.specs.declared.verdicts.Verdict.TheVariants.{Accepted, TipDiffers, Violation}
+use Rattle.mends.specs.declared.mend.Mend.{Mend}
 use Rattle.policy_epochs.specs.Telling.{fault_text}
 use Rattle.entry_rules.specs.declared.faults.Fault.{Fault}
 use Rattle.entry_rules.specs.declared.faults.Fault.TheVariants.{Broken, NoPolicy, NotEpoch, PathRule, RefRule}
-use Rattle.account_lines.specs.Lines.{body_data, fault_data, refusal_data, verdict_data}
+use Rattle.account_lines.specs.Lines.{body_data, fault_data, mend_data, refusal_data, verdict_data, violation_data}
 use Rattle.account_lines.specs.declared.rows.EntryRow.{EntryRow}
 use Rattle.account_lines.specs.declared.rows.Later.{Later}
 
@@ -53,6 +54,13 @@ pub verdict_floatless : (name : List ℕ) (verdict : Verdict Fault) → has_floa
 verdict_floatless name (Accepted count) = rw (text_floatless name) refl
 verdict_floatless name (TipDiffers kept recorded) = rw (text_floatless name) refl
 verdict_floatless name (Violation number fault) = rw (fault_floatless fault, text_floatless name) refl
+
+mend_floatless : (mend : Mend) → has_float (mend_data mend) ≡ false
+mend_floatless mend =
+    rw (option_floatless hex_data (λ _. refl) mend.from, option_floatless number_data (λ _. refl) mend.prior, list_floatless number_data (λ _. refl) mend.skip, option_floatless hex_data (λ _. refl) mend.tree) refl
+
+pub violation_floatless : (name : List ℕ) (number : ℕ) (fault : Fault) (mend : Mend) → has_float (violation_data name number fault mend) ≡ false
+violation_floatless name number fault mend = rw (fault_floatless fault, mend_floatless mend, text_floatless name) refl
 
 -- what is written for a value, under the name that the value has here
 pub exact_line : {E : Type 0} (r : Result (List ℕ) E) (v d : Data) → v ≡ d → has_float d ≡ false → IfOk r (λ t. has_float v ≡ false → t ≡ line_text v) → IfOk r (λ t. t ≡ line_text d)

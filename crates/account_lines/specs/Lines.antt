@@ -9,6 +9,7 @@ use Rattle.judging.specs.declared.verdicts.EntryVerdict.{EntryVerdict}
 use Rattle.judging.specs.declared.verdicts.EntryVerdict.TheVariants.{Authorised, Refused, Noted}
 use Rattle.judging.specs.declared.verdicts.Verdict.{Verdict}
 use Rattle.judging.specs.declared.verdicts.Verdict.TheVariants.{Accepted, TipDiffers, Violation}
+use Rattle.mends.specs.declared.mend.Mend.{Mend}
 use Rattle.policy_epochs.specs.Telling.{fault_text}
 use Rattle.entry_rules.specs.declared.faults.Fault.{Fault}
 use Rattle.entry_rules.specs.declared.faults.Fault.TheVariants.{Broken, NoPolicy, NotEpoch, PathRule, RefRule}
@@ -117,3 +118,21 @@ verdict_data name (Violation number fault) = object (member (codes "fault") (fau
 
 unfoldable pub verdict_line : List ℕ → Verdict Fault → List ℕ
 verdict_line name verdict = line_text (verdict_data name verdict)
+
+-- ---- violations, with what mends them
+
+abbrev pub mend_data : Mend → Data
+mend_data mend = object (member (codes "from") (option_data hex_data mend.from)
+    (member (codes "prior") (option_data number_data mend.prior)
+    (member (codes "skip") (list_data number_data mend.skip)
+    (member (codes "tree") (option_data hex_data mend.tree) no_members))))
+
+abbrev pub violation_data : List ℕ → ℕ → Fault → Mend → Data
+violation_data name number fault mend = object (member (codes "fault") (fault_data fault)
+    (member (codes "mends") (mend_data mend)
+    (member (codes "number") (number_data number)
+    (member (codes "reference") (text_data name)
+    (member (codes "verdict") (string (codes "violation")) no_members)))))
+
+unfoldable pub violation_line : List ℕ → ℕ → Fault → Mend → List ℕ
+violation_line name number fault mend = line_text (violation_data name number fault mend)

@@ -6,9 +6,11 @@
 
 mod entries;
 mod faults;
+mod mending;
 mod rows;
 mod verdicts;
 
 pub use entries::entry_line;
+pub use mending::violation_line;
 pub use rows::{EntryRow, Later};
 pub use verdicts::verdict_line;

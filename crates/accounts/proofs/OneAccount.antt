@@ -11,8 +11,7 @@ use Rattle.judging.proofs.Counting.{last_number}
 use Rattle.entry_rules.specs.RealRules.{real_rules}
 use Rattle.verify_ref.specs.Logs.{AreEntries}
 use Rattle.verify_ref.proofs.OneVerdict.{one_verdict, same_entries}
-use Rattle.account_lines.specs.Lines.{verdict_line}
-use Rattle.accounts.specs.Accounts.{IsLine, IsLineOf, IsToldVerdict, is_accepted, line_of}
+use Rattle.accounts.specs.Accounts.{IsLine, IsLineOf, IsToldVerdict, is_accepted, line_of, told_line}
 use Rattle.accounts.specs.Rows.{epoch_of, opens_at}
 
 module _ (anchor : Option (List (List ℕ))) (log : List Taken) (number : ℕ) where
@@ -32,10 +31,15 @@ same_line one anchor r number a b is other =
 pub line_or_break : NeverBoth → (anchor : Option (List (List ℕ))) (r : Repository) (number : ℕ) (text id : List ℕ) → IsLineOf anchor r number text → IsBreakOf r id → ⊥
 line_or_break apart anchor r number text id is breaks = apart (heads_of r) (get r.refs log_name) is.ids id is.is_log breaks
 
-pub same_told : (anchor : Option (List (List ℕ))) (r : Repository) (name a b : List ℕ) (m n : Bool) → IsToldVerdict anchor r name a m → IsToldVerdict anchor r name b n → (a ≡ b) × (m ≡ n)
-same_told anchor r name a b m n is other =
+pub same_told : OneLog → (anchor : Option (List (List ℕ))) (r : Repository) (name a b : List ℕ) (m n : Bool) → IsToldVerdict anchor r name a m → IsToldVerdict anchor r name b n → (a ≡ b) × (m ≡ n)
+same_told one anchor r name a b m n is other =
     let same = one_verdict r name anchor is.verdict other.verdict is.judged other.judged in
-    (is.told ∙ ap (verdict_line name) same ∙ sym other.told, is.is ∙ ap is_accepted same ∙ sym other.is)
+    let ids = one (heads_of r) (get r.refs log_name) is.judged.ids other.judged.ids is.judged.is_log other.judged.is_log in
+    let entries : AreEntries r is.judged.ids other.judged.log = subst (λ (xs : List (List ℕ)). AreEntries r xs other.judged.log) (sym ids) other.judged.entries in
+    let log = same_entries is.judged.log other.judged.log (sym is.judged.entries ∙ entries) in (
+      is.told ∙ ap (told_line (real_rules anchor) is.judged.log r name) same ∙ ap (λ (l : List Taken). told_line (real_rules anchor) l r name other.verdict) log ∙ sym other.told,
+      is.is ∙ ap is_accepted same ∙ sym other.is,
+    )
 
 pub greatest : (anchor : Option (List (List ℕ))) (log : List Taken) (k : ℕ) → epoch_of (real_rules anchor) log ≡ Some k
     → (0 < k) × (k ≤ length log) × (opens_at (real_rules anchor) log k ≡ true) × ((j : ℕ) → k < j → j ≤ length log → opens_at (real_rules anchor) log j ≡ true → ⊥)

@@ -8,9 +8,12 @@ use Rattle.rsl_chain.specs.declared.entries.Entry.{Entry}
 use Rattle.rsl_chain.specs.declared.entries.EntryBody.TheVariants.{Reference}
 use Rattle.recovery.specs.Lanes.{first_of}
 use Rattle.judging.specs.Logs.{before, entry_at, policy_after, prior, prior_target}
+use Rattle.judging.specs.Rules.{Rules}
 use Rattle.judging.specs.Verdicts.{answer_of}
 use Rattle.judging.specs.declared.verdicts.Verdict.{Verdict}
 use Rattle.judging.specs.declared.verdicts.Verdict.TheVariants.{Accepted, TipDiffers, Violation}
+use Rattle.mends.specs.Mends.{mend_of}
+use Rattle.policy_epochs.specs.declared.policies.Policy.{Policy}
 use Rattle.entry_rules.specs.RealRules.{real_rules}
 use Rattle.entry_rules.specs.declared.faults.Fault.{Fault}
 use Rattle.verify_ref.specs.Logs.{AreEntries}
@@ -20,7 +23,7 @@ use Rattle.would_be.specs.Laws.{stood_at}
 use Rattle.would_be.specs.Would.{IsWould}
 use Rattle.would_be.specs.declared.proposals.Proposed.{Proposed}
 use Rattle.would_be.specs.declared.proposals.Would.{Would}
-use Rattle.account_lines.specs.Lines.{entry_line, verdict_line}
+use Rattle.account_lines.specs.Lines.{entry_line, verdict_line, violation_line}
 use Rattle.account_lines.specs.declared.rows.EntryRow.{EntryRow}
 use Rattle.account_lines.specs.declared.rows.Later.{Later}
 use Rattle.accounts.specs.Rows.{epoch_of, row_of}
@@ -56,12 +59,19 @@ is_accepted (Accepted count) = true
 is_accepted (TipDiffers kept recorded) = false
 is_accepted (Violation number fault) = false
 
+-- the line of a verdict on a reference by a log, a violation with what mends it by the trees of the repository
+abbrev pub told_line : Rules Policy Fault → List Taken → Repository → List ℕ → Verdict Fault → List ℕ
+told_line rules log r name (Accepted count) = verdict_line name (Accepted count)
+told_line rules log r name (TipDiffers kept recorded) = verdict_line name (TipDiffers kept recorded)
+told_line rules log r name (Violation number fault) =
+    violation_line name number fault (mend_of rules log name r number)
+
 -- this line tells the verdict of the repository on a reference, and whether it is accepted
 pub record IsToldVerdict (anchor : Option (List (List ℕ))) (r : Repository) (name line : List ℕ)
     (accepted : Bool) : Type 0 where
   pub verdict : Verdict Fault
   pub judged : IsVerdict r name anchor verdict
-  pub told : line ≡ verdict_line name verdict
+  pub told : line ≡ told_line (real_rules anchor) judged.log r name verdict
   pub is : accepted ≡ is_accepted verdict
 
 -- ---- an entry behind the log that nobody signed yet

@@ -14,7 +14,9 @@ pub fn one_line()
 /// A repository has one line at most that tells the verdict on a reference.
 pub fn one_verdict_line()
     ensures { OneVerdictLine }
-{}
+{
+    logs();
+}
 
 /// The epoch that is told of an entry is the last entry before it that brought a policy into force.
 pub fn epoch_greatest()

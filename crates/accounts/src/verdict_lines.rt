@@ -1,15 +1,20 @@
 //! The line of the verdict on a reference, by a judged log.
 
-ghost use Rattle.std.specs.Prelude.{◌≡◌, Some, IfOk};
+ghost use Rattle.std.specs.Prelude.{◌≡◌, List, Some, true, IfOk};
 ghost use Rattle.octets.specs.Causes.{HasCause};
 ghost use Rattle.git_object.specs.Repository.{Repository};
 ghost use Rattle.keeper_api.specs.Faults.{keeper_failed};
 ghost use Rattle.keeper_api.specs.Undisturbed.{Undisturbed};
-ghost use Rattle.accounts.specs.Accounts.{IsToldVerdict, is_accepted};
-ghost use Rattle.accounts.specs.Judging.{IsJudgedLog};
+ghost use Rattle.rsl_chain.specs.Entries.{Taken};
+ghost use Rattle.judging.specs.declared.verdicts.Verdict.TheVariants as verdict;
+ghost use Rattle.entry_rules.specs.RealRules.{real_rules};
+ghost use Rattle.accounts.specs.Accounts.{IsToldVerdict, is_accepted, told_line};
+ghost use Rattle.accounts.specs.Judging.{IsJudgedLog, StandsFor};
 
 use crate::JudgedLog;
-use account_lines::verdict_line;
+use crate::mending::mend_of;
+use account_lines::{verdict_line, violation_line};
+use entry_rules::Fault;
 use git_object::RefName;
 use keeper_api::{Keeper, KeeperFault};
 use octets::Octets;
@@ -39,8 +44,56 @@ fn is_accepted(verdict: &RefVerdict) -> bool
     }
 }
 
-/// The line of JSON that tells the verdict on a reference by a judged log: where the store still holds the repository
-/// that was judged, the verdict of `verify_ref::verify`. It reads the reference's value, and no object.
+// The line of a violation, with what mends it.
+fn mended_line<R: Keeper>(
+    alloc: Global,
+    keeper: &mut R,
+    judged: &JudgedLog,
+    name: &RefName,
+    number: u64,
+    fault: &Fault,
+) -> Result<Octets, KeeperFault>
+    ensures line { IfOk result (λ line. (r : Repository) → R.content keeper.new ≡ Some r
+        → (log : List Taken) → StandsFor log judged.now
+        → line ≡ told_line (real_rules judged.now.engine.rules.anchor) log r name.now
+        (verdict.Violation number fault.now)) }
+    ensures same { Undisturbed R.Keeper keeper.old keeper.new }
+    ensures cause { HasCause keeper_failed (R.faults keeper.old) (R.faults keeper.new) result }
+{
+    let mend = mend_of(alloc, keeper, judged, name, number)?;
+    Ok(violation_line(alloc, name, number, fault, &mend)?)
+}
+
+// The line of a verdict on a reference.
+fn told_line<R: Keeper>(
+    alloc: Global,
+    keeper: &mut R,
+    judged: &JudgedLog,
+    name: &RefName,
+    verdict: &RefVerdict,
+) -> Result<Octets, KeeperFault>
+    ensures line { IfOk result (λ line. (r : Repository) → R.content keeper.new ≡ Some r
+        → (log : List Taken) → StandsFor log judged.now
+        → line ≡ told_line (real_rules judged.now.engine.rules.anchor) log r name.now verdict.now) }
+    ensures same { Undisturbed R.Keeper keeper.old keeper.new }
+    ensures cause { HasCause keeper_failed (R.faults keeper.old) (R.faults keeper.new) result }
+    ensures reads { is_accepted verdict.now ≡ true → R.reads keeper.new ≡ R.reads keeper.old }
+{
+    match verdict {
+        Verdict::Violation { number, fault } => {
+            mended_line(alloc, keeper, judged, name, *number, fault)
+        }
+        Verdict::Accepted { count: _ } => Ok(verdict_line(alloc, name, verdict)?),
+        Verdict::TipDiffers {
+            kept: _,
+            recorded: _,
+        } => Ok(verdict_line(alloc, name, verdict)?),
+    }
+}
+
+/// The line of JSON that tells the verdict on a reference by a judged log, and for a violation what mends it: where the store
+/// still holds the repository that was judged, the verdict of `verify_ref::verify`. It reads the reference's value, and no object
+/// where the verdict is `accepted`.
 pub fn tell_verdict<R: Keeper>(
     alloc: Global,
     keeper: &mut R,
@@ -52,17 +105,17 @@ pub fn tell_verdict<R: Keeper>(
         → IsToldVerdict judged.now.engine.rules.anchor r name.now told.line told.accepted) }
     ensures same { Undisturbed R.Keeper keeper.old keeper.new }
     ensures cause { HasCause keeper_failed (R.faults keeper.old) (R.faults keeper.new) result }
-    ensures reads { R.reads keeper.new ≡ R.reads keeper.old }
+    ensures reads { IfOk result (λ told. told.accepted ≡ true → R.reads keeper.new ≡ R.reads keeper.old) }
 {
     let verdict = match judged.engine.verdict(alloc, keeper, name) {
         Ok(verdict) => verdict,
         Err(fault) => return Err(fault),
     };
-    match verdict_line(alloc, name, &verdict) {
+    match told_line(alloc, keeper, judged, name, &verdict) {
         Ok(line) => Ok(ToldVerdict {
             line,
             accepted: is_accepted(&verdict),
         }),
-        Err(_) => Err(KeeperFault::Memory),
+        Err(fault) => Err(fault),
     }
 }
