@@ -1,0 +1,4 @@
+pub mod Looks
+pub mod Sittings
+pub mod Pushed
+pub mod Streamed
