@@ -1,0 +1,2 @@
+-- a repository's stream as one text in memory
+pub mod Texts
