@@ -1,3 +1,6 @@
 pub mod Engines
 pub mod Standing
-pub mod Judged
+pub mod Verdicts
+pub mod Desks
+pub mod Streams
+pub mod Refusals

@@ -4,6 +4,10 @@
 
 #![tactic(auto)]
 
+mod asked;
+mod judged;
+pub mod laws;
 mod shops;
 
+pub use judged::Judged;
 pub use shops::Shop;

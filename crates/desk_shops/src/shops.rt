@@ -1,6 +1,6 @@
 //! Shops.
 
-ghost use Rattle.std.specs.Prelude.{◌≡◌, ◌<◌, Some, None, unwrap_or, IfErr, IfOk};
+ghost use Rattle.std.specs.Prelude.{◌≡◌, ◌<◌, true, Some, None, unwrap_or, IfErr, IfOk};
 ghost use Rattle.std.specs.Option.{is_some};
 ghost use Rattle.octets.specs.Causes.{HasCause};
 ghost use Rattle.git_object.specs.Ids.{zeros};
@@ -13,8 +13,10 @@ ghost use Rattle.desk_steps.specs.Steps.{tip_of};
 ghost use Rattle.desk_log.specs.Settling.{is_unsettled, settled_as};
 ghost use Rattle.desk_log.specs.States.{answered, is_fault};
 ghost use Rattle.desk_core.specs.Loading.{IsUnjudged};
-ghost use Rattle.desk_histories.specs.Legal.{rows};
+ghost use Rattle.desk_histories.specs.Legal.{last, rows};
+ghost use Rattle.stream_texts.specs.Texts.{IsTextOf, text_keeper_failed};
 ghost use Rattle.desk_shops.specs.Calls.{IsLeftAlone, Opens, Replies, StandsAfterPush, StandsAfterSettling};
+ghost use Rattle.desk_shops.specs.Desks.{done_reply};
 ghost use Rattle.desk_shops.specs.Standing.{IsVerdictOf, Stands};
 
 use desk_core::DeskState;
@@ -23,9 +25,11 @@ use desk_log::Settled;
 use desk_steps::Reply;
 use git_object::{ObjectId, RefName};
 use keeper_api::Keeper;
+use octets::Octets;
 use pushes::Push;
 use rsl_chain::LogFault;
 use std::alloc::Global;
+use stream_texts::{TextFault, stream_text};
 use verify_ref::RefVerdict;
 
 /// A store, and the state of a desk beside it: its log, an entry in doubt, and an engine that lags behind the log.
@@ -105,6 +109,7 @@ impl<R: Keeper> Shop<R> {
             → StandsAfterPush R.Keeper self.new.keeper self.new.state h push.now seat result }
         ensures replies { (h : History) → Stands R.Keeper self.old.keeper self.old.state h
             → Replies R.Keeper self.new.keeper h push.now result }
+        ensures clear { done_reply result ≡ true → self.new.state.log.doubt ≡ None }
         ensures cause { HasCause is_fault (R.faults self.old.keeper) (R.faults self.new.keeper) (answered result) }
     {
         self.state.step(alloc, &mut self.keeper, seat, push)
@@ -127,5 +132,19 @@ impl<R: Keeper> Shop<R> {
         ensures cause { HasCause log_failed (R.faults self.old.keeper) (R.faults self.new.keeper) result }
     {
         self.state.verdict(alloc, &mut self.keeper, name)
+    }
+
+    /// The stream of the last repository as one text, of 256 MiB at most.
+    pub fn stream(&mut self, alloc: Global) -> Result<Octets, TextFault>
+        requires clear { self.old.state.log.doubt ≡ None }
+        ensures stands { (h : History) → Stands R.Keeper self.old.keeper self.old.state h
+            → Stands R.Keeper self.new.keeper self.new.state h }
+        ensures told { (h : History) (r : Repository) → Stands R.Keeper self.old.keeper self.old.state h
+            → R.content self.new.keeper ≡ Some r → (last h ≡ Some r) × IsTextOf r result }
+        ensures state { self.new.state ≡ self.old.state }
+        ensures same { Undisturbed R.Keeper self.old.keeper self.new.keeper }
+        ensures cause { HasCause text_keeper_failed (R.faults self.old.keeper) (R.faults self.new.keeper) result }
+    {
+        stream_text(alloc, &mut self.keeper)
     }
 }

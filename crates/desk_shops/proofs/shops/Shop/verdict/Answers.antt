@@ -1,4 +1,4 @@
-use Rattle.desk_shops.proofs.Judged.{verdict_judged, verdict_stands, verdict_unbroken}
+use Rattle.desk_shops.proofs.Verdicts.{verdict_judged, verdict_stands, verdict_unbroken}
 use Rattle.desk_shops.proofs.shops.Shop.verdict.Goals as goal
 
 pub returns-clause-stands : goal.returns-clause-stands
