@@ -40,15 +40,16 @@ _git_gittuf() {
         return
     fi
     case ${COMP_WORDS[at + 1]} in
-        setup) _gittuf_reply -W "--anew --root $(git remote 2> /dev/null)" ;;
+        setup) _gittuf_reply -W "--anew --root --entry $(git remote 2> /dev/null)" ;;
         doctor) _gittuf_reply -W "--take --anyway --json $(git remote 2> /dev/null)" ;;
         key) _gittuf_reply -f -W '--file --height --width --bottom --id --public' ;;
-        record | recover | push) _gittuf_reply -W "--anyway $(_gittuf_branches)" ;;
+        push) _gittuf_reply -W "--anyway --remote $(_gittuf_branches)" ;;
+        record | recover) _gittuf_reply -W "--anyway $(_gittuf_branches)" ;;
         approve) _gittuf_reply -W "--anyway --delete $(_gittuf_branches)" ;;
         sync) _gittuf_reply -W '--anyway --remote' ;;
-        verify) _gittuf_reply -W "--root --pinned -v --json $(_gittuf_branches) $(_gittuf_remote_branches)" ;;
+        verify) _gittuf_reply -W "--root --pinned --entry --remote -v --json $(_gittuf_branches) $(_gittuf_remote_branches)" ;;
         log) _gittuf_reply -W '-v --json' ;;
-        report) _gittuf_reply -f -W '-o --root --pinned' ;;
+        report) _gittuf_reply -f -W '-o --root --pinned --entry --remote' ;;
         explain) _gittuf_reply -f -W "-v --json $(_gittuf_branches)" ;;
         mirror) _gittuf_reply -f -W "--into $(git remote 2> /dev/null)" ;;
         evidence) _gittuf_reply -f -W '-o --check --from --key' ;;

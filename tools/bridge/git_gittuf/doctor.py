@@ -5,10 +5,11 @@ import os
 import stat
 
 import stream_format
-from git_gittuf import following, history, keys, leaves, names, remotes, seen, signers
+from git_gittuf import following, history, hook_calls, keys, leaves, names, otherwise, remotes, seen, signers, verifying, withheld
 from git_gittuf.remotes import beside
 from git_gittuf.repository import ATTESTATIONS, LOG, POLICY, ZEROS, Stopped
 from git_gittuf.shown import plain, quoted
+from git_gittuf.telling import say
 
 
 def of_key(repository):
@@ -101,6 +102,11 @@ def of_unrecorded(work, entries):
             yield f"{shown} of {remote} stands at {value.decode()[:12]}, which no entry recorded, and is not followed", mends
 
 
+def of_settings(repository):
+    if repository.config(hook_calls.ANYWAY, "--type=bool")[-1:] == ["true"]:
+        yield f"{hook_calls.ANYWAY} is set, so the hook of this clone refuses no push", f"git config --unset-all {hook_calls.ANYWAY}"
+
+
 def of_names(repository):
     for name in repository.all_references():
         if not stream_format.is_reference_name(name):
@@ -121,12 +127,21 @@ def of_log(work, status, printed):
     if POLICY not in references:
         yield "there is no policy, so nothing is lawful", "git gittuf policy init <your name>"
     entries = history.entries(printed)
+    yield from (withheld.sentence(number, target) for number, _, target in withheld.lacking(work))
     yield from of_unrecorded(work, entries)
-    last = {rest[0]: rest[1] for _, _, kind, rest in entries if kind == b"ref"}
+    last, there = {rest[0]: rest[1] for _, _, kind, rest in entries if kind == b"ref"}, names.places_at_remotes(repository, references)
     for name, target in last.items():
-        if references.get(name, ZEROS) != target and not names.in_place_of(repository, references, name):
+        stand = [references[name]] if name in references else [it.value for it in there.get(name, [])]
+        if target not in (stand or [ZEROS]):
             word = names.short(name)
             yield f"{word} stands elsewhere than it was recorded last", f"git gittuf verify {quoted(word)}"
+    found = names.all_of(repository, list(last), lambda them: verifying.protected_of(work, them))
+    for name in dict.fromkeys(it.name for it in found if it.name not in last):
+        word = names.short(name)
+        yield f"a rule protects {word}, and no entry records where it stands", f"git gittuf verify {quoted(word)}"
+    for it in verifying.elsewhere(work, found):
+        word = os.fsdecode(names.remote_branch(it.name, it.remote)[len(names.REMOTES) :])
+        yield f"{word} stands where no entry has it", f"git gittuf verify {quoted(word)}"
 
 
 def doctor(work, words):
@@ -140,10 +155,12 @@ def doctor(work, words):
         work.copy()
         return 0
     status, printed = work.read("log")
-    found = [*of_key(work.repository), *of_remotes(work, not status), *of_names(work.repository)]
+    found = [*of_key(work.repository), *of_remotes(work, not status), *of_names(work.repository), *of_settings(work.repository)]
     found += of_log(work, status, printed)
+    found += filter(None, [otherwise.replaced(work.repository)])
     for what, mends in found:
         print(json.dumps({"mends": mends, "what": what}) if words.json else plain(f"{what}: {mends}"))
     if not found and not words.json:
         print("all is well")
+        say("That is of this clone: git gittuf verify says whether each change was lawful.")
     return 1 if found else 0

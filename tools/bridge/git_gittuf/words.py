@@ -16,8 +16,8 @@ records each change, and everyone can verify both in a clone of one's own. Branc
 
 Begin
   setup [REMOTE]                make the store beside Git's objects, and let git fetch and git push carry what is below
-      [--root KEYID,..]         refs/gittuf/ from and to the remote; --root keeps whose the first policy must be; --anew
-      [--anew]                  makes the store again from nothing
+      [--root KEYID,..]         refs/gittuf/ from and to the remote; --root keeps whose the first policy must be, --entry
+      [--entry ID] [--anew]     an entry that the log must have; --anew makes the store again from nothing
   key [--file PATH]             make a key, or print the line of the one that is there; PATH becomes gittuf.key, which
       [--height H] [--width W]  is ~/.local/share/gittuf/key where it is not set; with --bottom it has two levels, of
       [--bottom H]              these heights; --id and --public print a word of it
@@ -54,16 +54,19 @@ Every day
   recover BRANCH [--anyway]     lead out of a violation: sign the skips, say which files are wanted, and then record
   verify [BRANCH ..]            say whether each change was lawful; with no name, of all that the log speaks of and of
       [--root KEYID,..]         each branch and tag that a rule protects. A remote's branch stands for one that is not
-      [--pinned]                here, and is named as origin/main. The first policy must have the keys of --root, or
-      [-v] [--json]             those that setup --root kept, which --pinned demands, or else those that it was seen
-                                to have here first. -v tells of each entry who signed and who approved it, when, and
-                                of a violation who is missing
+      [--pinned]                here, and is named as origin/main; one that stands where no entry has it is judged beside
+      [--entry ID]              the one here. --remote R judges the branches of R in place of those here. The first
+      [--remote R]              policy must have the keys of --root, or those that setup --root kept, which --pinned
+      [-v] [--json]             demands, or else those that it was seen to have here first; --entry says which entry
+                                the log must have. -v tells of each entry who signed and who approved it, when, and of
+                                a violation who is missing
   skip ENTRY .. [-m TEXT]       sign that entries, by number or id, are to be skipped
       [--anyway]
   note ENTRY .. [-m TEXT]       sign a note on entries
   log [-v | --json]             print the log, a line for each entry; -v and --json say who signed it, when, and what it says
   report [-o FILE]              write a page of HTML for an auditor: the verdicts, the log with who signed it, the policy,
       [--root ..] [--pinned]    and what this rests on
+      [--entry ..] [--remote R]
   explain NAME [-v] [--json]    print the rules that protect a branch or a path; -v and --json say whom they ask
   export                        print the stream of the store, without the content of files
   mirror REMOTE [--into STORE]  offer what a remote, or a repository at a path, has to a mirror: a store whose log only
@@ -150,6 +153,13 @@ def key_ids(text):
     return ",".join(ids)
 
 
+def entry_id(text):
+    """The whole id of an entry, since a part of one could be met by trying."""
+    if not re.fullmatch("[0-9a-f]{64}", text):
+        raise argparse.ArgumentTypeError(f"{text!r} is no id of an entry: git gittuf log prints them, of 64 digits")
+    return text
+
+
 def key_words(it):
     it.add_argument("--file")
     it.add_argument("--bottom")
@@ -197,6 +207,7 @@ def words_of_begin(take):
     take["setup"].add_argument("remote", nargs="?")
     take["setup"].add_argument("--anew", action="store_true")
     take["setup"].add_argument("--root", type=key_ids)
+    take["setup"].add_argument("--entry", type=entry_id)
     key_words(take["key"])
     take["doctor"].add_argument("--take", metavar="REMOTE", nargs="?", const="")
     take["doctor"].add_argument("--json", action="store_true")
@@ -236,6 +247,8 @@ def words_of_judging(take):
     for name in ("verify", "report"):
         take[name].add_argument("--root", type=key_ids)
         take[name].add_argument("--pinned", action="store_true")
+        take[name].add_argument("--entry", type=entry_id)
+        take[name].add_argument("--remote")
     take["log"].set_defaults(work=listing.log)
     for name in ("verify", "log", "explain"):
         take[name].add_argument("-v", "--verbose", action="store_true")
