@@ -36,15 +36,17 @@ _git_gittuf() {
         at=$((at + 1))
     done
     if [ "$((COMP_CWORD - at))" -le 1 ]; then
-        _gittuf_reply -W 'setup key policy record approve verify recover push sync skip note log explain report export mirror evidence doctor hook'
+        _gittuf_reply -W 'setup key policy record approve verify recover push fetch sync skip note log explain report export mirror evidence doctor hook'
         return
     fi
     case ${COMP_WORDS[at + 1]} in
         setup) _gittuf_reply -W "--anew --root $(git remote 2> /dev/null)" ;;
         doctor) _gittuf_reply -W "--take --anyway --json $(git remote 2> /dev/null)" ;;
         key) _gittuf_reply -f -W '--file --height --width --bottom --id --public' ;;
-        record | recover | push) _gittuf_reply -W "--anyway $(_gittuf_branches)" ;;
+        record | recover) _gittuf_reply -W "--anyway $(_gittuf_branches)" ;;
         approve) _gittuf_reply -W "--anyway --delete $(_gittuf_branches)" ;;
+        push) _gittuf_reply -W "--anyway --remote --desk $(_gittuf_branches)" ;;
+        fetch) _gittuf_reply -W '--desk --remote' ;;
         sync) _gittuf_reply -W '--anyway --remote' ;;
         verify) _gittuf_reply -W "--root --pinned -v --json $(_gittuf_branches) $(_gittuf_remote_branches)" ;;
         log) _gittuf_reply -W '-v --json' ;;

@@ -7,6 +7,7 @@ mod conditions;
 mod ending_answers;
 mod endless;
 mod entry_answers;
+mod global_answers;
 mod lines;
 mod outside;
 mod policy_answers;

@@ -9,9 +9,11 @@
 //!     tree <mode> <path> LF   the tree of one listed path
 //!     state <id> LF           the state of a target in the row's store
 //!     changes <id> <id> LF    the paths that differ between two targets in it
+//!     global <name> LF        the verdict on a reference in it by global rules
 
 use crate::ending_answers::{Asked, ending_text};
 use crate::entry_answers::entry_text;
+use crate::global_answers::global_text;
 use crate::policy_answers::{root_text, rules_text};
 use crate::state_answers::{changes_text, state_text, tree_text};
 use crate::stream_answers::stream_text;
@@ -32,6 +34,7 @@ pub enum Question<'a> {
     Tree { listed: &'a [u8] },
     State { target: &'a [u8] },
     Changes { from: &'a [u8], to: &'a [u8] },
+    Global { name: &'a [u8] },
 }
 
 /// The question that a word and the rest of its line are.
@@ -55,6 +58,7 @@ pub fn question_of<'a>(word: &[u8], rest: &'a [u8]) -> Option<Question<'a>> {
             let (from, to) = split_word(rest)?;
             Some(Question::Changes { from, to })
         }
+        b"global" => Some(Question::Global { name: rest }),
         _ => None,
     }
 }
@@ -106,5 +110,6 @@ pub fn answer(
         Question::Tree { listed } => of_tree(alloc, listed),
         Question::State { target } => of_state(alloc, target, keeper),
         Question::Changes { from, to } => of_changes(alloc, from, to, keeper),
+        Question::Global { name } => global_text(alloc, keeper, name),
     }
 }

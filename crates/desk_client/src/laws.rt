@@ -1,0 +1,18 @@
+//! What holds of requests and replies.
+
+ghost use Rattle.desk_client.specs.Laws.{OneCause, OneReading, OneRequest};
+
+/// Bytes are one reply at most.
+pub fn one_reading()
+    ensures { OneReading }
+{}
+
+/// No reply is bad, and what is bad is so for one cause alone.
+pub fn one_cause()
+    ensures { OneCause }
+{}
+
+/// Each push has a request of its own.
+pub fn one_request()
+    ensures { OneRequest }
+{}

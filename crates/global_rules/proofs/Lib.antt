@@ -1,0 +1,4 @@
+mod Maxima
+mod Paths
+pub mod Kept
+pub mod Same
