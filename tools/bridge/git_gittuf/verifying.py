@@ -4,7 +4,7 @@ import functools
 import json
 import os
 
-from git_gittuf import accounts, copying, damage, history, names, sentences, trust
+from git_gittuf import accounts, copying, damage, history, names, policies, sentences, trust
 from git_gittuf.remotes import is_before
 from git_gittuf.repository import LOG, Stopped
 from git_gittuf.settings import SEEN
@@ -34,6 +34,14 @@ def verdict(work, meant, root):
     asked = ("verify-ref", os.fsdecode(meant.name), *(() if root is None else ("--root", root)))
     value = meant.value or (None if copying.is_own(meant.name) else work.repository.references().get(meant.name))
     return work.read(*asked, at=(meant.name, value) if value else None)
+
+
+def global_verdict(work, meant, root):
+    """The program's status and line on a reference by global rules, where the policy in force has a file of them."""
+    if copying.is_own(meant.name) or not policies.in_force(work).global_file:
+        return 0, b""
+    asked = ("verify-global", os.fsdecode(meant.name), *(() if root is None else ("--root", root)))
+    return work.read(*asked)
 
 
 def unspeakable(work):
@@ -111,5 +119,9 @@ def verify(work, words):
         else:
             say(said)
         worst = max(worst, status)
+        if status < 2:
+            status, printed = global_verdict(work, it, root)
+            show(printed)
+            worst = max(worst, status)
     # A log that does not fit is of somebody who was shown another one.
     return max(worst, 3) if any(name == LOG for _, name, _ in work.unfit) else worst

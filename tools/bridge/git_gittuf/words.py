@@ -37,6 +37,10 @@ The policy, edited at refs/gittuf/policy-staging until it is applied
       [--[no-]terminating]      --remove takes it out. With --file NAME it stands in the file that goes on from the rule
       [--before RULE]           NAME, whose persons sign that file. The rules root and targets have no pattern: they say
       [--file NAME] [--remove]  who signs the policy, and its rules
+  policy global threshold       what holds whatever the rules delegate: for what the patterns match never fewer than N
+      NAME N PATTERN..          persons of a rule sign, and a reference never goes back; --remove NAME takes such a rule
+  policy global no-rewind       out. Who signs the root signs the file of these rules, and verify says where one is broken
+      NAME PATTERN..
   policy show [--json]          print the policy in force, what is edited, who signed that, and its id
   policy sign [--id ID]         print what is edited and sign it: at a terminal it asks before, and elsewhere it wants
                                 the id of what policy show printed
@@ -93,7 +97,7 @@ WORDS = (
     "setup", "key", "doctor", "record", "approve", "verify", "recover", "push", "sync", "skip", "note", "log", "explain",
     "report", "export", "mirror", "evidence", "policy", "hook",
 )  # fmt: skip
-STEPS = ("init", "person", "rotate", "rule", "show", "sign", "discard", "apply")
+STEPS = ("init", "person", "rotate", "rule", "global", "show", "sign", "discard", "apply")
 
 
 class Parser(argparse.ArgumentParser):
@@ -105,7 +109,7 @@ class Parser(argparse.ArgumentParser):
 
 
 def policy_words(parser):
-    words = parser.add_subparsers(dest="step", required=True, metavar="init, person, rotate, rule, show, sign, discard or apply")
+    words = parser.add_subparsers(dest="step", required=True, metavar="init, person, rotate, rule, global, show, sign, discard or apply")
     it = words.add_parser("init")
     it.add_argument("name")
     it.set_defaults(work=policy_edits.init)
@@ -125,6 +129,10 @@ def policy_words(parser):
     it.add_argument("--file", metavar="NAME")
     it.add_argument("--remove", action="store_true")
     it.set_defaults(work=policy_edits.rule)
+    it = words.add_parser("global")
+    it.add_argument("given", nargs="*")
+    it.add_argument("--remove", metavar="NAME")
+    it.set_defaults(work=policy_edits.global_rule)
     it = words.add_parser("rotate")
     it.add_argument("name")
     it.add_argument("public", nargs="*")
