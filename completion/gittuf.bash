@@ -1,5 +1,5 @@
-# Completion of bash for gittuf and git gittuf. It goes into bash-completion's folder under the names gittuf and
-# git-gittuf, where it and git's own completion find it, or is sourced.
+# Completion of bash for gittuf, gittuf-inspect and git gittuf. It goes into bash-completion's folder under these names,
+# with git-gittuf for the last, where it and git's own completion find it, or is sourced.
 
 _gittuf_reply() { mapfile -t COMPREPLY < <(compgen "$@" -- "$cur"); }
 
@@ -29,6 +29,24 @@ _gittuf() {
     esac
 }
 
+# The program gittuf-inspect: a store, a word and what it takes.
+_gittuf_inspect() {
+    local cur=${COMP_WORDS[COMP_CWORD]}
+    case $COMP_CWORD in
+        1) _gittuf_reply -d -S / -W -; compopt -o nospace 2> /dev/null ;;
+        2) _gittuf_reply -W 'log verdicts would used policy' ;;
+        *)
+            case ${COMP_WORDS[2]} in
+                log) _gittuf_reply -W '--root --from' ;;
+                verdicts) _gittuf_reply -W "$(_gittuf_references) --root" ;;
+                would) _gittuf_reply -W "$(_gittuf_references) --key --root --annotate" ;;
+                used) _gittuf_reply -W '--key --root' ;;
+                policy) _gittuf_reply -W '--root --at --against' ;;
+            esac
+            ;;
+    esac
+}
+
 # The words after git gittuf, or after git-gittuf.
 _git_gittuf() {
     local cur=${COMP_WORDS[COMP_CWORD]} at=0
@@ -36,15 +54,17 @@ _git_gittuf() {
         at=$((at + 1))
     done
     if [ "$((COMP_CWORD - at))" -le 1 ]; then
-        _gittuf_reply -W 'setup key policy record approve verify recover push sync skip note log explain report export mirror evidence doctor hook'
+        _gittuf_reply -W 'setup key policy record approve verify recover push fetch sync skip note log explain report export mirror evidence doctor hook'
         return
     fi
     case ${COMP_WORDS[at + 1]} in
         setup) _gittuf_reply -W "--anew --root $(git remote 2> /dev/null)" ;;
         doctor) _gittuf_reply -W "--take --anyway --json $(git remote 2> /dev/null)" ;;
         key) _gittuf_reply -f -W '--file --height --width --bottom --id --public' ;;
-        record | recover | push) _gittuf_reply -W "--anyway $(_gittuf_branches)" ;;
+        record | recover) _gittuf_reply -W "--anyway $(_gittuf_branches)" ;;
         approve) _gittuf_reply -W "--anyway --delete $(_gittuf_branches)" ;;
+        push) _gittuf_reply -W "--anyway --remote --desk $(_gittuf_branches)" ;;
+        fetch) _gittuf_reply -W '--desk --remote' ;;
         sync) _gittuf_reply -W '--anyway --remote' ;;
         verify) _gittuf_reply -W "--root --pinned -v --json $(_gittuf_branches) $(_gittuf_remote_branches)" ;;
         log) _gittuf_reply -W '-v --json' ;;
@@ -71,4 +91,5 @@ _git_gittuf() {
 }
 
 complete -F _gittuf gittuf ./gittuf
+complete -F _gittuf_inspect gittuf-inspect
 complete -F _git_gittuf git-gittuf

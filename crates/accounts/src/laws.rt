@@ -1,6 +1,7 @@
 //! Laws over the definitions of this crate. No call needs these functions: their contracts are the laws.
 
 ghost use Rattle.accounts.specs.Laws.{EpochGreatest, OneLine, OneVerdictLine};
+ghost use Rattle.accounts.specs.Skips.{AsSkipped};
 
 use rsl_chain::laws::logs;
 
@@ -21,4 +22,10 @@ pub fn one_verdict_line()
 /// The epoch that is told of an entry is the last entry before it that brought a policy into force.
 pub fn epoch_greatest()
     ensures { EpochGreatest }
+{}
+
+/// What is told of an entry that an annotation would skip is what it does, once it is recorded behind the log, signed by
+/// that key.
+pub fn as_skipped()
+    ensures { AsSkipped }
 {}

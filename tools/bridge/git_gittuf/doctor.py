@@ -61,14 +61,16 @@ def of_remotes(work, is_whole):
     found = remotes.remotes(repository)
     if not found:
         yield "there is no remote, so nobody gets the log from here", "git remote add origin <where> && git gittuf setup"
-    for remote in found:
+    for remote in remotes.of_git(repository):
         if remotes.lacking(repository, remote):
             yield f"git push and git fetch do not carry the log to and from {remote}", f"git gittuf setup {quoted(remote)}"
     unfit = {(remote, name): how for remote, name, how in work.unfit}
     for remote, name, own, value, how in remotes.standing(repository, repository.references()):
         shown, how = name.decode(), unfit.get((remote, name), how)
         take, back = f"git gittuf doctor --take {quoted(remote)}", set_back(remote, shown, value)
-        if how in ("same", "ahead") and name == LOG and value:
+        if remotes.is_desk(repository, remote) and how == "ahead":
+            how = "same"
+        elif how in ("same", "ahead") and name == LOG and value:
             how = "dropped" if remotes.asked_log(repository, remote) == (True, None) else how
         if how in ("back", "dropped"):
             yield from of_lost(work, remote, value, how)

@@ -100,6 +100,13 @@ class Repository:
     def git(self, *words, input=b""):
         return git(*self.where, *words, input=input)
 
+    def git_of(self, file, *words):
+        """The same with an open file as standard input."""
+        with Git(*self.where, *words, input=file) as ran:
+            output = ran.output.read()
+            status, said = ran.end()
+        return status, output, said
+
     def asked(self, what, *words, input=b""):
         """What git prints, or the end of the call where it fails."""
         status, output, said = self.git(*words, input=input)
@@ -201,6 +208,10 @@ class Repository:
     @functools.cache
     def remotes(self):
         return [os.fsdecode(it) for it in self.asked("list the remotes", "remote").splitlines()]
+
+    def forget_remotes(self):
+        """Lets the remotes be listed anew, after one was made."""
+        Repository.remotes.cache_clear()
 
     def head(self):
         """The reference that HEAD names, or nothing where it names a commit alone."""

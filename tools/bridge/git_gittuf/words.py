@@ -3,7 +3,7 @@
 import argparse
 import re
 
-from git_gittuf import commands, doctor, dossiers, explaining, hook_calls, hooks, listing, mirroring, policy_commands, policy_edits, pushing
+from git_gittuf import commands, desk_fetching, doctor, dossiers, explaining, hook_calls, hooks, listing, mirroring, policy_commands, policy_edits, pushing
 from git_gittuf import recovering, reporting, verifying
 from git_gittuf.repository import Stopped
 from git_gittuf.shown import plain
@@ -50,6 +50,10 @@ Every day
       [--delete] [--anyway]     that it may be gone, where a rule wants that of the key here
   push [BRANCH ..]              push these or the branch that is checked out, and what else is recorded since, with the
       [--remote R] [--anyway]   log, all or nothing; where another was faster it does what sync does, and pushes again
+  push --desk PORT              send the entries that the desk at this port of this machine lacks, in their order, and say
+                                for each what it answers; status 7 where it does not take one
+  fetch --desk PORT             bring what the desk has, as a remote has it, which is named desk or NAME; git fetch and
+      [--remote NAME]           git push do not talk with a desk
   sync [--remote R] [--anyway]  fetch, and where another recorded first, record what is still lawful after that anew
   recover BRANCH [--anyway]     lead out of a violation: sign the skips, say which files are wanted, and then record
   verify [BRANCH ..]            say whether each change was lawful; with no name, of all that the log speaks of and of
@@ -90,7 +94,7 @@ what was asked for, 4 what is outside, as a repository that is none, or another 
 
 
 WORDS = (
-    "setup", "key", "doctor", "record", "approve", "verify", "recover", "push", "sync", "skip", "note", "log", "explain",
+    "setup", "key", "doctor", "record", "approve", "verify", "recover", "push", "fetch", "sync", "skip", "note", "log", "explain",
     "report", "export", "mirror", "evidence", "policy", "hook",
 )  # fmt: skip
 STEPS = ("init", "person", "rotate", "rule", "show", "sign", "discard", "apply")
@@ -148,6 +152,13 @@ def key_ids(text):
         if not re.fullmatch("[0-9a-f]{64}", it):
             raise argparse.ArgumentTypeError(f"{it!r} is no id of a key: git gittuf key --id prints one, of 64 digits")
     return ",".join(ids)
+
+
+def port(text):
+    """A port by its number."""
+    if not re.fullmatch("[1-9][0-9]{0,4}", text) or int(text) > 65535:
+        raise argparse.ArgumentTypeError(f"{text!r} is no port: 1 to 65535 are")
+    return int(text)
 
 
 def key_words(it):
@@ -214,6 +225,10 @@ def words_of_signing(take):
     for name in ("push", "sync"):
         take[name].add_argument("--remote")
         take[name].set_defaults(work=getattr(pushing, name))
+    take["fetch"].add_argument("--remote", metavar="NAME")
+    take["fetch"].set_defaults(work=desk_fetching.fetch)
+    for name in ("push", "fetch"):
+        take[name].add_argument("--desk", type=port, metavar="PORT", required=name == "fetch")
     for name in ("skip", "note"):
         annotate_words(take[name])
         take[name].set_defaults(work=commands.annotate)
