@@ -1,0 +1,2 @@
+-- the objects that go with an entry
+pub mod Reached
