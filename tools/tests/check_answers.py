@@ -87,7 +87,57 @@ def believes_no_damage(repositories):
     want((output, b"the store was damaged" in errors), (f"accepted {MAIN} 1 entries\n".encode(), True), "what a copy answers")
 
 
+def keeps_what_it_rests_on(repositories):
+    """an answer is kept for just the log, the reference and the store that it was given over: not while these change, nor for others"""
+    clones = another(repositories, "answers by ids")
+    tool, asked = counting(clones, "counted")
+    judged = lambda *words: run(sys.executable, tool, "verify", *words, folder=clones.path("bob"))[:2]
+    root, accepted = clones.gittuf("alice", "key", "--id").decode().strip(), (0, f"accepted {MAIN} 1 entries\n".encode())
+    want((judged("main"), judged("main", "--root", root)), (accepted, accepted), "the verdicts at first")
+    times_asked(asked)
+    # What neither the log nor that branch has to do with asks nothing again.
+    clones.git("branch", "topic", who="bob")
+    want((judged("main"), judged("main", "--root", root), times_asked(asked)), (accepted, accepted, 0), "the verdicts beside a new branch")
+    other = clones.gittuf("bob", "key", "--id").decode().strip()
+    want((judged("main", "--root", other), times_asked(asked)), ((1, f"violation {MAIN} 2 no-policy\n".encode()), 1), "the verdict with another root")
+    recorded, tip = clones.tip("bob"), clones.commit("bob")
+    line = f"tip-differs {MAIN} kept {tip} recorded {recorded}\n".encode()
+    want((judged("main"), times_asked(asked)), ((1, line), 1), "the verdict once the branch has moved")
+    clones.git("update-ref", MAIN, recorded, who="bob")
+    want((judged("main"), times_asked(asked)), (accepted, 0), "the verdict once it is back")
+    clones.git("update-ref", MAIN, tip, who="bob")
+    changes_meanwhile(clones, "bob", clones.tip("bob", f"{recorded}^{{tree}}"), recorded)
+    want((judged("main"), times_asked(asked) > 0), ((1, line), True), "the verdict after one that was given while the store changed")
+
+
+# A call that judges a branch at a commit while a file of the store is touched, by whoever keeps to no lock.
+MEANWHILE = """
+import os, sys
+sys.dont_write_bytecode = True
+sys.path.insert(1, sys.argv[1])
+from git_gittuf import program
+from git_gittuf.work import Work
+work, ran = Work(True), program.run
+work.bring()
+def run(*words, **how):
+    found = ran(*words, **how)
+    os.utime(os.path.join(work.kept.objects, sys.argv[2]))
+    return found
+program.run = run
+name = b"refs/heads/main"
+print(work.read("verify-ref", name.decode(), at=(name, sys.argv[3].encode())), work.read("verify-ref", name.decode()))
+work.end()
+"""
+
+
+def changes_meanwhile(clones, who, tree, commit):
+    words = ("-c", MEANWHILE, os.path.join(TOP, "tools", "bridge"), tree, commit)
+    status, output, errors = run(sys.executable, *words, folder=clones.path(who))
+    want((status, output.count(b"accepted"), output.count(b"tip-differs")), (0, 1, 1), f"what is judged meanwhile: {output}{errors}")
+
+
 CHECKS = (
     asks_nothing_twice,
     believes_no_damage,
+    keeps_what_it_rests_on,
 )

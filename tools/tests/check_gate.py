@@ -173,6 +173,11 @@ def goes_on_after_a_vain_policy(repositories):
     clones.gittuf("alice", "policy", "apply")
     clones.git("push", "--quiet", "origin", f"+{POLICY}:{POLICY}", f"{LOG}:{LOG}", who="alice")
     clones.git("fetch", "--quiet", who="bob")
+    # Where the server has it no more nobody can tell it from one that is held back.
+    clones.refused("bob", "policy", "show", status=3, part="entry 3 recorded a policy that is not here")
+    clones.gittuf("alice", "skip", "3")
+    clones.git("push", "--quiet", "origin", f"{LOG}:{LOG}", who="alice")
+    clones.git("fetch", "--quiet", who="bob")
     want(b"rule docs" in clones.gittuf("bob", "policy", "show"), True, "whether the later policy is in force")
 
 

@@ -61,7 +61,7 @@ def reported(repositories, name):
 
 def tells_all(repositories):
     """the report has each verdict with the rule and who is missing, and each entry with who signed and approved it, and runs and fetches nothing"""
-    _, _, text = reported(repositories, "reported")
+    clones, _, text = reported(repositories, "reported")
     page = Page(text)
     want(page.outside, [], "what the page would run or fetch")
     want("default-src 'none'" in text, True, "whether the page forbids it too")
@@ -70,6 +70,13 @@ def tells_all(repositories):
     want((verdicts["main"][0], verdicts[ODD][0]), ("violation", "accepted"), "the verdicts")
     for part in ("git gittuf recover main", "rule main wants 1 of alice, bob: missing are alice, bob"):
         want(part in verdicts["main"][1], True, f"whether it says {part}: {verdicts['main'][1]}")
+    want(f"To lead out of it, skip 6, and record the files of {clones.tip('bob')[:12]}." in verdicts["main"][1], True, "whether it says the way out")
+    want("No rule protects " in verdicts[ODD][1], True, f"whether it says what no rule protects: {verdicts[ODD]}")
+    signed = {it[0]: it[1:3] for it in page.tables["people"][1:]}
+    key = clones.gittuf("mallory", "key", "--id").decode()[:12]
+    want(signed, {"alice": ["2", "0"], "bob": ["2", "1"], f"the key {key}": ["3", "0"]}, "who signed how much")
+    want(re.findall(r'<i style="left:[0-9.]+%">(\d+)</i>', text), ["6"], "which violations are marked below the policies")
+    want(clones.tip("mallory", "refs/gittuf/reference-state-log") in text, True, "whether it says the last entry")
     entries = page.tables["log"][1:]
     want([it[0] for it in entries], [str(it) for it in range(1, 8)], "the entries")
     want([it[2] for it in entries][:4], ["alice", "alice", "bob", "bob"], "who signed the first four")
@@ -102,4 +109,17 @@ def is_read_by_a_browser(repositories):
     return f"{pages} pages; a verdict on {MAIN} among {len(Page(text).tables['verdicts']) - 1}"
 
 
-CHECKS = (tells_all, is_read_by_a_browser)
+def tells_what_does_not_fit(repositories):
+    """the report says of a remote's log that went back, and of objects that Git shows in the place of others, before any verdict"""
+    clones = another(repositories, "report beside")
+    clones.gittuf("bob", "verify", "main")
+    clones.git("update-ref", "refs/gittuf/reference-state-log", clones.tip("bob", "refs/gittuf/reference-state-log~1"), who="server.git")
+    clones.git("fetch", "--quiet", who="bob")
+    clones.git("replace", clones.tip("bob"), clones.commit("bob"), who="bob")
+    clones.git("reset", "--quiet", "--hard", "main~1", who="bob")
+    text = clones.gittuf("bob", "report", status=3).decode()
+    for part in ("of origin went back from entry 2 to entry 1", "Git shows other objects here"):
+        want(part in text.partition("<h2>")[0], True, f"whether it says {part}: {text[:3000]}")
+
+
+CHECKS = (tells_all, tells_what_does_not_fit, is_read_by_a_browser)

@@ -89,6 +89,7 @@ fn opened(policy: Policy, fault: Option<PolicyFault>) -> Result<Policy, Fault>
 // What becomes of what was found of a policy under the one in force.
 fn epoch_by(
     alloc: Global,
+    known: &KnownSigners,
     anchor: &Option<KeyIds>,
     current: Option<&Policy>,
     found: Result<Policy, PolicyFault>,
@@ -98,7 +99,7 @@ fn epoch_by(
     match found {
         Err(why) => Ok(Err(Fault::NotEpoch { why })),
         Ok(policy) => {
-            let fault = succession_fault(alloc, anchor, current, &policy)?;
+            let fault = succession_fault(alloc, known, anchor, current, &policy)?;
             Ok(opened(policy, fault))
         }
     }
@@ -108,20 +109,21 @@ fn epoch_by(
 fn epoch<R: Keeper>(
     alloc: Global,
     keeper: &mut R,
-    anchor: &Option<KeyIds>,
+    rules: &EntryRules,
     current: Option<&Policy>,
     entry: &Entry,
 ) -> Result<Result<Policy, Fault>, KeeperFault>
     ensures epoch { IfOk result (λ epoch. (r : Repository) → R.content keeper.new ≡ Some r
-        → epoch ≡ epoch_by anchor.now (option_copied current.entry) (policy_of r (target_of entry.now.body))) }
+        → epoch ≡ epoch_by rules.now.anchor (option_copied current.entry) (policy_of r (target_of entry.now.body))) }
     ensures same { Undisturbed R.Keeper keeper.old keeper.new }
     ensures cause { HasCause keeper_failed (R.faults keeper.old) (R.faults keeper.new) result }
     ensures reads { (r : Repository) → R.content keeper.new ≡ Some r → R.reads keeper.new ≤ R.reads keeper.old
         + policy_reads r (target_of entry.now.body) }
 {
     let target = target_of(entry);
-    let found = check_policy(alloc, keeper, &target)?;
-    Ok(epoch_by(alloc, anchor, current, found)?)
+    let known = &rules.signed;
+    let found = check_policy(alloc, keeper, known, &target)?;
+    Ok(epoch_by(alloc, known, &rules.anchor, current, found)?)
 }
 
 // Whether two states that were compared have one tree.
@@ -186,7 +188,7 @@ impl<'a, R: Keeper> Judge<Policy, Fault, R> for KnowingRules<'a> {
         policy: Option<&Policy>,
         entry: &Entry,
     ) -> Result<Result<Policy, Fault>, JudgeFault> {
-        judged(epoch(alloc, store, &self.rules.anchor, policy, entry))
+        judged(epoch(alloc, store, self.rules, policy, entry))
     }
 
     fn find(

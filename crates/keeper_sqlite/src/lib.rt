@@ -13,6 +13,7 @@ mod schemas;
 mod sql_faults;
 mod sql_keepers;
 mod statements;
+mod table_columns;
 
 pub use columns::RowFault;
 pub use commits::{Made, make, try_make};

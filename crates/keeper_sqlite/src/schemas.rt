@@ -1,109 +1,16 @@
 //! Whether the tables of a database are those of the schema with number 1.
 
-ghost use Rattle.std.specs.Prelude.{◌≡◌, ◌↔◌, ◌<◌, [], ◌∷◌, ℕ, None, Some, IsTrue, false, length, slice_get, codes};
-ghost use Rattle.sqlite.specs.declared.types.Value.TheVariants.{Null};
+ghost use Rattle.std.specs.Prelude.{◌≡◌, ◌<◌, [], ◌∷◌, None, Some, IsTrue, false, slice_get, codes};
 ghost use Rattle.sqlite_value.specs.Keys.{plain};
-ghost use Rattle.keeper_sqlite.specs.Tables.{column_of, store_schema};
-ghost use Rattle.keeper_sqlite.specs.Schemas.{IsKeyed, IsSimple, automatic_of, facts_columns, objects_columns, refs_columns, table_at};
+ghost use Rattle.keeper_sqlite.specs.Tables.{store_schema};
+ghost use Rattle.keeper_sqlite.specs.Schemas.{IsKeyed, IsSimple, automatic_of, facts_columns, objects_columns};
+ghost use Rattle.keeper_sqlite.specs.Schemas.{refs_columns, table_at};
 
+use crate::table_columns::{are_facts_columns, are_objects_columns, are_refs_columns, is_name};
 use sqlite_items::Items;
 use sqlite_schema::code::Terms;
-use sqlite_schema::schema::{Column, Index, Kind, Schema, Stamps, Table};
-use sqlite_value::keys::{Collation, Order};
-use sqlite_value::value::{Bytes, Value};
-
-fn is_name(bytes: &Bytes, wanted: &[u8]) -> bool
-    ensures { IsTrue result ↔ (bytes.now ≡ wanted.now) }
-{
-    bytes.as_slice() == wanted
-}
-
-fn is_kind(kind: Kind, wanted: Kind) -> bool
-    ensures { IsTrue result ↔ (kind ≡ wanted) }
-{
-    kind == wanted
-}
-
-fn is_null(value: &Value) -> bool
-    ensures { IsTrue result ↔ (value.now ≡ Null) }
-{
-    matches!(value, Value::Null)
-}
-
-fn is_binary(collation: Collation) -> bool
-    ensures { IsTrue result ↔ (collation ≡ Collation.Binary) }
-{
-    matches!(collation, Collation::Binary)
-}
-
-fn is_column(column: &Column, name: &[u8], kind: Kind) -> bool
-    ensures { IsTrue result → column.now ≡ column_of name.now kind }
-{
-    if !is_name(&column.name, name) {
-        return false;
-    }
-    if !is_kind(column.kind, kind) {
-        return false;
-    }
-    if !column.is_strict {
-        return false;
-    }
-    if !column.not_null {
-        return false;
-    }
-    if !is_null(&column.default) {
-        return false;
-    }
-    is_binary(column.collation)
-}
-
-fn is_column_at(columns: &Items<Column>, at: usize, name: &[u8], kind: Kind) -> bool
-    ensures { IsTrue result → slice_get columns.now at ≡ Some (column_of name.now kind) }
-{
-    match columns.get(at) {
-        Some(column) => is_column(column, name, kind),
-        None => false,
-    }
-}
-
-fn are_objects_columns(columns: &Items<Column>) -> bool
-    ensures { IsTrue result → columns.now ≡ objects_columns }
-{
-    if columns.len() != 3 {
-        return false;
-    }
-    if !is_column_at(columns, 0, b"id", Kind::Blob) {
-        return false;
-    }
-    if !is_column_at(columns, 1, b"kind", Kind::Integer) {
-        return false;
-    }
-    is_column_at(columns, 2, b"body", Kind::Blob)
-}
-
-fn are_refs_columns(columns: &Items<Column>) -> bool
-    ensures { IsTrue result → columns.now ≡ refs_columns }
-{
-    if columns.len() != 2 {
-        return false;
-    }
-    if !is_column_at(columns, 0, b"name", Kind::Blob) {
-        return false;
-    }
-    is_column_at(columns, 1, b"id", Kind::Blob)
-}
-
-fn are_facts_columns(columns: &Items<Column>) -> bool
-    ensures { IsTrue result → columns.now ≡ facts_columns }
-{
-    if columns.len() != 2 {
-        return false;
-    }
-    if !is_column_at(columns, 0, b"name", Kind::Text) {
-        return false;
-    }
-    is_column_at(columns, 1, b"value", Kind::Integer)
-}
+use sqlite_schema::schema::{Index, Schema, Stamps, Table};
+use sqlite_value::keys::Order;
 
 // Whether the places are that of the first column alone.
 fn is_first(places: &Items<usize>) -> bool

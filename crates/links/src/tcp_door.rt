@@ -59,8 +59,8 @@ impl TcpDoor {
     }
 }
 
-// The two ends of a connection, with its limit in time.
-fn link_of(stream: TcpStream) -> io::Result<TcpLink> {
+/// The two ends of a connection, with its limit in time.
+pub(crate) fn link_of(stream: TcpStream) -> io::Result<TcpLink> {
     let wait = Some(Duration::from_secs(WAIT_SECONDS));
     stream.set_read_timeout(wait)?;
     stream.set_write_timeout(wait)?;

@@ -1,5 +1,6 @@
 -- What holds of what mends a violation.
-use Rattle.std.specs.Prelude.{◌≡◌, ◌<◌, ◌≤◌, ◌||◌, ◌++◌, ◌∷◌, [], ℕ, true, false, List, length, Some, None, nat_le, unwrap_or}
+use Rattle.std.specs.Prelude.{◌≡◌, ◌<◌, ◌≤◌, ◌||◌, ◌++◌, ◌∷◌, [], ℕ, true, false, List, length, Some, None}
+use Rattle.std.specs.Prelude.{nat_le, unwrap_or}
 use Rattle.git_object.specs.Ids.{zeros}
 use Rattle.rsl_chain.specs.Entries.{Taken}
 use Rattle.rsl_chain.specs.declared.entries.EntryBody.TheVariants.{Reference}
@@ -12,8 +13,8 @@ use Rattle.judging.specs.declared.verdicts.Verdict.TheVariants.{Accepted}
 use Rattle.mends.specs.Mends.{back_to, from_on}
 
 module _ {P F : Type 0} (rules : Rules P F) (log : List Taken) (name : List ℕ) (b : ℕ) where
-  -- behind the log stand more entries, none of them the reference's, and with them exactly those of its entries are skipped
-  -- that were, and those from the number on
+  -- behind the log stand more entries, none of them the reference's, and with them exactly those of its entries are
+  -- skipped that were, and those from the number on
   pub record SkipsFrom (more : List Taken) : Type 0 where
     pub others : (i : ℕ) → length log < i → is_entry_of (entry_at (log ++ more) i) name ≡ false
     pub exactly : (i : ℕ) → 0 < i → i ≤ length log → is_entry_of (entry_at log i) name ≡ true
@@ -25,7 +26,8 @@ module _ {P F : Type 0} (rules : Rules P F) (log : List Taken) (name : List ℕ)
     pub authorised : fault_of rules (log ++ more) (Some fix) ≡ None
     pub tree : same_tree rules fix.repository (unwrap_or (back_to rules log name b) zeros) target ≡ true
 
-  -- where the number is that of the reference's violation, the verdict on it is then `accepted`, where it stands at the target
+  -- where the number is that of the reference's violation, the verdict on it is then `accepted`, where it stands at the
+  -- target
   abbrev pub IsMending : Type 0
   IsMending = first_of (lane rules log name).pending ≡ Some b → (more : List Taken) (fix : Taken) (target : List ℕ)
       → SkipsFrom more → BringsBack more fix target

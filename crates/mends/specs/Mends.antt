@@ -1,4 +1,5 @@
--- What mends a violation of a reference: which of its entries are to be skipped, and which tree is then to be brought back.
+-- What mends a violation of a reference: which of its entries are to be skipped, and which tree is then to be brought
+-- back.
 use Rattle.std.specs.Prelude.{ℕ, List, Option, nat_le, nat_lt, unwrap_or, option_and_then}
 use Rattle.std.specs.List.{filter}
 use Rattle.git_object.specs.Ids.{zeros}

@@ -1,6 +1,6 @@
 -- The way back over a reference's entries: from its prior to the prior of that one then, and so on.
-use Rattle.std.specs.Prelude.{◌≡◌, ◌⊎◌, ◌==◌, ◌&&◌, ◌++◌, ◌<◌, ◌≤◌, ℕ, not, false, true, List, length, Option, Some, None, nat_le, nat_lt}
-use Rattle.std.specs.Prelude.{reverse, if◌then◌else◌, option_and_then}
+use Rattle.std.specs.Prelude.{◌≡◌, ◌⊎◌, ◌==◌, ◌&&◌, ◌++◌, ◌<◌, ◌≤◌, ℕ, not, false, true, List, length, Option, Some}
+use Rattle.std.specs.Prelude.{None, nat_le, nat_lt, reverse, if◌then◌else◌, option_and_then}
 use Rattle.std.specs.List.{filter}
 use Rattle.rsl_chain.specs.Entries.{Taken}
 use Rattle.judging.specs.Logs.{entry_at, is_entry_of, numbers, skipped, target_at, unskipped}
@@ -19,8 +19,8 @@ module _ {P F : Type 0} (rules : Rules P F) (log : List Taken) (name : List ℕ)
   abbrev pub up_to : ℕ → List ℕ
   up_to n = filter (λ i. is_entry_of (entry_at log i) name && not (skipped rules log i)) (numbers n)
 
-  -- the way has come to an entry of the reference, or to its front, at 0; this is the entry's target, and these are the numbers
-  -- from b on that were found on the way, the last of the log first
+  -- the way has come to an entry of the reference, or to its front, at 0; this is the entry's target, and these are the
+  -- numbers from b on that were found on the way, the last of the log first
   pub record IsWalked (at : ℕ) (from : Option (List ℕ)) (found : List ℕ) : Type 0 where
     pub within : at ≤ length log
     pub own : 0 < at → is_entry_of (entry_at log at) name ≡ true

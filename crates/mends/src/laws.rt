@@ -5,8 +5,8 @@ ghost use Rattle.rsl_chain.specs.Entries.{Taken};
 ghost use Rattle.judging.specs.Rules.{Rules};
 ghost use Rattle.mends.specs.Laws.{IsLeast, IsMending, IsNoWay};
 
-/// Where exactly those of the reference's entries are skipped more that are told, and an entry behind them is authorised and
-/// brings the tree back, the verdict on the reference is `accepted`.
+/// Where exactly those of the reference's entries are skipped more that are told, and an entry behind them is
+/// authorised and brings the tree back, the verdict on the reference is `accepted`.
 pub fn mending<P, F>()
     ensures { (rules : Rules P F) (log : List Taken) (name : List ℕ) (b : ℕ) → IsMending rules log name b }
 {}

@@ -7,6 +7,7 @@ ghost use Rattle.policy_epochs.specs.Standing.{Found, IsNext, Stands, verdict_of
 ghost use Rattle.policy_epochs.specs.Succession.{succession};
 
 use crate::{EpochVerdict, Policy, PolicyFault, succession_fault};
+use known_signers::KnownSigners;
 use octets::Memory;
 use root_metadata::KeyIds;
 use std::alloc::Global;
@@ -41,16 +42,22 @@ impl Epochs {
     }
 
     // The fault of what was found of an entry.
-    fn fault(&self, alloc: Global, policy: &Policy) -> Result<Option<PolicyFault>, Memory>
+    fn fault(
+        &self,
+        alloc: Global,
+        known: &KnownSigners,
+        policy: &Policy,
+    ) -> Result<Option<PolicyFault>, Memory>
         ensures { IfOk result (λ fault. fault ≡ succession self.now.anchor self.now.current policy.now) }
     {
-        succession_fault(alloc, &self.anchor, self.current.as_ref(), policy)
+        succession_fault(alloc, known, &self.anchor, self.current.as_ref(), policy)
     }
 
     // Keeps the policy where it takes effect.
     fn step(
         &mut self,
         alloc: Global,
+        known: &KnownSigners,
         found: Result<Policy, PolicyFault>,
     ) -> Result<EpochVerdict, Memory>
         ensures anchor { self.new.anchor ≡ self.old.anchor }
@@ -65,7 +72,7 @@ impl Epochs {
             Ok(policy) => policy,
             Err(fault) => return Ok(EpochVerdict::Refused(fault)),
         };
-        match self.fault(alloc, &policy)? {
+        match self.fault(alloc, known, &policy)? {
             Some(fault) => Ok(EpochVerdict::Refused(fault)),
             None => {
                 self.current = Some(policy);
@@ -80,6 +87,7 @@ impl Epochs {
     pub fn take(
         &mut self,
         alloc: Global,
+        known: &KnownSigners,
         found: Result<Policy, PolicyFault>,
     ) -> Result<EpochVerdict, Memory>
         ensures anchor { self.new.anchor ≡ self.old.anchor }
@@ -95,13 +103,14 @@ impl Epochs {
         ensures same { OnErr result (self.new ≡ self.old) }
         ensures memory { OnErr result (IsOk found) }
     {
-        self.step(alloc, found)
+        self.step(alloc, known, found)
     }
 
     /// What `take` would answer of the next entry for the policy. Nothing is kept.
     pub fn judge(
         &self,
         alloc: Global,
+        known: &KnownSigners,
         found: Result<Policy, PolicyFault>,
     ) -> Result<EpochVerdict, Memory>
         ensures verdict { IfOk result (λ verdict. verdict
@@ -110,7 +119,7 @@ impl Epochs {
     {
         match found {
             Err(fault) => Ok(EpochVerdict::Refused(fault)),
-            Ok(policy) => match self.fault(alloc, &policy)? {
+            Ok(policy) => match self.fault(alloc, known, &policy)? {
                 Some(fault) => Ok(EpochVerdict::Refused(fault)),
                 None => Ok(EpochVerdict::Opened),
             },

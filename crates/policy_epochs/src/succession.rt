@@ -8,7 +8,7 @@ ghost use Rattle.policy_epochs.specs.Succession.{root_fault, same_root, signing_
 use crate::anchors::are_exactly;
 use crate::files::{find_dropped, find_lowered};
 use crate::{Policy, PolicyFault};
-use approvals::env_signers;
+use known_signers::KnownSigners;
 use octets::Memory;
 use root_metadata::{KeyIds, count_in};
 use std::alloc::Global;
@@ -69,13 +69,18 @@ fn signing_fault(old: &Policy, signers: &KeyIds) -> Option<PolicyFault>
 }
 
 // Of a root that is another: too few persons of the old root role signed it with keys of the old root.
-fn root_fault(alloc: Global, old: &Policy, new: &Policy) -> Result<Option<PolicyFault>, Memory>
+fn root_fault(
+    alloc: Global,
+    known: &KnownSigners,
+    old: &Policy,
+    new: &Policy,
+) -> Result<Option<PolicyFault>, Memory>
     ensures { IfOk result (λ fault. fault ≡ root_fault old.now new.now) }
 {
     if same_root(old, new) {
         return Ok(None);
     }
-    let signers = env_signers(alloc, &new.envelope, &old.root.keys)?;
+    let signers = known.signers(alloc, &new.envelope, &old.root.keys)?;
     Ok(signing_fault(old, &signers))
 }
 
@@ -103,14 +108,19 @@ fn dropped_fault(old: &Policy, new: &Policy) -> Result<Option<PolicyFault>, Memo
 }
 
 // What keeps a policy from following another: the first rule that it breaks.
-fn following_fault(alloc: Global, old: &Policy, new: &Policy) -> Result<Option<PolicyFault>, Memory>
+fn following_fault(
+    alloc: Global,
+    known: &KnownSigners,
+    old: &Policy,
+    new: &Policy,
+) -> Result<Option<PolicyFault>, Memory>
     ensures { IfOk result (λ fault. fault ≡ following_fault old.now new.now) }
 {
     match version_fault(old, new) {
         Some(fault) => return Ok(Some(fault)),
         None => {}
     }
-    match root_fault(alloc, old, new)? {
+    match root_fault(alloc, known, old, new)? {
         Some(fault) => return Ok(Some(fault)),
         None => {}
     }
@@ -125,6 +135,7 @@ fn following_fault(alloc: Global, old: &Policy, new: &Policy) -> Result<Option<P
 /// that it breaks. Where ids are given, the first policy's root role must have exactly their keys.
 pub fn succession_fault(
     alloc: Global,
+    known: &KnownSigners,
     anchor: &Option<KeyIds>,
     current: Option<&Policy>,
     new: &Policy,
@@ -133,6 +144,6 @@ pub fn succession_fault(
 {
     match current {
         None => Ok(anchor_fault(anchor, new)),
-        Some(old) => following_fault(alloc, old, new),
+        Some(old) => following_fault(alloc, known, old, new),
     }
 }

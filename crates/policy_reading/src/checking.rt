@@ -15,6 +15,7 @@ use crate::loaded_files::{bad_file, load_files, load_root};
 use crate::{find_called, load_metadata, own_state, rule_files};
 use git_object::{ObjectId, TreeEntry};
 use keeper_api::{Keeper, KeeperFault};
+use known_signers::KnownSigners;
 use policy_epochs::{Policy, PolicyFault};
 use std::alloc::Global;
 use tree_paths::State;
@@ -24,6 +25,7 @@ use tree_paths::State;
 fn check_entries<R: Keeper>(
     alloc: Global,
     keeper: &mut R,
+    known: &KnownSigners,
     entries: &[TreeEntry],
 ) -> Result<Result<Policy, PolicyFault>, KeeperFault>
     ensures policy { IfOk result (λ found. (r : Repository) → R.content keeper.new ≡ Some r
@@ -42,18 +44,20 @@ fn check_entries<R: Keeper>(
     };
     match load_files(alloc, keeper, files.as_slice())? {
         Err(fault) => Ok(Err(fault)),
-        Ok(files) => Ok(judge(alloc, signed, files)?),
+        Ok(files) => Ok(judge(alloc, known, signed, files)?),
     }
 }
 
-/// The policy of a target, where it is valid, and else the first of its faults, of which the numbers are 1 to 6: the target's
-/// state is absent or broken; there is no `metadata/root.json`; a file is missing, longer than 1 MiB or refused; too few signed
-/// the root; the rule files are no rules of a policy; too few signed a rule file. It makes at most 9 reads to peel the target, one for
-/// each tree of its walk, and 3 beside one for each rule file.
+/// The policy of a target, where it is valid, and else the first of its faults, of which the numbers are 1 to 6: the
+/// target's state is absent or broken; there is no `metadata/root.json`; a file is missing, longer than 1 MiB or refused;
+/// too few signed the root; the rule files are no rules of a policy; too few signed a rule file. It makes at most 9 reads
+/// to peel the target, one for each tree of its walk, and 3 beside one for each rule file. No signature is checked of a
+/// file whose signers are known.
 #[tactic(auto, unfolding(crate::specs::Policies::policy_of, crate::specs::Policies::policy_reads))]
 pub fn check_policy<R: Keeper>(
     alloc: Global,
     keeper: &mut R,
+    known: &KnownSigners,
     target: &ObjectId,
 ) -> Result<Result<Policy, PolicyFault>, KeeperFault>
     ensures policy { IfOk result (λ found. (r : Repository) → R.content keeper.new ≡ Some r
@@ -72,7 +76,7 @@ pub fn check_policy<R: Keeper>(
             dirs: _,
         } => {
             let entries = load_metadata(alloc, keeper, &tree)?;
-            check_entries(alloc, keeper, entries.as_slice())
+            check_entries(alloc, keeper, known, entries.as_slice())
         }
     }
 }

@@ -8,6 +8,7 @@ ghost use Rattle.policy_reading.specs.Validity.{policy_file, policy_made, sealed
 
 use crate::signed_files::{Sealed, SealedFiles, SignedFile, SignedFiles, SignedRoot};
 use crate::thresholds::{files_fault, holder_name, is_top, root_fault};
+use known_signers::KnownSigners;
 use octets::{Copied, Items, Memory, Octets};
 use policy_epochs::{Policy, PolicyFault, PolicyFile};
 use root_metadata::{Keys, Persons, Root};
@@ -187,34 +188,36 @@ fn make_policy(
 // The policy of a forest, or the first of its files that too few signed.
 fn judge_forest(
     alloc: Global,
+    known: &KnownSigners,
     signed: SignedRoot,
     rules: Rules,
     all: &[Sealed],
 ) -> Result<Result<Policy, PolicyFault>, Memory>
     ensures { IfOk result (λ found. found ≡ by_forest signed all.now (Ok rules)) }
 {
-    match files_fault(alloc, &signed.root, rules.files(), all)? {
+    match files_fault(alloc, known, &signed.root, rules.files(), all)? {
         Some(fault) => Ok(Err(fault)),
         None => Ok(Ok(make_policy(alloc, signed, rules, all)?)),
     }
 }
 
-/// The policy of files that are read, or the first of its faults: too few signed the root; the rule files are no forest; too
-/// few signed a rule file.
+/// The policy of files that are read, or the first of its faults: too few signed the root; the rule files are no forest;
+/// too few signed a rule file. No signature is checked of an envelope whose signers are known.
 #[tactic(auto, unfolding(crate::specs::Validity::judged))]
 pub fn judge(
     alloc: Global,
+    known: &KnownSigners,
     signed: SignedRoot,
     files: SignedFiles,
 ) -> Result<Result<Policy, PolicyFault>, Memory>
     ensures { IfOk result (λ found. found ≡ judged signed files) }
 {
-    if let Some(fault) = root_fault(alloc, &signed)? {
+    if let Some(fault) = root_fault(alloc, known, &signed)? {
         return Ok(Err(fault));
     }
     let Parts { files, sealed } = split(alloc, files)?;
     match assembled(alloc, files)? {
         Err(fault) => Ok(Err(fault)),
-        Ok(rules) => judge_forest(alloc, signed, rules, sealed.as_slice()),
+        Ok(rules) => judge_forest(alloc, known, signed, rules, sealed.as_slice()),
     }
 }

@@ -13,6 +13,7 @@ ghost use Rattle.policy_reading.specs.Policies.{policy_of, policy_reads};
 use crate::check_policy;
 use git_object::ObjectId;
 use keeper_api::{Keeper, KeeperFault};
+use known_signers::KnownSigners;
 use policy_epochs::{EpochVerdict, Epochs};
 use std::alloc::Global;
 
@@ -22,6 +23,7 @@ pub fn extend<R: Keeper>(
     alloc: Global,
     epochs: &mut Epochs,
     keeper: &mut R,
+    known: &KnownSigners,
     target: &ObjectId,
 ) -> Result<EpochVerdict, KeeperFault>
     ensures anchor { epochs.new.anchor ≡ epochs.old.anchor }
@@ -41,8 +43,8 @@ pub fn extend<R: Keeper>(
     ensures reads { (r : Repository) → R.content keeper.new ≡ Some r → R.reads keeper.new ≤ R.reads keeper.old
         + policy_reads r target.now }
 {
-    let found = check_policy(alloc, keeper, target)?;
-    Ok(epochs.take(alloc, found)?)
+    let found = check_policy(alloc, keeper, known, target)?;
+    Ok(epochs.take(alloc, known, found)?)
 }
 
 /// What `extend` would answer. Nothing is kept.
@@ -50,6 +52,7 @@ pub fn look<R: Keeper>(
     alloc: Global,
     epochs: &Epochs,
     keeper: &mut R,
+    known: &KnownSigners,
     target: &ObjectId,
 ) -> Result<EpochVerdict, KeeperFault>
     ensures verdict { IfOk result (λ verdict. (r : Repository) → R.content keeper.new ≡ Some r
@@ -59,6 +62,6 @@ pub fn look<R: Keeper>(
     ensures reads { (r : Repository) → R.content keeper.new ≡ Some r → R.reads keeper.new ≤ R.reads keeper.old
         + policy_reads r target.now }
 {
-    let found = check_policy(alloc, keeper, target)?;
-    Ok(epochs.judge(alloc, found)?)
+    let found = check_policy(alloc, keeper, known, target)?;
+    Ok(epochs.judge(alloc, known, found)?)
 }

@@ -17,6 +17,7 @@ ghost use Rattle.policy_reading.specs.Reading.{ReadsLog, entry_reads, taking_rea
 use crate::{extend, look};
 use git_object::ObjectId;
 use keeper_api::{Keeper, KeeperFault};
+use known_signers::KnownSigners;
 use policy_epochs::{EpochVerdict, Epochs, PolicyFault};
 use root_metadata::KeyIds;
 use rsl_chain::{Entry, EntryBody, Log, LogFault, read_entry};
@@ -27,6 +28,7 @@ fn take_entry<R: Keeper>(
     alloc: Global,
     epochs: &mut Epochs,
     keeper: &mut R,
+    known: &KnownSigners,
     entry: &Entry,
 ) -> Result<(), KeeperFault>
     ensures anchor { epochs.new.anchor ≡ epochs.old.anchor }
@@ -42,7 +44,7 @@ fn take_entry<R: Keeper>(
             if !name.is_policy() {
                 return Ok(());
             }
-            match extend(alloc, epochs, keeper, target) {
+            match extend(alloc, epochs, keeper, known, target) {
                 Ok(verdict) => {
                     drop(verdict);
                     Ok(())
@@ -63,6 +65,7 @@ fn take_id<R: Keeper>(
     alloc: Global,
     epochs: &mut Epochs,
     keeper: &mut R,
+    known: &KnownSigners,
     id: &ObjectId,
 ) -> Result<(), LogFault>
     ensures anchor { epochs.new.anchor ≡ epochs.old.anchor }
@@ -80,7 +83,7 @@ fn take_id<R: Keeper>(
         Ok(entry) => entry,
         Err(fault) => return Err(fault),
     };
-    match take_entry(alloc, epochs, keeper, &entry) {
+    match take_entry(alloc, epochs, keeper, known, &entry) {
         Ok(()) => Ok(()),
         Err(KeeperFault::Failed) => Err(LogFault::Failed),
         Err(KeeperFault::Memory) => Err(LogFault::Memory),
@@ -92,6 +95,7 @@ fn take_ids<R: Keeper>(
     alloc: Global,
     epochs: &mut Epochs,
     keeper: &mut R,
+    known: &KnownSigners,
     ids: &[ObjectId],
 ) -> Result<(), LogFault>
     requires { (checked : Found) → Stands epochs.old checked 0 }
@@ -105,7 +109,7 @@ fn take_ids<R: Keeper>(
         + sum_by (entry_reads r) ids.now }
 {
     'ids: for id in ids {
-        match take_id(alloc, epochs, keeper, id) {
+        match take_id(alloc, epochs, keeper, known, id) {
             Ok(()) => {}
             Err(fault) => return Err(fault),
         }
@@ -119,6 +123,7 @@ fn take_ids<R: Keeper>(
 pub fn epochs_at<R: Keeper>(
     alloc: Global,
     keeper: &mut R,
+    known: &KnownSigners,
     anchor: Option<KeyIds>,
     ids: &[ObjectId],
 ) -> Result<Epochs, LogFault>
@@ -133,7 +138,7 @@ pub fn epochs_at<R: Keeper>(
         + sum_by (entry_reads r) ids.now }
 {
     let mut epochs = Epochs::new(anchor);
-    match take_ids(alloc, &mut epochs, keeper, ids) {
+    match take_ids(alloc, &mut epochs, keeper, known, ids) {
         Ok(()) => Ok(epochs),
         Err(fault) => {
             drop(epochs);
@@ -161,7 +166,8 @@ pub fn load_epochs<R: Keeper>(
         Ok(log) => log,
         Err(fault) => return Err(fault),
     };
-    match epochs_at(alloc, keeper, anchor, log.ids.as_slice()) {
+    let known = KnownSigners::new();
+    match epochs_at(alloc, keeper, &known, anchor, log.ids.as_slice()) {
         Ok(epochs) => Ok(epochs),
         Err(fault) => Err(fault),
     }
@@ -186,11 +192,12 @@ pub fn epoch_fault<R: Keeper>(
     ensures reads { (r : Repository) → R.content keeper.new ≡ Some r → R.reads keeper.new ≤ R.reads keeper.old
         + (sum_by (entry_reads r) ids.now + policy_reads r target.now) }
 {
-    let epochs = match epochs_at(alloc, keeper, anchor, ids) {
+    let known = KnownSigners::new();
+    let epochs = match epochs_at(alloc, keeper, &known, anchor, ids) {
         Ok(epochs) => epochs,
         Err(fault) => return Err(fault),
     };
-    let verdict = look(alloc, &epochs, keeper, target);
+    let verdict = look(alloc, &epochs, keeper, &known, target);
     drop(epochs);
     match verdict {
         Ok(EpochVerdict::Opened) => Ok(None),

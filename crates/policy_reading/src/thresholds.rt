@@ -6,7 +6,7 @@ ghost use Rattle.policy_reading.specs.Validity.{by_holder, file_fault, files_fau
 ghost use Rattle.policy_reading.specs.Validity.{is_top, no_rule, root_fault, rule_named, signing_fault};
 
 use crate::signed_files::{Sealed, SignedRoot};
-use approvals::env_signers;
+use known_signers::KnownSigners;
 use octets::{Memory, Octets};
 use policy_epochs::PolicyFault;
 use root_metadata::{Keys, Persons, Root, count_in};
@@ -22,10 +22,14 @@ fn is_met(got: usize, need: u32) -> bool
 
 /// That too few persons of the root role signed the root, with keys of the root.
 #[tactic(auto, unfolding(crate::specs::Validity::root_fault))]
-pub fn root_fault(alloc: Global, signed: &SignedRoot) -> Result<Option<PolicyFault>, Memory>
+pub fn root_fault(
+    alloc: Global,
+    known: &KnownSigners,
+    signed: &SignedRoot,
+) -> Result<Option<PolicyFault>, Memory>
     ensures { IfOk result (λ fault. fault ≡ root_fault signed.now) }
 {
-    let signers = env_signers(alloc, &signed.envelope, &signed.root.keys)?;
+    let signers = known.signers(alloc, &signed.envelope, &signed.root.keys)?;
     let got = count_in(&signed.root.root.persons, &signers);
     let need = signed.root.root.threshold;
     if is_met(got, need) {
@@ -38,6 +42,7 @@ pub fn root_fault(alloc: Global, signed: &SignedRoot) -> Result<Option<PolicyFau
 #[tactic(auto, unfolding(crate::specs::Validity::signing_fault))]
 fn signing_fault(
     alloc: Global,
+    known: &KnownSigners,
     sealed: &Sealed,
     keys: &Keys,
     persons: &Persons,
@@ -45,7 +50,7 @@ fn signing_fault(
 ) -> Result<Option<PolicyFault>, Memory>
     ensures { IfOk result (λ fault. fault ≡ signing_fault sealed.now keys.now persons.now need) }
 {
-    let signers = env_signers(alloc, &sealed.envelope, keys)?;
+    let signers = known.signers(alloc, &sealed.envelope, keys)?;
     let got = count_in(persons, &signers);
     if is_met(got, need) {
         return Ok(None);
@@ -111,6 +116,7 @@ fn no_rule(sealed: &Sealed) -> Result<Option<PolicyFault>, Memory>
 // That too few of those who may sign a file below the top did.
 fn rule_fault(
     alloc: Global,
+    known: &KnownSigners,
     files: &[RuleFile],
     sealed: &Sealed,
 ) -> Result<Option<PolicyFault>, Memory>
@@ -122,7 +128,10 @@ fn rule_fault(
     };
     match rule_named(name, holder) {
         None => no_rule(sealed),
-        Some(rule) => signing_fault(alloc, sealed, &holder.keys, &rule.persons, rule.threshold),
+        Some(rule) => {
+            let persons = &rule.persons;
+            signing_fault(alloc, known, sealed, &holder.keys, persons, rule.threshold)
+        }
     }
 }
 
@@ -130,6 +139,7 @@ fn rule_fault(
 #[tactic(auto, unfolding(crate::specs::Validity::file_fault))]
 fn file_fault(
     alloc: Global,
+    known: &KnownSigners,
     root: &Root,
     files: &[RuleFile],
     sealed: &Sealed,
@@ -138,14 +148,22 @@ fn file_fault(
 {
     if is_top(sealed.name.as_slice()) {
         let role = &root.targets;
-        return signing_fault(alloc, sealed, &root.keys, &role.persons, role.threshold);
+        return signing_fault(
+            alloc,
+            known,
+            sealed,
+            &root.keys,
+            &role.persons,
+            role.threshold,
+        );
     }
-    rule_fault(alloc, files, sealed)
+    rule_fault(alloc, known, files, sealed)
 }
 
 /// The first of the files that too few signed.
 pub fn files_fault(
     alloc: Global,
+    known: &KnownSigners,
     root: &Root,
     files: &[RuleFile],
     all: &[Sealed],
@@ -153,7 +171,7 @@ pub fn files_fault(
     ensures { IfOk result (λ fault. fault ≡ files_fault root.now files.now all.now) }
 {
     'all: for sealed in all {
-        if let Some(fault) = file_fault(alloc, root, files, sealed)? {
+        if let Some(fault) = file_fault(alloc, known, root, files, sealed)? {
             return Ok(Some(fault));
         }
     }

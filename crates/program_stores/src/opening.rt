@@ -1,9 +1,10 @@
 //! Stores in memory, in folders and in database files as one kind of store.
 
-ghost use Rattle.std.specs.Prelude.{◌≡◌, ◌⊎◌, ◌≤◌, IfErr};
+ghost use Rattle.std.specs.Prelude.{◌≡◌, ◌⊎◌, ◌≤◌, IfErr, IfOk};
 ghost use Rattle.endings.specs.Endings.{refusal_status};
 ghost use Rattle.endings.specs.declared.ending.Part.TheVariants as part;
 ghost use Rattle.endings.specs.declared.ending.Refusal.TheVariants as refusal;
+ghost use Rattle.program_stores.specs.Opening.{IsFaultStatus, IsOfKind, IsRefusal};
 
 use command_words::Store;
 use either_kind::EitherKeeper;
@@ -21,7 +22,7 @@ const FAULT: Refusal = Refusal::Fault { part: Part::Keeper };
 
 // The store in a folder.
 fn open_folder(rt: &HostRuntime, folder: &str, to_change: bool) -> Result<DirKeeper, u8>
-    ensures { IfErr result (λ status. (status ≡ refusal_status (refusal.Fault part.Keeper)) ⊎ (status ≡ refusal_status refusal.Memory)) }
+    ensures { IfErr result IsFaultStatus }
 {
     let opened = if to_change {
         DirKeeper::to_change(rt, rt.alloc(), folder)
@@ -41,7 +42,7 @@ fn open_database(
     path: &str,
     to_change: bool,
 ) -> Result<SqlKeeper<FileStore<File>>, u8>
-    ensures { IfErr result (λ status. (status ≡ 3) ⊎ ((status ≡ refusal_status (refusal.Fault part.Keeper)) ⊎ (status ≡ refusal_status refusal.Memory))) }
+    ensures { IfErr result (λ status. (status ≡ 3) ⊎ IsFaultStatus status) }
 {
     let opened = if to_change {
         SqlKeeper::to_change(rt, path)
@@ -58,11 +59,11 @@ fn open_database(
 
 /// Opens the store that a word names. A folder or a database file that is not there is made where the store is to be
 /// changed alone, so that a wrong path is not taken for an empty store; one in memory is empty. Where it cannot be had
-/// this is said on standard error, and the status is answered: 3 for a database with another schema, whose number is
-/// said, else that of a fault of the store or of want of memory.
+/// this is said on standard error, and the status is answered: for a database with another schema 3, with its number on
+/// that line, else that of a fault of the store or of want of memory. A store in memory is never refused.
 pub fn open_store(rt: &HostRuntime, store: Store, to_change: bool) -> Result<AnyKeeper, u8>
-    ensures refused { IfErr result (λ status. (status ≡ 3) ⊎ ((status ≡ refusal_status (refusal.Fault part.Keeper))
-        ⊎ (status ≡ refusal_status refusal.Memory))) }
+    ensures kind { IfOk result (IsOfKind store.entry) }
+    ensures refused { IfErr result (IsRefusal store.entry) }
 {
     match store {
         Store::Memory => Ok(EitherKeeper::First(MemKeeper::new(rt.alloc()))),
@@ -86,9 +87,9 @@ fn is_ended(rt: &HostRuntime, keeper: AnyKeeper) -> bool {
     }
 }
 
-/// Ends the use of a store after a command of this status, and answers the program's. Where a folder stays locked, or the
-/// log of a database file cannot be put into it, that is a fault of the store, which is said on standard error; after a
-/// refusal its own status and line say enough.
+/// Ends the use of a store after a command of this status, and answers the program's. Where a folder stays locked, or
+/// the log of a database file cannot be put into it, that is a fault of the store, which is said on standard error; after
+/// a refusal its own status and line say enough.
 pub fn end_store(rt: &HostRuntime, keeper: AnyKeeper, status: u8) -> u8
     ensures refused { 2 ≤ status → result ≡ status }
     ensures ended { (result ≡ status) ⊎ (result ≡ refusal_status (refusal.Fault part.Keeper)) }

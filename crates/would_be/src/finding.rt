@@ -15,6 +15,7 @@ use crate::{Proposed, Stood, Would};
 use entry_rules::Fault;
 use git_object::ObjectId;
 use keeper_api::{Keeper, KeeperFault};
+use known_signers::KnownSigners;
 use octets::Memory;
 use policy_epochs::{Policy, PolicyFault, succession_fault};
 use policy_reading::check_policy;
@@ -24,6 +25,7 @@ use std::alloc::Global;
 // The fault of an entry of the policy's reference, by what was found of its policy.
 fn epoch_fault(
     alloc: Global,
+    known: &KnownSigners,
     anchor: &Option<KeyIds>,
     current: Option<&Policy>,
     found: Result<Policy, PolicyFault>,
@@ -32,7 +34,7 @@ fn epoch_fault(
 {
     match found {
         Err(why) => Ok(Some(Fault::NotEpoch { why })),
-        Ok(policy) => match succession_fault(alloc, anchor, current, &policy)? {
+        Ok(policy) => match succession_fault(alloc, known, anchor, current, &policy)? {
             Some(why) => Ok(Some(Fault::NotEpoch { why })),
             None => Ok(None),
         },
@@ -52,8 +54,9 @@ fn find_epoch<R: Keeper>(
     ensures same { Undisturbed R.Keeper keeper.old keeper.new }
     ensures cause { HasCause keeper_failed (R.faults keeper.old) (R.faults keeper.new) result }
 {
-    let found = check_policy(alloc, keeper, target)?;
-    let fault = epoch_fault(alloc, anchor, current, found)?;
+    let known = KnownSigners::new();
+    let found = check_policy(alloc, keeper, &known, target)?;
+    let fault = epoch_fault(alloc, &known, anchor, current, found)?;
     Ok(alone(alloc, fault)?)
 }
 

@@ -13,6 +13,8 @@ from git_gittuf.telling import say, show
 def setup(work, words):
     if words.root is not None:
         settings.keep(work.repository, settings.SAID, words.root)
+    if words.entry is not None:
+        settings.keep(work.repository, settings.ENTRY, words.entry)
     if words.anew:
         work.kept.remove()
         work.kept.make()
@@ -52,7 +54,7 @@ def expect_one_log(work, anyway):
     repository = work.repository
     if LOG in repository.references() or anyway:
         return
-    for remote in remotes.remotes(repository):
+    for remote in remotes.of_git(repository):
         answers, there = remotes.asked_log(repository, remote)
         setup = f"git gittuf setup {quoted(remote)} && git fetch {quoted(remote)}"
         if there:
@@ -111,7 +113,7 @@ def record(work, words):
     if not words.anyway:
         expect_no_step_back(work, name, value)
     show(recorded_by(work, name, value, path, words.anyway))
-    carried = ", ".join(plain(it) for it in remotes.remotes(repository))
+    carried = ", ".join(plain(it) for it in remotes.of_git(repository))
     say(f"git gittuf push carries it to {carried or 'others, once there is a remote'}.")
 
 
@@ -144,6 +146,17 @@ def branch_here(repository, word, name):
     raise Stopped(f"there is no branch or tag {plain(word)} here: {way}", 3)
 
 
+def what_is_approved(work, name, target):
+    """In a sentence what an approval is of, with the line that shows it."""
+    shown, there = plain(names.short(name)), (looking.last_counted(work, name) or ZEROS).decode()[:12]
+    to = target.decode()[:12]
+    if target == ZEROS:
+        return f"This approves that {shown} goes, which the log has at {there}."
+    if not int(there, 16):
+        return f"This approves that {shown} begins with the files of {to}: git ls-tree -r {to} lists them."
+    return f"This approves that {shown} goes from {there} to the files of {to}: git diff {there} {to} shows what that changes."
+
+
 def approve(work, words):
     repository = work.repository
     name = os.fsdecode(names.own_name(repository, words.branch))
@@ -156,6 +169,7 @@ def approve(work, words):
     expect_one_log(work, words.anyway)
     if not words.anyway:
         consents.expect_wanted(work, os.fsencode(name), None if words.delete else target, looking.key_id(path))
+    say(what_is_approved(work, os.fsencode(name), target))
     show(approved_by(work, name, target, path))
     # A word that names nothing here was taken for a branch.
     word = names.short(os.fsencode(name)) if os.fsencode(name) in repository.references() else name

@@ -5,10 +5,11 @@ import os
 import stat
 
 import stream_format
-from git_gittuf import following, history, keys, leaves, names, remotes, seen, signers
+from git_gittuf import following, history, hook_calls, keys, leaves, names, otherwise, remotes, seen, signers, verifying, withheld
 from git_gittuf.remotes import beside
 from git_gittuf.repository import ATTESTATIONS, LOG, POLICY, ZEROS, Stopped
 from git_gittuf.shown import plain, quoted
+from git_gittuf.telling import say
 
 
 def of_key(repository):
@@ -52,7 +53,9 @@ def of_lost(work, remote, value, how):
     last = seen.read(work.repository).get(remote) or value
     lost = [it for it in entries_after(work, value if how == "back" else None) if it[0] <= following.count_of(work.repository, last)]
     which = f" no longer has {signed_by(work, lost)}" if lost else " went back"
-    put_back = f"git gittuf push --remote {quoted(remote)} --anyway puts it back"
+    desk = remotes.port_of(work.repository, remote)
+    way = f"push --desk {desk}" if desk else f"push --remote {quoted(remote)} --anyway"
+    put_back = f"git gittuf {way} puts it back"
     yield f"the log of {remote}{which}", f"ask who may write to {quoted(remote)}; {put_back}"
 
 
@@ -61,20 +64,22 @@ def of_remotes(work, is_whole):
     found = remotes.remotes(repository)
     if not found:
         yield "there is no remote, so nobody gets the log from here", "git remote add origin <where> && git gittuf setup"
-    for remote in found:
+    for remote in remotes.of_git(repository):
         if remotes.lacking(repository, remote):
             yield f"git push and git fetch do not carry the log to and from {remote}", f"git gittuf setup {quoted(remote)}"
     unfit = {(remote, name): how for remote, name, how in work.unfit}
     for remote, name, own, value, how in remotes.standing(repository, repository.references()):
         shown, how = name.decode(), unfit.get((remote, name), how)
         take, back = f"git gittuf doctor --take {quoted(remote)}", set_back(remote, shown, value)
-        if how in ("same", "ahead") and name == LOG and value:
+        desk = remotes.port_of(repository, remote)
+        if how in ("same", "ahead") and name == LOG and value and not desk:
             how = "dropped" if remotes.asked_log(repository, remote) == (True, None) else how
         if how in ("back", "dropped"):
             yield from of_lost(work, remote, value, how)
         elif how == "ahead" and name == LOG and is_whole:
-            yield f"{shown} goes on here by {signed_by(work, entries_after(work, value))}", f"git push {quoted(remote)}"
-        elif how == "ahead" and name != LOG:
+            way = f"git gittuf push --desk {desk}" if desk else f"git push {quoted(remote)}"
+            yield f"{shown} goes on here by {signed_by(work, entries_after(work, value))}", way
+        elif how == "ahead" and name != LOG and not desk:
             yield f"{shown} goes on here from where {remote} has it", f"git push {quoted(remote)}"
         elif how == "apart" and name == LOG and is_whole:
             base = repository.git("merge-base", own.decode(), value.decode())[1].strip()
@@ -101,6 +106,11 @@ def of_unrecorded(work, entries):
             yield f"{shown} of {remote} stands at {value.decode()[:12]}, which no entry recorded, and is not followed", mends
 
 
+def of_settings(repository):
+    if repository.config(hook_calls.ANYWAY, "--type=bool")[-1:] == ["true"]:
+        yield f"{hook_calls.ANYWAY} is set, so the hook of this clone refuses no push", f"git config --unset-all {hook_calls.ANYWAY}"
+
+
 def of_names(repository):
     for name in repository.all_references():
         if not stream_format.is_reference_name(name):
@@ -121,12 +131,21 @@ def of_log(work, status, printed):
     if POLICY not in references:
         yield "there is no policy, so nothing is lawful", "git gittuf policy init <your name>"
     entries = history.entries(printed)
+    yield from (withheld.sentence(number, target) for number, _, target in withheld.lacking(work))
     yield from of_unrecorded(work, entries)
-    last = {rest[0]: rest[1] for _, _, kind, rest in entries if kind == b"ref"}
+    last, there = {rest[0]: rest[1] for _, _, kind, rest in entries if kind == b"ref"}, names.places_at_remotes(repository, references)
     for name, target in last.items():
-        if references.get(name, ZEROS) != target and not names.in_place_of(repository, references, name):
+        stand = [references[name]] if name in references else [it.value for it in there.get(name, [])]
+        if target not in (stand or [ZEROS]):
             word = names.short(name)
             yield f"{word} stands elsewhere than it was recorded last", f"git gittuf verify {quoted(word)}"
+    found = names.all_of(repository, list(last), lambda them: verifying.protected_of(work, them))
+    for name in dict.fromkeys(it.name for it in found if it.name not in last):
+        word = names.short(name)
+        yield f"a rule protects {word}, and no entry records where it stands", f"git gittuf verify {quoted(word)}"
+    for it in verifying.elsewhere(work, found):
+        word = os.fsdecode(names.remote_branch(it.name, it.remote)[len(names.REMOTES) :])
+        yield f"{word} stands where no entry has it", f"git gittuf verify {quoted(word)}"
 
 
 def doctor(work, words):
@@ -140,10 +159,12 @@ def doctor(work, words):
         work.copy()
         return 0
     status, printed = work.read("log")
-    found = [*of_key(work.repository), *of_remotes(work, not status), *of_names(work.repository)]
+    found = [*of_key(work.repository), *of_remotes(work, not status), *of_names(work.repository), *of_settings(work.repository)]
     found += of_log(work, status, printed)
+    found += filter(None, [otherwise.replaced(work.repository)])
     for what, mends in found:
         print(json.dumps({"mends": mends, "what": what}) if words.json else plain(f"{what}: {mends}"))
     if not found and not words.json:
         print("all is well")
+        say("That is of this clone: git gittuf verify says whether each change was lawful.")
     return 1 if found else 0

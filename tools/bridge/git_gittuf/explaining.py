@@ -3,18 +3,36 @@
 import json
 import os
 
-from git_gittuf import consents, keys, looking, names, policies
+from git_gittuf import consents, history, keys, looking, names, policies, withheld
+from git_gittuf.repository import REMOTES, Stopped
 from git_gittuf.shown import plain
-from git_gittuf.telling import say, show
+from git_gittuf.telling import say, show, tell
+
+
+def branch_for(work, word):
+    """The branch or tag that a word names, here, in the log or at a remote, or nothing."""
+    repository = work.repository
+    name, references = names.own_name(repository, word), repository.references()
+    if name in references and not name.startswith(REMOTES):
+        return name
+    try:
+        return names.of_word(repository, word, lambda: history.recorded_names(work))[0].name
+    except Stopped:
+        # What is not there yet is named as a whole.
+        return name if word.startswith("refs/") else None
 
 
 def name_for(work, word):
     """The name in one of a policy's two spaces that a word means: a branch or tag before a path."""
+    if word.startswith("git:") and not word.startswith("git:refs/"):
+        raise Stopped(f"{plain(word)} names no branch or tag as a rule does: git:refs/heads/main is the name of one", 2)
     if word.startswith(("git:", "file:")):
         return word
-    name = names.own_name(work.repository, word)
-    if name in work.repository.references() or word.startswith("refs/"):
+    name = branch_for(work, word)
+    if name:
         return "git:" + os.fsdecode(name)
+    if not os.path.lexists(word):
+        tell(f"there is no branch or tag {plain(word)}, here or in the log, and no file: it is taken for a path")
     top, folder = work.repository.top, os.path.realpath(os.path.dirname(os.path.abspath(word)))
     if top and keys.is_inside(folder, top):
         word = os.path.relpath(os.path.join(folder, os.path.basename(word)), top)
@@ -55,6 +73,7 @@ def sentence(name, rows, policy):
 
 def explain(work, words):
     work.bring()
+    withheld.expect_none(work)
     name = name_for(work, words.name)
     printed, policy = work.asked("explain", name), policies.in_force(work)
     rows = [told(name, line, policy) for line in os.fsdecode(printed).splitlines()]

@@ -91,6 +91,18 @@ def message_of(body):
         return None
 
 
+def targets(work):
+    """What entries recorded, oldest first, by the references, or nothing where the log is none."""
+    status, printed = work.read("log") if LOG in work.repository.references() else (0, b"")
+    if status:
+        return None
+    found = {}
+    for _, _, kind, rest in entries(printed):
+        if kind == b"ref":
+            found.setdefault(rest[0], []).append(rest[1])
+    return found
+
+
 def recorded_names(work):
     """The references that the log speaks of, in the order of their first entries."""
     listed = entries(work.asked("log")) if LOG in work.repository.references() else []

@@ -34,8 +34,8 @@ class Kept:
         self.small = os.path.join(folder, "small")
         self.trial = os.path.join(folder, "trial")
         self.added, self.tried = [], []
-        # How often something here was, or may have been, changed.
-        self.changes = 0
+        # How often something here was, or may have been, changed, and how often references alone; and these as they were then.
+        self.changes, self.moves, self.listed = 0, 0, (None, {})
 
     def make(self):
         self.changes += 1
@@ -72,6 +72,11 @@ class Kept:
 
     def references(self):
         """The names with their values, and None for a value that is none."""
+        if self.listed[0] != (self.changes, self.moves):
+            self.listed = (self.changes, self.moves), self.list_references()
+        return dict(self.listed[1])
+
+    def list_references(self):
         top, found = os.path.join(self.folder, "refs"), {}
         for at, _, files in os.walk(top):
             for file in files:
@@ -116,7 +121,6 @@ class Kept:
         return kind, body
 
     def write(self, path, text):
-        self.changes += 1
         beside = os.path.join(self.beside, "new")
         with open(beside, "wb") as file:
             file.write(text)
@@ -124,6 +128,7 @@ class Kept:
         self.added.append(path)
 
     def put(self, object_id, kind, body):
+        self.changes += 1
         self.tried.append(object_id)
         self.write(os.path.join(self.objects, object_id.decode()), b"%s %d\0%s" % (kind, len(body), body))
 
@@ -186,6 +191,7 @@ class Kept:
     def set_references(self, held, wanted):
         """Makes the references what is wanted. A stop in between leaves the mark of a change that is not whole."""
         self.write_out()
+        self.moves += 1
         self.mark("commit.lock")
         for name in held.keys() - wanted.keys():
             self.drop(os.path.join(self.folder, os.fsdecode(name)))
@@ -201,7 +207,6 @@ class Kept:
 
     def drop(self, path):
         """Removes a reference's file, and the folders above it that became empty."""
-        self.changes += 1
         os.remove(path)
         top = os.path.join(self.folder, "refs")
         at = os.path.dirname(path)

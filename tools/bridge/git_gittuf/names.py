@@ -40,10 +40,17 @@ def remote_branch(name, remote, _=None):
     return REMOTES + os.fsencode(remote) + b"/" + name[len(HEADS) :]
 
 
+def places_at_remotes(repository, references):
+    """The branches of remotes by their names there, of those at one place the first."""
+    found = {}
+    for name, remote, value in of_remotes(repository, references):
+        found.setdefault(name, {}).setdefault(value, Meant(name, remote, value))
+    return {name: [*them.values()] for name, them in found.items()}
+
+
 def in_place_of(repository, references, name):
-    """The branches of remotes that stand for one that is not here, of those at one place the first."""
-    found = {value: Meant(it, remote, value) for it, remote, value in reversed([*of_remotes(repository, references)]) if it == name}
-    return [*reversed(found.values())]
+    """The branches of remotes that stand for one that is not here."""
+    return places_at_remotes(repository, references).get(name, [])
 
 
 def own_name(repository, word):
@@ -112,13 +119,37 @@ def odd_names(repository):
             yield whole
 
 
-def all_of(repository, recorded, is_protected):
-    """Each reference that the log speaks of, and each branch and tag here or at a remote that a rule protects."""
+def all_of(repository, recorded, protected):
+    """Each reference that the log speaks of, and of each branch and tag here or at a remote those that are protected."""
     references = repository.references()
-    beside = [name for name, *_ in of_remotes(repository, references)]
-    others = sorted({it for it in (*references, *beside) if it.startswith((HEADS, TAGS)) and it not in recorded})
+    beside, spoken = places_at_remotes(repository, references), set(recorded)
+    others = sorted({it for it in (*references, *beside) if it.startswith((HEADS, TAGS)) and it not in spoken})
     found = []
-    for name in [*recorded, *filter(is_protected, others)]:
-        stand = [] if name in references else in_place_of(repository, references, name)
+    for name in [*recorded, *protected(others)]:
+        stand = [] if name in references else beside.get(name)
         found += stand or [Meant(name)]
     return found
+
+
+def at_remote(repository, remote, name):
+    """A branch as a remote has it, which may be nowhere, and else what is here."""
+    value = repository.references().get(remote_branch(name, remote)) if name.startswith(HEADS) else None
+    return Meant(name, remote, value) if name.startswith(HEADS) else Meant(name)
+
+
+def all_at_remote(repository, remote, recorded, protected):
+    """The same of a remote's branches, and of the tags here."""
+    references, spoken = repository.references(), set(recorded)
+    there = {name for name, other, _ in of_remotes(repository, references) if other == remote}
+    others = sorted({it for it in (*references, *there) if it.startswith(TAGS) or it in there} - spoken)
+    return [at_remote(repository, remote, it) for it in [*recorded, *protected(others)]]
+
+
+def of_word_at_remote(repository, remote, word, recorded):
+    """What a word names of what a remote has: a branch of its, or else a tag here."""
+    references, text = repository.references(), os.fsencode(word)
+    for name in [text] if word.startswith("refs/") else [HEADS + text, TAGS + text]:
+        there = remote_branch(name, remote) if name.startswith(HEADS) else name
+        if there in references or name in recorded():
+            return at_remote(repository, remote, name)
+    raise no_such(repository, word, recorded())

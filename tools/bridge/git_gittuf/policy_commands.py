@@ -5,7 +5,7 @@ import os
 import sys
 import termios
 
-from git_gittuf import commands, keys, leaves, policies, policy_faults, policy_lines, policy_objects, program
+from git_gittuf import commands, keys, leaves, policies, policy_faults, policy_lines, policy_objects, program, trust, withheld
 from git_gittuf.program import Ended
 from git_gittuf.repository import POLICY, STAGED, Stopped
 from git_gittuf.shown import plain
@@ -14,6 +14,8 @@ from git_gittuf.telling import tell
 
 def draft_and_force(work):
     """What is edited, or in force, and the policy in force, on which all that is shown and signed stands."""
+    withheld.expect_none(work)
+    trust.pin(work)
     force = policies.in_force(work)
     policies.expect_recorded(work, force)
     draft = policies.staged(work, force)

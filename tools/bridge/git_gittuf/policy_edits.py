@@ -3,7 +3,7 @@
 import hashlib
 import re
 
-from git_gittuf import keys, policies
+from git_gittuf import history, keys, policies, reaching
 from git_gittuf.policy_commands import draft_and_force, keep, print_changes
 from git_gittuf.repository import Stopped
 from git_gittuf.shown import plain, quoted
@@ -135,6 +135,9 @@ def rule(work, words):
                 del says[words.name]
 
     edit(work, change)
+    given = [] if words.remove or words.name in policies.ROLES else [pattern_of(it) for it in words.patterns]
+    for it in reaching.unreached(work.repository, given, history.recorded_names(work)) if given else []:
+        tell(f"no {'file' if it.startswith('file:') else 'branch or tag'} that is here is reached by {plain(it)} yet")
 
 
 def file_to_edit(says, words):

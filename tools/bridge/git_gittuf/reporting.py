@@ -4,7 +4,8 @@ import os
 import subprocess
 import types
 
-from git_gittuf import accounts, listing, names, policies, policy_lines, program, sentences, trust, verifying
+from git_gittuf import accounts, asking, following, listing, looking, names, otherwise, policies, policy_lines, program, sentences, trust, verifying
+from git_gittuf import withheld
 from git_gittuf.repository import LOG, ZEROS, Stopped
 from git_gittuf.shown import plain
 
@@ -17,12 +18,16 @@ table{border-collapse:collapse;width:100%;table-layout:fixed}th,td{text-align:le
 .log th:nth-child(1){width:4.5rem}.log th:nth-child(2){width:12rem}.log th:nth-child(3){width:9rem}.log th:nth-child(4){width:9rem}
 .log th:nth-child(6){width:8.5rem}
 .log td:nth-child(2){white-space:nowrap}.good{color:#0a6b2d}.bad{color:#a01010;font-weight:600}li{margin:.2rem 0}
-.line{display:flex;font-size:.8rem}.line span{min-width:0;overflow:hidden;padding:.2rem;print-color-adjust:exact;-webkit-print-color-adjust:exact}
+.marks{position:relative;height:1.4rem;font-size:.8rem}.marks i{position:absolute;border-left:3px solid #a01010;padding-left:.15rem;color:#a01010}
+.people th:nth-child(n+2){width:11rem}.line{display:flex;font-size:.8rem}
+.line span{min-width:0;overflow:hidden;padding:.2rem;print-color-adjust:exact;-webkit-print-color-adjust:exact}
 @media screen and (max-width:45rem){
 body{font-size:15px;padding:.6rem}table,tbody,tr,td{display:block}thead{display:none}tr{padding:.4rem 0;border-bottom:1px solid #bbb}
 td{border:0;padding:.05rem 0}td:empty{display:none}.log td:nth-child(1){font-weight:600}.log td:nth-child(1)::before{content:"Entry "}
 .log td:nth-child(3)::before{content:"signed by "}.log td:nth-child(4)::before{content:"approved by "}
-.log td:nth-child(6)::before{content:"id "}.verdicts td:nth-child(1){font-weight:600}}
+.people td:nth-child(1){font-weight:600}.people td:nth-child(2)::before{content:"entries signed: "}
+.people td:nth-child(3)::before{content:"changes approved: "}.people td:nth-child(4)::before{content:"first "}
+.people td:nth-child(5)::before{content:"last "}.log td:nth-child(6)::before{content:"id "}.verdicts td:nth-child(1){font-weight:600}}
 @media print{@page{margin:14mm}html{font-size:10px}body{font-size:1rem;line-height:1.35;max-width:none;padding:0}
 th,td{padding:.1rem .4rem}tr{break-inside:avoid}h2{break-after:avoid}.log th:nth-child(2){width:13rem}}
 """
@@ -45,6 +50,12 @@ def table(name, heads, rows):
     return f'<table class="{name}"><thead><tr>{head}</tr></thead><tbody>\n{body}</tbody></table>'
 
 
+def marks(count, numbers):
+    """The entries of these numbers on a line of time below."""
+    spans = [f'<i style="left:{100 * (it - 1) / count:.2f}%">{it}</i>' for it in sorted(set(numbers))]
+    return f'<div class="marks" role="img" aria-label="the entries of violations">{"".join(spans)}</div>' if spans else ""
+
+
 def picture(count, epochs):
     """The log as a line of time from its first entry to its last, a colour for each policy in force, from the entry that is named on."""
     parts, starts = [], [number for number, _ in epochs]
@@ -55,21 +66,62 @@ def picture(count, epochs):
     return f'<div class="line" role="img" aria-label="the policies in force over the log">{before}{"".join(parts)}</div>'
 
 
-def verdicts(work, root, account):
-    """Each reference that is judged, with its verdict, as rows, and the greatest status."""
-    asked, rows, worst = types.SimpleNamespace(branches=[]), [], 0
-    for it in verifying.meant_by(work, asked):
+def said_of(work, it, line, account):
+    """The sentences on a verdict, and on the way out of a violation."""
+    said, found = [sentences.of_line(line, it.remote)], looking.FAULT.fullmatch(line)
+    if line.startswith("accepted ") and not line.endswith(" 0 entries"):
+        said[0] += verifying.of_unprotected(work, it.name)
+    if found and found[3] in ("ref-rule", "path-rule"):
+        said += [*accounts.of_violation(account, it.name, line), way_out_of(account, it.name, int(found[2]))]
+    return said
+
+
+def way_out_of(account, name, number):
+    """What leads out of a violation: the entries to skip, and whose files are wanted."""
+    own = [it for it, *_ in account.changes.get(name, [])]
+    before = [it[3][1] for it in own if it[0] < number and not account.skipped_by(it)]
+    wanted = before[-1].decode() if before else ZEROS.decode()
+    numbers = ", ".join(str(it[0]) for it in own if it[0] >= number and not account.skipped_by(it))
+    skip = f"skip {numbers}, and record" if numbers else "record"
+    return f"To lead out of it, {skip} {f'the files of {wanted[:12]}' if int(wanted, 16) else 'that it is gone, as before it'}."
+
+
+def verdicts(work, words, root, account):
+    """Each reference that is judged, with its verdict, as rows, the entries of violations, and the greatest status."""
+    asked, rows, bad, worst = types.SimpleNamespace(branches=[], remote=words.remote), [], [], 0
+    meant = verifying.meant_by(work, asked)
+    asking.ahead(work, [verifying.asked_for(work, it, root) for it in meant])
+    verifying.ask_for_rules(work, [it.name for it in meant])
+    for it in meant:
         status, printed = verifying.verdict(work, it, root)
         line = os.fsdecode(printed).strip()
-        said = [sentences.of_line(line, it.remote) if printed else sentences.of_status("verify-ref", status)]
-        said += accounts.of_violation(account, it.name, line) if line.startswith("violation ") else []
+        said = said_of(work, it, line, account) if printed else [sentences.of_status("verify-ref", status)]
         kind = f'<span class="{"bad" if status else "good"}">{text(line.split(" ")[0] or "no verdict")}</span>'
-        rows.append([text(names.short(it.name)), kind, "<br>".join(map(text, said)), f"<code>{text(line)}</code>"])
+        shown = f"{names.short(it.name)}{f' of {it.remote}' if it.remote else ''}"
+        rows.append([text(shown), kind, "<br>".join(map(text, said)), f"<code>{text(line)}</code>"])
+        bad += [int(line.split(" ")[2])] if line.startswith("violation ") else []
         worst = max(worst, status)
     for it in verifying.unspeakable(work):
         rows.append([text(names.short(it)), '<span class="bad">no verdict</span>', "No log can speak of it, and a rule may protect it.", ""])
         worst = max(worst, 1)
-    return rows, worst
+    return rows, bad, worst
+
+
+def warnings(work):
+    """What is to be known beside the verdicts: of logs that do not fit, and of what is shown here otherwise, each a sentence."""
+    return [following.sentence(work, *it) for it in work.unfit] + otherwise.of_all(work, [])
+
+
+def people_rows(account, times):
+    """Who signed how many entries and approved how many changes, and when first and last, as rows."""
+    found, rows = account.found, {}
+    for (number, entry_id, *_), when in zip(found.entries, times):
+        signer = found.people_at(number).shown(found.keys[entry_id])
+        for at, who in [(0, signer), *((1, plain(it)) for it in account.approvals.get(number, []))]:
+            row = rows.setdefault(who, [0, 0, []])
+            row[at] += 1
+            row[2] += [when] if when else []
+    return [[text(who), *counts, min(when, default=""), max(when, default="")] for who, (*counts, when) in rows.items()]
 
 
 def row_of(entry, account):
@@ -90,23 +142,27 @@ def about_tool():
     return ran.stdout.decode(errors="replace").strip()
 
 
-def page(work, root, source):
+def page(work, words, root, source):
     found = listing.Listing(work, work.asked("log"))
     account = accounts.Accounts(work, found)
-    rows, worst = verdicts(work, root, account)
+    rows, bad, worst = verdicts(work, words, root, account)
     entries = [row_of(it, account) for it in found.entries]
     named = text(os.path.basename(work.repository.top or work.repository.git_dir))
     seen = "the first policy that was seen here, which nobody vouched for"
     rests = {trust.GIVEN: "the ids that were given", "gittuf.root": "the setting gittuf.root"}.get(source, seen)
+    last = f", the last of them <code>{found.entries[-1][1].decode()}</code>" if entries else ""
     parts = [
         f"<h1>{named}: what is recorded, and whether it was lawful</h1>",
-        f"<p>{len(entries)} entries. The first policy is held to {rests}: <code>{text(root or 'none')}</code></p>",
+        f"<p>{len(entries)} entries{last}. The first policy is held to {rests}: <code>{text(root or 'none')}</code></p>",
+        *(f'<p class="bad">{text(it)}.</p>' for it in warnings(work)),
         "<h2>Verdicts</h2>",
         table("verdicts", ("Branch or tag", "Verdict", "In words", "The program's line"), rows),
         "<h2>The policies in force</h2>",
-        picture(len(entries), found.epochs) if found.epochs else "<p>None.</p>",
+        picture(len(entries), found.epochs) + marks(len(entries), bad) if found.epochs else "<p>None.</p>",
         "<h2>The policy that is in force now</h2>",
         "<ul>" + "".join(f"<li>{text(it)}</li>" for it in policy_lines.of_policy(policies.in_force(work)) or ["None."]) + "</ul>",
+        "<h2>Who signed</h2>",
+        table("people", ("Who", "Entries signed", "Changes approved", "First", "Last"), people_rows(account, [it[1] for it in entries])),
         "<h2>The log</h2>",
         table("log", ("Entry", "Time", "Signed by", "Approved by", "What", "Id"), entries),
         "<h2>What this rests on</h2>",
@@ -124,7 +180,9 @@ def report(work, words):
     work.bring()
     if LOG not in work.repository.references():
         raise Stopped("there is no log here: git gittuf setup and git fetch bring one, and git gittuf record begins one", 3)
-    made, worst = page(work, *trust.anchor(work, words))
+    trust.expect_entry(work, words)
+    withheld.expect_none(work)
+    made, worst = page(work, words, *trust.anchor(work, words))
     if words.output is None:
         print(made, end="", flush=True)
     else:

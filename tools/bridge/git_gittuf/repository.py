@@ -17,6 +17,7 @@ ATTESTATIONS = b"refs/gittuf/attestations"
 STAGED = b"refs/gittuf/policy-staging"
 # What entries recorded and no branch reaches any more is kept below this name, so that every clone can judge it.
 TARGETS = b"refs/gittuf/targets/"
+TARGET_NAME = re.compile(TARGETS + rb"[0-9a-f]{64}")
 OWN = b"refs/gittuf/"
 REMOTES = b"refs/remotes/"
 ZEROS = b"0" * 64
@@ -58,8 +59,8 @@ class Repository:
         self.git_dir, self.common = (os.path.realpath(it) for it in lines[:2])
         self.top = None if status else os.path.realpath(lines[4])
         self.folder = os.path.join(self.common, "gittuf")
-        # How the references were when they were looked at last, until they are to be looked at again.
-        self.listed = None
+        # How the references were when they were looked at last, until they are to be looked at again, and those for a store of them.
+        self.listed, self.speakable = None, (None, {})
         # Where references are to stand by a push that is judged, or None where they are to go.
         self.pushed = {}
         # The settings, once they are read, and what was found of the log's policies.
@@ -100,6 +101,13 @@ class Repository:
     def git(self, *words, input=b""):
         return git(*self.where, *words, input=input)
 
+    def git_of(self, file, *words):
+        """The same with an open file as standard input."""
+        with Git(*self.where, *words, input=file) as ran:
+            output = ran.output.read()
+            status, said = ran.end()
+        return status, output, said
+
     def asked(self, what, *words, input=b""):
         """What git prints, or the end of the call where it fails."""
         status, output, said = self.git(*words, input=input)
@@ -111,6 +119,8 @@ class Repository:
         """The names below refs/ with the ids at which they stand, or would after a push that is judged."""
         if self.listed is None:
             self.listed = self.list_references()
+        if not self.pushed:
+            return self.listed
         found = {**self.listed, **self.pushed}
         return {name: value for name, value in found.items() if value}
 
@@ -142,7 +152,12 @@ class Repository:
 
     def references(self):
         """Those of them whose names a store can hold."""
-        return {name: value for name, value in self.all_references().items() if stream_format.is_reference_name(name)}
+        there = self.all_references()
+        if self.speakable[0] is not there:
+            # Of these there are as many as entries.
+            is_named = lambda name: TARGET_NAME.fullmatch(name) or stream_format.is_reference_name(name)
+            self.speakable = there, {name: value for name, value in there.items() if is_named(name)}
+        return self.speakable[1]
 
     def own_references(self):
         return {name: value for name, value in self.references().items() if name.startswith(OWN)}
@@ -201,6 +216,10 @@ class Repository:
     @functools.cache
     def remotes(self):
         return [os.fsdecode(it) for it in self.asked("list the remotes", "remote").splitlines()]
+
+    def forget_remotes(self):
+        """Lets the remotes be listed anew, after one was made."""
+        Repository.remotes.cache_clear()
 
     def head(self):
         """The reference that HEAD names, or nothing where it names a commit alone."""

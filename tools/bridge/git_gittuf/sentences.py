@@ -40,6 +40,8 @@ def of_tip(name, words):
             f"No entry of the log says where {name.place} stands. If it is new here, git gittuf record {name.word}; else"
             " the log was cut: git fetch, or ask who recorded last."
         )
+    if not int(kept, 16) and name.place != name.shown:
+        return f"The log has {name.shown} at {recorded[:12]}, and there is no {name.place}: git fetch, or ask who may write there."
     if not int(kept, 16):
         return (
             f"The log has {name.shown} at {recorded[:12]}, and here is no {name.shown}: git fetch, and {back} makes it. If"
@@ -88,6 +90,18 @@ def of_fault(line):
     """The sentence on what is not lawful in a line of a violation, without what leads out of it."""
     words = line.split(" ")
     return of_unlawful(Name(words[1]), words)
+
+
+def of_elsewhere(meant):
+    """Of a branch of a remote that stands where no entry has it, beside one here that is judged."""
+    word = os.fsdecode(names.remote_branch(meant.name, meant.remote)[len(names.REMOTES) :])
+    return f"{plain(word)} stands where no entry has it, and is not judged here: git gittuf verify {quoted(word)}"
+
+
+def of_unprotected(name, rules):
+    """What is added where no rule says who may change a reference, but these for paths."""
+    but = f", but for the paths of {', '.join(map(plain, rules))}" if rules else ""
+    return f" No rule protects {plain(short(name))}, so anybody may change it{but}."
 
 
 # What is added where nobody said whose the first policy is.

@@ -7,6 +7,8 @@ from git_gittuf.shown import plain
 
 KEY_IDS = re.compile("[0-9a-f]{64}(,[0-9a-f]{64})*")
 SAID, SEEN = "gittuf.root", "gittuf.firstRoot"
+# An entry that the log is known to have.
+ENTRY = "gittuf.entry"
 
 
 def key_ids(repository, name):

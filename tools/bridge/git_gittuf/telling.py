@@ -6,9 +6,14 @@ import sys
 from git_gittuf.shown import plain_lines
 
 
+def is_heard():
+    """Whether a person sits at a terminal, who is told what lines mean."""
+    return os.isatty(2)
+
+
 def say(sentence):
     """Tells a person at a terminal what a line means, and nobody else."""
-    if sentence and os.isatty(2):
+    if sentence and is_heard():
         print(sentence, file=sys.stderr, flush=True)
 
 

@@ -1,10 +1,11 @@
 """Whose the first policy must be: whose somebody said it is, or else whose it was when it was first seen here."""
 
+import os
 import sys
 
 from git_gittuf import epochs, history, policies, signers
 from git_gittuf.repository import LOG, Stopped
-from git_gittuf.settings import KEY_IDS, SAID, SEEN, keep, key_ids
+from git_gittuf.settings import ENTRY, KEY_IDS, SAID, SEEN, keep, key_ids
 from git_gittuf.shown import plain
 
 GIVEN = "--root"
@@ -55,3 +56,20 @@ def anchor(work, words):
         with work.alone():
             found = key_ids(repository, SEEN) or see(work)
     return (found, SEEN) if found else (None, None)
+
+
+def pin(work):
+    """Keeps whose the first policy is that is seen here, where nobody said it, before anybody edits or signs by it."""
+    if not key_ids(work.repository, SAID) and not key_ids(work.repository, SEEN):
+        with work.alone():
+            see(work)
+
+
+def expect_entry(work, words):
+    """Refuses to judge by a log that lacks an entry which somebody said that it has: one that was cut, or is another."""
+    known = [words.entry] if words.entry else work.repository.config(ENTRY)[-1:]
+    entries = history.entries(work.asked("log")) if known and LOG in work.repository.references() else []
+    for it in known:
+        if os.fsencode(it) not in {entry for _, entry, *_ in entries}:
+            said = f"the log here lacks the entry {plain(it)}, which it is to have"
+            raise Stopped(f"{said}: git fetch may bring it; else it was cut, or is another one: ask who may write to the server", 3)

@@ -4,12 +4,12 @@ import functools
 import json
 import os
 
-from git_gittuf import accounts, copying, damage, history, names, sentences, trust
+from git_gittuf import accounts, asking, consents, copying, damage, history, names, otherwise, remotes, sentences, signers, trust, withheld
 from git_gittuf.remotes import is_before
-from git_gittuf.repository import LOG, Stopped
+from git_gittuf.repository import LOG, OWN, Stopped
 from git_gittuf.settings import SEEN
-from git_gittuf.shown import plain_name
-from git_gittuf.telling import say, show, tell
+from git_gittuf.shown import plain, plain_name
+from git_gittuf.telling import is_heard, say, show, tell
 
 
 def is_protected(work, name):
@@ -17,23 +17,63 @@ def is_protected(work, name):
     return work.asked("explain", f"git:{os.fsdecode(name)}").startswith(b"rule ")
 
 
+def ask_for_rules(work, them):
+    """Asks ahead whether rules protect these references."""
+    asking.ahead(work, [(("explain", f"git:{os.fsdecode(it)}"), None) for it in them if not it.startswith(OWN)])
+
+
+def protected_of(work, them):
+    """Those of these references that a rule protects."""
+    ask_for_rules(work, them)
+    return [it for it in them if is_protected(work, it)]
+
+
+def elsewhere(work, found):
+    """The branches of remotes that stand where the log never had them, beside those here of the same names."""
+    repository, references = work.repository, work.repository.references()
+    beside, targets = names.places_at_remotes(repository, references), history.targets(work)
+    both = [it.name for it in found if not it.remote and it.name in references and it.name in beside]
+    for name in both if targets is not None else ():
+        had = targets.get(name, [])
+        for it in beside[name]:
+            # One that is only behind is what whoever has not pushed yet sees.
+            if it.value not in (references[name], *had) and not (had and is_before(repository, it.value, had[-1])):
+                yield it
+
+
 def meant_by(work, words):
-    """What is to be judged: what words name, or all that the log speaks of or a rule protects."""
+    """What is to be judged: what words name, or all that the log speaks of or a rule protects; or that of a remote."""
+    repository, remote = work.repository, words.remote
+    recorded = functools.cache(lambda: history.recorded_names(work))
+    if remote is not None and remote not in remotes.remotes(repository):
+        raise Stopped(f"there is no remote {plain(remote)}: git remote -v lists them", 3)
+    if words.branches and remote is not None:
+        return [names.of_word_at_remote(repository, remote, it, recorded) for it in words.branches]
     if words.branches:
-        recorded = functools.cache(lambda: history.recorded_names(work))
-        return [it for word in words.branches for it in names.of_word(work.repository, word, recorded)]
-    recorded = history.recorded_names(work)
-    if not recorded:
+        return [it for word in words.branches for it in names.of_word(repository, word, recorded)]
+    if not recorded():
         # Nothing judged is not to look like all is well.
         raise Stopped("there is no log here: git gittuf setup and git fetch bring one, and git gittuf record begins one", 3)
-    return names.all_of(work.repository, recorded, lambda name: is_protected(work, name))
+    protected = functools.partial(protected_of, work)
+    if remote is not None:
+        return names.all_at_remote(repository, remote, recorded(), protected)
+    found = names.all_of(repository, recorded(), protected)
+    return [*found, *elsewhere(work, found)]
+
+
+def asked_for(work, meant, root):
+    """The words for the verdict on a reference, and where it is to stand in the store for that, or nothing."""
+    asked = ("verify-ref", os.fsdecode(meant.name), *(() if root is None else ("--root", root)))
+    if meant.remote:
+        return asked, (meant.name, meant.value)
+    value = None if copying.is_own(meant.name) else work.repository.references().get(meant.name)
+    return asked, (meant.name, value) if value else None
 
 
 def verdict(work, meant, root):
     """The program's status and line on a reference."""
-    asked = ("verify-ref", os.fsdecode(meant.name), *(() if root is None else ("--root", root)))
-    value = meant.value or (None if copying.is_own(meant.name) else work.repository.references().get(meant.name))
-    return work.read(*asked, at=(meant.name, value) if value else None)
+    asked, at = asked_for(work, meant, root)
+    return work.read(*asked, at=at)
 
 
 def unspeakable(work):
@@ -58,15 +98,29 @@ def said_of(work, meant, line, source):
     found = damage.object_in(line.encode(errors="surrogateescape") + b"\n") if words[0] == "violation" else None
     if found and repository.there([found]):
         return sentences.of_limit(words)
-    unpinned = sentences.UNPINNED if words[0] == "accepted" and words[2] != "0" and source == SEEN else ""
-    return sentences.of_line(line, meant.remote) + unpinned
+    return sentences.of_line(line, meant.remote) + (of_accepted(work, meant, source) if words[0] == "accepted" and words[2] != "0" else "")
 
 
-def json_of(line, meant, source, told):
+def of_accepted(work, meant, source):
+    """What is added where a verdict rests on less than it may seem to."""
+    return of_unprotected(work, meant.name) + (sentences.UNPINNED if source == SEEN else "")
+
+
+def of_unprotected(work, name):
+    """What is added where no rule says who may change a reference."""
+    if name.startswith(OWN) or is_protected(work, name):
+        return ""
+    policy = signers.in_force(work).policy
+    return sentences.of_unprotected(name, [it["name"] for it in consents.asked_by_paths(policy)] if policy else [])
+
+
+def json_of(work, line, meant, source, told):
     """A verdict as a JSON object, with what it rests on, and what is told of its entries where that is asked for."""
     words = line.split(" ")
     kind = words[0]
     found = {"verdict": kind, "line": line, "remote": meant.remote, "root": source, **({} if told is None else {"told": told})}
+    if kind != "log-broken" and not meant.name.startswith(OWN):
+        found.update(protected=is_protected(work, meant.name))
     if kind == "accepted":
         found.update(ref=words[1], entries=int(words[2]))
     elif kind == "tip-differs":
@@ -76,12 +130,12 @@ def json_of(line, meant, source, told):
     return f"{json.dumps(found, sort_keys=True)}\n".encode()
 
 
-def show_verdict(words, meant, source, printed, account):
+def show_verdict(work, words, meant, source, printed, account):
     """Prints a verdict as it is asked for, with what is told of its entries."""
     line = os.fsdecode(printed).rstrip("\n")
     told = account.of(meant.name, line) if account and printed else None
     if words.json and printed:
-        show(json_of(line, meant, source, told))
+        show(json_of(work, line, meant, source, told))
         return
     show(printed)
     for it in accounts.in_lines(told or [], account):
@@ -95,21 +149,28 @@ def account_of(work, words):
 
 def verify(work, words):
     work.bring()
+    trust.expect_entry(work, words)
+    withheld.expect_none(work)
     odd = [] if words.branches else unspeakable(work)
-    worst = 1 if odd else 0
     for it in odd:
         tell(f"no log can speak of {plain_name(it)}, which a rule may protect")
     meant, account = meant_by(work, words), account_of(work, words)
     root, source = trust.anchor(work, words)
+    asking.ahead(work, [asked_for(work, it, root) for it in meant])
+    if words.json or is_heard():
+        ask_for_rules(work, [it.name for it in meant])
+    worst, references = 1 if odd else 0, work.repository.references()
     for it in meant:
         status, printed = verdict(work, it, root)
-        show_verdict(words, it, source, printed, account)
+        show_verdict(work, words, it, source, printed, account)
         line = os.fsdecode(printed).rstrip("\n")
-        said = said_of(work, it, line, source) if printed else sentences.of_status("verify-ref", status)
-        if not words.branches and sentences.is_unrecorded(line):
-            tell(said)
-        else:
-            say(said)
+        is_odd = not words.branches and (sentences.is_unrecorded(line) or it.remote and not words.remote and it.name in references)
+        if is_odd or is_heard():
+            said = said_of(work, it, line, source) if printed else sentences.of_status("verify-ref", status)
+            (tell if is_odd else say)(said)
         worst = max(worst, status)
+    beside = elsewhere(work, meant) if words.branches and words.remote is None else ()
+    for it in [*map(sentences.of_elsewhere, beside), *otherwise.of_all(work, [] if words.branches else meant)]:
+        tell(it)
     # A log that does not fit is of somebody who was shown another one.
     return max(worst, 3) if any(name == LOG for _, name, _ in work.unfit) else worst

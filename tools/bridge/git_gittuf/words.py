@@ -3,7 +3,7 @@
 import argparse
 import re
 
-from git_gittuf import commands, doctor, dossiers, explaining, hook_calls, hooks, listing, mirroring, policy_commands, policy_edits, pushing
+from git_gittuf import commands, desk_fetching, doctor, dossiers, explaining, hook_calls, hooks, listing, mirroring, policy_commands, policy_edits, pushing
 from git_gittuf import recovering, reporting, verifying
 from git_gittuf.repository import Stopped
 from git_gittuf.shown import plain
@@ -16,8 +16,8 @@ records each change, and everyone can verify both in a clone of one's own. Branc
 
 Begin
   setup [REMOTE]                make the store beside Git's objects, and let git fetch and git push carry what is below
-      [--root KEYID,..]         refs/gittuf/ from and to the remote; --root keeps whose the first policy must be; --anew
-      [--anew]                  makes the store again from nothing
+      [--root KEYID,..]         refs/gittuf/ from and to the remote; --root keeps whose the first policy must be, --entry
+      [--entry ID] [--anew]     an entry that the log must have; --anew makes the store again from nothing
   key [--file PATH]             make a key, or print the line of the one that is there; PATH becomes gittuf.key, which
       [--height H] [--width W]  is ~/.local/share/gittuf/key where it is not set; with --bottom it has two levels, of
       [--bottom H]              these heights; --id and --public print a word of it
@@ -50,20 +50,27 @@ Every day
       [--delete] [--anyway]     that it may be gone, where a rule wants that of the key here
   push [BRANCH ..]              push these or the branch that is checked out, and what else is recorded since, with the
       [--remote R] [--anyway]   log, all or nothing; where another was faster it does what sync does, and pushes again
+  push --desk PORT              send the entries that the desk at this port of this machine lacks, in their order, and say
+                                for each what it answers; status 7 where it does not take one
+  fetch --desk PORT             bring what the desk has, as a remote has it, which is named desk or NAME; git fetch and
+      [--remote NAME]           git push do not talk with a desk
   sync [--remote R] [--anyway]  fetch, and where another recorded first, record what is still lawful after that anew
   recover BRANCH [--anyway]     lead out of a violation: sign the skips, say which files are wanted, and then record
   verify [BRANCH ..]            say whether each change was lawful; with no name, of all that the log speaks of and of
       [--root KEYID,..]         each branch and tag that a rule protects. A remote's branch stands for one that is not
-      [--pinned]                here, and is named as origin/main. The first policy must have the keys of --root, or
-      [-v] [--json]             those that setup --root kept, which --pinned demands, or else those that it was seen
-                                to have here first. -v tells of each entry who signed and who approved it, when, and
-                                of a violation who is missing
+      [--pinned]                here, and is named as origin/main; one that stands where no entry has it is judged beside
+      [--entry ID]              the one here. --remote R judges the branches of R in place of those here. The first
+      [--remote R]              policy must have the keys of --root, or those that setup --root kept, which --pinned
+      [-v] [--json]             demands, or else those that it was seen to have here first; --entry says which entry
+                                the log must have. -v tells of each entry who signed and who approved it, when, and of
+                                a violation who is missing
   skip ENTRY .. [-m TEXT]       sign that entries, by number or id, are to be skipped
       [--anyway]
   note ENTRY .. [-m TEXT]       sign a note on entries
   log [-v | --json]             print the log, a line for each entry; -v and --json say who signed it, when, and what it says
   report [-o FILE]              write a page of HTML for an auditor: the verdicts, the log with who signed it, the policy,
       [--root ..] [--pinned]    and what this rests on
+      [--entry ..] [--remote R]
   explain NAME [-v] [--json]    print the rules that protect a branch or a path; -v and --json say whom they ask
   export                        print the stream of the store, without the content of files
   mirror REMOTE [--into STORE]  offer what a remote, or a repository at a path, has to a mirror: a store whose log only
@@ -90,7 +97,7 @@ what was asked for, 4 what is outside, as a repository that is none, or another 
 
 
 WORDS = (
-    "setup", "key", "doctor", "record", "approve", "verify", "recover", "push", "sync", "skip", "note", "log", "explain",
+    "setup", "key", "doctor", "record", "approve", "verify", "recover", "push", "fetch", "sync", "skip", "note", "log", "explain",
     "report", "export", "mirror", "evidence", "policy", "hook",
 )  # fmt: skip
 STEPS = ("init", "person", "rotate", "rule", "show", "sign", "discard", "apply")
@@ -150,6 +157,20 @@ def key_ids(text):
     return ",".join(ids)
 
 
+def port(text):
+    """A port by its number."""
+    if not re.fullmatch("[1-9][0-9]{0,4}", text) or int(text) > 65535:
+        raise argparse.ArgumentTypeError(f"{text!r} is no port: 1 to 65535 are")
+    return int(text)
+
+
+def entry_id(text):
+    """The whole id of an entry, since a part of one could be met by trying."""
+    if not re.fullmatch("[0-9a-f]{64}", text):
+        raise argparse.ArgumentTypeError(f"{text!r} is no id of an entry: git gittuf log prints them, of 64 digits")
+    return text
+
+
 def key_words(it):
     it.add_argument("--file")
     it.add_argument("--bottom")
@@ -197,6 +218,7 @@ def words_of_begin(take):
     take["setup"].add_argument("remote", nargs="?")
     take["setup"].add_argument("--anew", action="store_true")
     take["setup"].add_argument("--root", type=key_ids)
+    take["setup"].add_argument("--entry", type=entry_id)
     key_words(take["key"])
     take["doctor"].add_argument("--take", metavar="REMOTE", nargs="?", const="")
     take["doctor"].add_argument("--json", action="store_true")
@@ -214,6 +236,10 @@ def words_of_signing(take):
     for name in ("push", "sync"):
         take[name].add_argument("--remote")
         take[name].set_defaults(work=getattr(pushing, name))
+    take["fetch"].add_argument("--remote", metavar="NAME")
+    take["fetch"].set_defaults(work=desk_fetching.fetch)
+    for name in ("push", "fetch"):
+        take[name].add_argument("--desk", type=port, metavar="PORT", required=name == "fetch")
     for name in ("skip", "note"):
         annotate_words(take[name])
         take[name].set_defaults(work=commands.annotate)
@@ -236,6 +262,8 @@ def words_of_judging(take):
     for name in ("verify", "report"):
         take[name].add_argument("--root", type=key_ids)
         take[name].add_argument("--pinned", action="store_true")
+        take[name].add_argument("--entry", type=entry_id)
+        take[name].add_argument("--remote")
     take["log"].set_defaults(work=listing.log)
     for name in ("verify", "log", "explain"):
         take[name].add_argument("-v", "--verbose", action="store_true")

@@ -157,20 +157,22 @@ class Work:
         return {it: at for it, at in held if it == name or it.startswith(name + b"/") or name.startswith(it + b"/")}
 
     @contextlib.contextmanager
-    def standing_at(self, name, value, objects=()):
-        """Lets a reference stand elsewhere in the store, and nowhere else, while the program looks at it, beside these objects."""
+    def standing_at(self, moves, objects=()):
+        """Lets references stand elsewhere in the store, or nowhere, while the program looks at them, beside these objects."""
         with self.alone():
             # Another call may have changed the store until this one was alone.
-            way, added = self.in_the_way(name), [it for it in objects if not self.kept.has(it[0])]
+            way = {it: at for name in moves for it, at in self.in_the_way(name).items()}
+            wanted = {name: value for name, value in moves.items() if value}
+            added = [it for it in objects if not self.kept.has(it[0])]
             with self.kept.opened():
                 for it in added:
                     self.kept.put(*it)
-                self.kept.set_references(way, {name: value})
+                self.kept.set_references(way, wanted)
             try:
                 yield
             finally:
                 with self.kept.opened():
-                    self.kept.set_references({name: value}, way)
+                    self.kept.set_references(wanted, way)
                     for it in added:
                         self.kept.take_out(it[0])
 
@@ -192,29 +194,42 @@ class Work:
             raise Ended(("log",), status, printed)
         return None if status else printed
 
+    def place(self, words, at, objects):
+        """Where the answer to these words is kept as the store is, which is nowhere where it has further objects for a while."""
+        references = self.kept.references()
+        if at:
+            for it in self.in_the_way(at[0]):
+                del references[it]
+            references.update({at[0]: at[1]} if at[1] else {})
+        return None if objects else self.answers.place(words, references)
+
     def read(self, *words, at=None, objects=()):
         """The status and the output of a command that only reads the store, which is made again where it is damaged.
 
-        With `at` a reference stands at a value then, and nowhere else, beside these objects.
+        With `at` a reference stands at a value then, and nowhere else, or with none nowhere, beside these objects.
         """
-        if at and self.in_the_way(at[0]) == {at[0]: at[1]}:
+        if at and self.is_standing(*at):
             at = None
-        key = (*words, "at", os.fsdecode(at[0]), at[1].decode()) if at else words
-        found = self.answers.get(key)
+        found = self.answers.get(self.place(words, at, objects))
         if found is None:
-            found = self.read_anew(words, at, objects)
+            place, found = self.read_anew(words, at, objects)
             if not self.is_ahead and damage.is_in_store(self, *found):
                 tell("the store was damaged, and is made again from Git")
                 self.renew()
-                found = self.read_anew(words, at, objects)
-            self.answers.put(key, found)
+                place, found = self.read_anew(words, at, objects)
+            self.answers.put(place, found)
         return found
 
     def read_anew(self, words, at, objects):
+        """What the program answers, and where that is kept, as the store is while the program looks at it."""
         if not at:
-            return program.run(f"{self.kept.folder}/", "-", *words)
-        with self.standing_at(*at, objects):
-            return program.run(f"{self.kept.folder}/", "-", *words)
+            return self.place(words, at, objects), program.run(f"{self.kept.folder}/", "-", *words)
+        with self.standing_at({at[0]: at[1]}, objects):
+            return self.place(words, None, objects), program.run(f"{self.kept.folder}/", "-", *words)
+
+    def is_standing(self, name, value):
+        """Whether a reference stands there in the store, or nowhere where that is none."""
+        return self.in_the_way(name) == {name: value} if value else name not in self.kept.references()
 
     def run(self, *words, key="-", input=b"", **how):
         if words[0] in LASTING:
@@ -256,7 +271,8 @@ class Work:
         finally:
             self.is_ahead = False
         self.journal.clear()
-        self.bring()
+        # The log is read again by the next call, which keeps what others recorded.
+        self.copy()
         return answer
 
     def end(self):

@@ -1,0 +1,2 @@
+pub mod OneServe
+pub mod ToldWorld

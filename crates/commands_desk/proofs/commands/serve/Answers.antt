@@ -1,0 +1,13 @@
+use Rattle.std.proofs.Common.{rules}
+use Rattle.endings.proofs.Counting.{as_ended}
+use Rattle.worlds.specs.Given.{world_of}
+use Rattle.worlds.specs.Worlds.{faults_of, ways}
+use Rattle.commands_desk.specs.Readying.{serve_ending}
+use Rattle.commands_desk.proofs.commands.serve.Goals as goal
+
+pub returns-clause-runs : goal.returns-clause-runs
+returns-clause-runs g c =
+    let told = ways g.W.Source.Source g.W.Sink.Sink g.W.Keeper.Keeper g.W.Disk.Disk g.W.Entropy.Entropy g.W.Clock.Clock in
+    let counted = as_ended _ _ c.serve_ending.result (serve_ending c.serve-outcome.result) c.serve_ending.ensures
+    (c.serve-outcome.ensures.counted (faults_of told (world_of c.args.outside.now))) in
+    search rules

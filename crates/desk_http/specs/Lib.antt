@@ -1,0 +1,2 @@
+-- what a desk over a store answers, and what holds of it
+pub mod Answers

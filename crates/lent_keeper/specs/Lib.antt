@@ -1,0 +1,2 @@
+-- what a store that is lent tells on
+pub mod Lending

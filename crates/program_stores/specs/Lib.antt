@@ -1,0 +1,2 @@
+-- the kind of store that a word is opened as, and the statuses of a refusal
+pub mod Opening

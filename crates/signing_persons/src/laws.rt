@@ -1,0 +1,9 @@
+//! Laws over the definitions of this crate. No call needs these functions: their contracts are the laws.
+
+ghost use Rattle.signing_persons.specs.Laws.{NamedWhere};
+
+/// A name is told exactly where a person of this name, of the policy's root or of one of its rule files, has one of the
+/// keys, and where there are no keys none is told.
+pub fn named_where()
+    ensures { NamedWhere }
+{}

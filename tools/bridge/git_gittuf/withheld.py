@@ -1,0 +1,95 @@
+"""Policies that the log names and that are not here: what comes after one would be judged by an older policy.
+
+A server need not hand out all that it has. The program takes a policy that it cannot read for one that comes into force
+nowhere, and judges on by the one before. So it is looked at before whether each is here, and nothing is judged where one
+is not: unless as many of those who sign policies as are wanted say that its entry is to be skipped, since whoever writes
+into the log may name what never was.
+"""
+
+from git_gittuf import epochs, history, policies, signers
+from git_gittuf.repository import LOG, POLICY, ZEROS, Stopped
+from git_gittuf.telling import tell
+from packs import EMPTY_TREE
+from stream_format import MAX_BODY
+
+
+def objects_of(repository, targets):
+    """All that these commits name, but other commits, each as its id and path; or nothing where Git lacks any of it."""
+    lines = b"".join(b"%s\n" % it for it in targets)
+    status, output, _ = repository.git("rev-list", "--objects", "--no-walk", "--stdin", input=lines)
+    return None if status else [it.partition(b" ")[::2] for it in output.splitlines()]
+
+
+def policies_of(entries):
+    """The entries that record a policy, as number, id and target."""
+    rows = [(number, it, rest[1]) for number, it, kind, rest in entries if kind == b"ref" and rest[0] == POLICY]
+    return [it for it in rows if it[2] != ZEROS]
+
+
+def holder_in(policy, key):
+    """Who of the root of a policy has a key: the person, or in schema 1 the key itself; or nothing."""
+    role = policy.role("root")
+    person = signers.persons_of(policy).get(key)
+    return person if person in role.get("persons", []) else key if key in role.get("keyids", []) else None
+
+
+def is_taken_back(repository, entries, entry_id):
+    """Whether as many of the root of the policy then in force as it wants signed that an entry is to be skipped."""
+    starts, signed = epochs.of_entries(repository, entries), set()
+    skips = set(history.skips_of(repository, entries, entry_id))
+    for number, annotation, *_ in entries:
+        before = [target for start, target in starts if start < number]
+        if annotation not in skips or not before:
+            continue
+        policy = policies.Policy(repository, before[-1])
+        key = signers.of_entries(repository, [annotation], policy.publics()).get(annotation)
+        signed.add(holder_in(policy, key))
+        if len(signed - {None}) >= policy.role("root")["threshold"]:
+            return True
+    return False
+
+
+def looked_for(work):
+    """The entries whose policy is not here, and that nobody took back, as number, id and target; and what is here of the others."""
+    repository = work.repository
+    status, printed = work.read("log") if LOG in repository.references() else (0, b"")
+    entries = history.entries(printed) if not status else ()
+    rows = policies_of(entries)
+    found = objects_of(repository, [it[2] for it in rows]) if rows else []
+    if found is not None:
+        return [], found
+    there = {it[2]: objects_of(repository, [it[2]]) for it in rows}
+    lacking = [it for it in rows if there[it[2]] is None and not is_taken_back(repository, entries, it[1])]
+    return lacking, [row for them in there.values() for row in them or ()]
+
+
+def lacking(work):
+    return looked_for(work)[0]
+
+
+def sentence(number, target):
+    return f"entry {number} recorded a policy that is not here, {target.decode()[:12]}", (
+        f"git fetch may bring it; a server may hold it back, or it never was, and then git gittuf skip {number} by who signs policies says so"
+    )
+
+
+def expect_none(work):
+    """Refuses to judge where a policy is not here. A store that lacks of one what the program reads is made again."""
+    found, there = looked_for(work)
+    if found:
+        what, way = sentence(found[0][0], found[0][2])
+        raise Stopped(f"{what}, and by the one before nothing is judged: {way}", 3)
+    if not all(map(work.kept.is_sound, read_of(work.repository, there))):
+        tell("the store lacks a policy, and is made again from Git")
+        work.renew()
+
+
+def read_of(repository, there):
+    """The ids of what the program reads of these objects of policies, as far as a store takes it."""
+    files = {it for it, path in there if path.startswith(b"metadata/") and path.endswith(b".json")}
+    ids = files | {it for it, path in there if path in (b"", b"metadata")}
+    given = b"".join(b"%s\n" % it for it in ids - {EMPTY_TREE})
+    how = "--batch-check=%(objectname) %(objecttype) %(objectsize)"
+    rows = [it.split() for it in repository.asked("look objects up", "cat-file", how, input=given).splitlines()] if given else []
+    most = {b"commit": MAX_BODY, b"tree": MAX_BODY, b"blob": epochs.MAX_FILE}
+    return [it for it, kind, size in rows if int(size) <= most.get(kind, -1) and (kind != b"blob" or it in files)]
