@@ -1,5 +1,5 @@
-# Completion of bash for gittuf and git gittuf. It goes into bash-completion's folder under the names gittuf and
-# git-gittuf, where it and git's own completion find it, or is sourced.
+# Completion of bash for gittuf, gittuf-inspect and git gittuf. It goes into bash-completion's folder under these names,
+# with git-gittuf for the last, where it and git's own completion find it, or is sourced.
 
 _gittuf_reply() { mapfile -t COMPREPLY < <(compgen "$@" -- "$cur"); }
 
@@ -24,6 +24,24 @@ _gittuf() {
                 verify-ref) _gittuf_reply -W "$(_gittuf_references) --root --stdin" ;;
                 record | snapshot | approve) _gittuf_reply -W "$(_gittuf_references)" ;;
                 explain) _gittuf_reply -W 'git: file:' ;;
+            esac
+            ;;
+    esac
+}
+
+# The program gittuf-inspect: a store, a word and what it takes.
+_gittuf_inspect() {
+    local cur=${COMP_WORDS[COMP_CWORD]}
+    case $COMP_CWORD in
+        1) _gittuf_reply -d -S / -W -; compopt -o nospace 2> /dev/null ;;
+        2) _gittuf_reply -W 'log verdicts would used policy' ;;
+        *)
+            case ${COMP_WORDS[2]} in
+                log) _gittuf_reply -W '--root --from' ;;
+                verdicts) _gittuf_reply -W "$(_gittuf_references) --root" ;;
+                would) _gittuf_reply -W "$(_gittuf_references) --key --root --annotate" ;;
+                used) _gittuf_reply -W '--key --root' ;;
+                policy) _gittuf_reply -W '--root --at --against' ;;
             esac
             ;;
     esac
@@ -72,4 +90,5 @@ _git_gittuf() {
 }
 
 complete -F _gittuf gittuf ./gittuf
+complete -F _gittuf_inspect gittuf-inspect
 complete -F _git_gittuf git-gittuf

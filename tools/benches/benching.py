@@ -69,25 +69,6 @@ class Case:
         return Figure(clock, used.ru_utime + used.ru_stime, most * 1024)
 
 
-def measure(self):
-        if self.before:
-            self.before()
-        with open(self.source, "rb") as given, tempfile.TemporaryFile() as told:
-            output = subprocess.DEVNULL if self.wanted is None else told
-            start = time.perf_counter()
-            process = subprocess.Popen(self.words, stdin=given, stdout=output)
-            # The usage of this one child, which no other call tells.
-            _, status, used = os.wait4(process.pid, 0)
-            clock = time.perf_counter() - start
-            process.returncode = os.waitstatus_to_exitcode(status)
-            told.seek(0)
-            found = told.read()
-        if process.returncode != self.status or (self.wanted is not None and found != self.wanted):
-            name = " ".join([os.path.basename(self.words[0]), *self.words[1:]])
-            raise Failed(f"{name} ended with status {process.returncode} and printed {found[:200]!r}")
-        return Figure(clock, used.ru_utime + used.ru_stime, used.ru_maxrss * 1024)
-
-
 def measure(runs=RUNS, **cases):
     """The least of each figure over the rounds, in each of which all cases run, so that they share what else runs."""
     rounds = [{name: case.measure() for name, case in cases.items()} for _ in range(runs)]

@@ -17,6 +17,14 @@ PROGRAM = os.path.join(TOP, "crates", "gittuf", "out", "gittuf")
 SMALL_PROGRAM = os.path.join(TOP, "crates", "source_check", "out", "source_check")
 RELEASE = os.path.join(TOP, "release")
 PLAIN, NEWER = "x86-64-v2", "x86-64-v3"
+# The program gittuf-inspect, its name in a package, and what stands there beside it.
+INSPECT_PROGRAM = os.path.join(TOP, "crates", "gittuf_inspect", "out", "gittuf_inspect")
+INSPECT = "gittuf-inspect"
+INSPECT_COMPLETION = {
+    "share/bash-completion/completions/gittuf-inspect": "gittuf.bash",
+    "share/zsh/vendor-completions/_gittuf-inspect": "_gittuf-inspect",
+}
+INSPECT_PAGE = "gittuf-inspect.1"
 # The folder of the programs and of the launcher.
 FRONT = "lib/gittuf"
 TOOLS = ("git-gittuf", "git-to-stream", "stream-to-git")
@@ -29,7 +37,7 @@ COMPLETION = {
     "share/fish/vendor_completions.d/git-gittuf.fish": "git-gittuf.fish",
 }
 # These are for whoever changes the product, and has it in a checkout.
-NOT_PACKED = {"ARCHITECTURE.md", "CONTRIBUTING.md", "DECISIONS.md", "WRONG-BODIES.md", "gittuf-inspect.1"}
+NOT_PACKED = {"ARCHITECTURE.md", "CONTRIBUTING.md", "DECISIONS.md", "WRONG-BODIES.md"}
 CONTROL = """Package: gittuf
 Version: {version}
 Architecture: amd64
@@ -94,7 +102,9 @@ def released_program(name):
 
 
 def files_of(programs, about):
-    """The files by their paths below /usr, each with its bytes and mode, of programs by their names."""
+    """The files by their paths below /usr, each with its bytes and mode, of programs by their names. What belongs to
+    gittuf-inspect is there where that is."""
+    has_inspect = INSPECT in programs
     found = {
         f"{FRONT}/gittuf": (text_of("gittuf"), 0o755),
         f"{FRONT}/version": (f"gittuf {about}\n".encode(), 0o644),
@@ -109,9 +119,9 @@ def files_of(programs, about):
         for it in sorted(os.listdir(os.path.join(TOP, "tools", folder))):
             if it.endswith(".py"):
                 found[f"{FRONT}/tools/{folder}/{it}"] = (text_of("tools", folder, it), 0o644)
-    for path, it in COMPLETION.items():
+    for path, it in {**COMPLETION, **(INSPECT_COMPLETION if has_inspect else {})}.items():
         found[path] = (text_of("completion", it), 0o644)
-    for it in sorted({*os.listdir(os.path.join(TOP, "man"))} - NOT_PACKED):
+    for it in sorted({*os.listdir(os.path.join(TOP, "man"))} - (set() if has_inspect else {INSPECT_PAGE})):
         found[f"share/man/man1/{it}.gz"] = (gzip.compress(text_of("man", it), mtime=0), 0o644)
     for it in sorted({*os.listdir(os.path.join(TOP, "docs"))} - NOT_PACKED):
         found[f"share/doc/gittuf/{it}"] = (text_of("docs", it), 0o644)
@@ -146,13 +156,16 @@ def add(tar, path, seconds, kind, mode, body=b"", link=""):
     tar.addfile(it, io.BytesIO(body))
 
 
+def c_library(programs):
+    """The version of the C library that programs want: each names those of which it uses something."""
+    named = re.findall(rb"GLIBC_(\d+)\.(\d+)", b"".join(programs))
+    return "{}.{}".format(*max(((int(it), int(more)) for it, more in named), default=(2, 17)))
+
+
 def deb_of(number, says, files, links, seconds):
     """A package of Debian: an ar archive of the format's number, what it says of itself, and its files."""
     size = sum(len(body) for body, _ in files.values()) // 1024 + 1
-    # A program names each version of the C library of which it uses something.
-    programs = [body for path, (body, _) in files.items() if body.startswith(b"\x7fELF")]
-    named = re.findall(rb"GLIBC_(\d+)\.(\d+)", b"".join(programs))
-    libc = "{}.{}".format(*max(((int(it), int(more)) for it, more in named), default=(2, 17)))
+    libc = c_library(body for path, (body, _) in files.items() if body.startswith(b"\x7fELF"))
     control = {"control": (CONTROL.format(version=number, size=size, libc=libc, built=says).encode(), 0o644)}
     members = {
         "debian-binary": b"2.0\n",
@@ -168,10 +181,11 @@ def deb_of(number, says, files, links, seconds):
 
 def packages_of(programs, number, commit, kit, changed=""):
     """The package and the archive by their names, of programs by theirs, which this kit built of a commit."""
-    cpus = " and ".join(it.removeprefix("gittuf-") for it in sorted(programs) if it.startswith("gittuf-"))
+    cpus = " and ".join(it.removeprefix("gittuf-") for it in sorted(programs) if it.startswith("gittuf-") and it != INSPECT)
     says = f"built for {cpus} by {kit}"
     files = files_of(programs, f"{number}; commit {commit}{changed}, {says}")
-    links = {f"bin/{name}": f"../{FRONT}/{it}" for name, it in LINKS.items()}
+    linked = {**LINKS, **({INSPECT: INSPECT} if INSPECT in programs else {})}
+    links = {f"bin/{name}": f"../{FRONT}/{it}" for name, it in linked.items()}
     seconds = int(asked("log", "-1", "--format=%ct", commit))
     return {
         f"gittuf_{number}_amd64.deb": deb_of(number, says[0].upper() + says[1:], files, links, seconds),

@@ -1,12 +1,16 @@
 """The checks of tools/test on what gittuf-inspect tells of logs that were drawn: held to a slow reading of the same logs, and
-what it says mends them is done."""
+what it says mends them is done. `python3 tools/tests/check_accounts.py LOGS [SEED]` draws as many more logs as are wanted."""
 
 import os
+import sys
+import tempfile
+from itertools import count
 
 from check_inspecting import INSPECT, told
-from checking import ZEROS, Skip, want
+from checking import ZEROS, Failure, Skip, want
 from rows_histories import POLICY, History
-from slow_verdicts import KEYS, LOST, Move, Note
+from rows_objects import AUTHOR
+from slow_verdicts import KEYS, LOST, Move, Note, Policy
 from slow_verdicts import fault, is_back, left_behind, may_skip, not_epoch, numbers_of, policy_at, prior, rescued
 from slow_verdicts import skipped, verdict
 
@@ -18,10 +22,23 @@ def drawn():
     return rows_of_drawn_logs
 
 
+def targets_of(history):
+    """The ids of targets in a history, whose policies are sealed for it alone."""
+    rows = drawn()
+    sealed = rows.Sealed()
+
+    class Targets(rows.Targets):
+        def __missing__(self, target):
+            self[target] = self.history.commit(sealed.files(target) if isinstance(target, Policy) else rows.FILES[target])
+            return self[target]
+
+    return Targets(history)
+
+
 def history_of(log, kept):
     """A repository with a log, in which each reference is where it is kept, and the ids of its targets."""
     history = History()
-    ids = drawn().Targets(history)
+    ids = targets_of(history)
     for entry in log:
         if isinstance(entry, Move):
             history.record(entry.name, ids[entry.target], entry.signer)
@@ -71,8 +88,9 @@ def epoch_at(log, number):
 
 
 def told_of(log, number, history, ids):
-    """What is to be told of an entry, without its key, its signature and its signers."""
+    """What is to be told of an entry, without its key, its signature and its signers. No drawn policy knows persons."""
     entry, own = log[number - 1], {"number": number, "id": history.ids[number - 1], "epoch": epoch_at(log, number)}
+    own |= {"author": AUTHOR.decode(), "time": 0, "persons": []}
     if isinstance(entry, Note):
         listed = [history.ids[at - 1] if at else drawn().NOWHERE for at in entry.listed]
         return {**own, "kind": "skip" if entry.skip else "note", "entries": listed, "message": "", "verdict": "noted"}
@@ -91,16 +109,36 @@ def told_of(log, number, history, ids):
     }
 
 
+def hold_entries(repositories, place, log, kept):
+    """Holds what gittuf-inspect log tells of a log, and verdicts of its references, to the slow reading."""
+    history, ids = history_of(log, kept)
+    folder = folder_of(repositories, f"drawn {place}", history.repository)
+    status, found = told(folder, word="log")
+    wanted = [told_of(log, number, history, ids) for number in range(1, len(log) + 1)]
+    want((status, [{it: line[it] for it in entry} for line, entry in zip(found, wanted)]), (0, wanted), f"drawn log {place}")
+    status, found = told(folder, *kept)
+    wanted = [verdict_of(log, name, kept[name], history, ids) for name in kept]
+    want((status, found), (int(any(it["verdict"] != "accepted" for it in wanted)), wanted), f"the verdicts of drawn log {place}")
+
+
+def verdict_of(log, name, target, history, ids):
+    """What is to be told of a reference that is kept at a target. The rule of each policy protects all branches."""
+    word, *rest = verdict(log, name, target)
+    if word == "violation":
+        return {"verdict": word, "reference": name, "number": rest[0], "fault": fault_fields(rest[1]), "mends": mend_of(log, name, history, ids)[1]}
+    spoken = bool(numbers_of(log, name, len(log) + 1))
+    unrecorded = not spoken and name != POLICY and policy_at(log, len(log) + 1) is not None
+    own = {"verdict": word, "reference": name, **({"unrecorded": True} if unrecorded else {})}
+    if word == "tip-differs":
+        return {**own, "kept": ids[rest[0]], "recorded": ids[rest[1]]}
+    return {**own, "entries": rest[0]}
+
+
 def tells_drawn_logs(repositories):
-    """gittuf-inspect log tells of each entry of drawn logs what a slow reading finds of it"""
-    entries = 0
+    """gittuf-inspect log and verdicts tell of each entry and each reference of drawn logs what a slow reading finds of it"""
     for place, (log, kept) in enumerate(drawn().LOGS):
-        history, ids = history_of(log, kept)
-        status, found = told(folder_of(repositories, f"drawn {place}", history.repository), word="log")
-        wanted = [told_of(log, number, history, ids) for number in range(1, len(log) + 1)]
-        want((status, [{it: line[it] for it in entry} for line, entry in zip(found, wanted)]), (0, wanted), f"drawn log {place}")
-        entries += len(log)
-    return f"{entries} entries"
+        hold_entries(repositories, place, log, kept)
+    return f"{sum(len(log) for log, _ in drawn().LOGS)} entries"
 
 
 def mend_of(log, name, history, ids):
@@ -127,31 +165,75 @@ def mended(log, name, skip, back):
     return None if fault(longer, len(longer)) else longer
 
 
+def hold_mends(repositories, place, log, kept):
+    """Holds what mends each violation of a log to the slow reading, and does it: how many were mended, and how many nobody may."""
+    done = hopeless = 0
+    history, ids = history_of(log, kept)
+    folder = folder_of(repositories, f"to be mended {place}", history.repository)
+    for name in kept:
+        if verdict(log, name, kept[name])[0] != "violation":
+            continue
+        back, mends = mend_of(log, name, history, ids)
+        want(told(folder, name)[1][0]["mends"], mends, f"what mends {name} of drawn log {place}")
+        longer = mended(log, name, mends["skip"], back)
+        if longer is None:
+            hopeless += 1
+            continue
+        for number in mends["skip"]:
+            fewer = mended(log, name, [it for it in mends["skip"] if it != number], back)
+            want(fewer and verdict(fewer, name, back)[0] == "accepted", fewer and False, f"what {number} is skipped for")
+        after, _ = history_of(longer, {**kept, name: back})
+        status, found = told(folder_of(repositories, f"mended {place} {name.replace('/', ' ')}", after.repository), name)
+        entries = len(numbers_of(longer, name, len(longer) + 1))
+        want((status, found), (0, [{"entries": entries, "reference": name, "verdict": "accepted"}]), f"{name} of drawn log {place}, mended")
+        done += 1
+    return done, hopeless
+
+
 def tells_what_mends(repositories):
     """gittuf-inspect verdicts says what mends a violation, each part of it is needed, and done it makes the verdict accepted"""
-    done = hopeless = 0
-    for place, (log, kept) in enumerate(drawn().LOGS):
-        history, ids = history_of(log, kept)
-        folder = folder_of(repositories, f"to be mended {place}", history.repository)
-        for name in kept:
-            if verdict(log, name, kept[name])[0] != "violation":
-                continue
-            back, mends = mend_of(log, name, history, ids)
-            want(told(folder, name)[1][0]["mends"], mends, f"what mends {name} of drawn log {place}")
-            longer = mended(log, name, mends["skip"], back)
-            if longer is None:
-                hopeless += 1
-                continue
-            for number in mends["skip"]:
-                fewer = mended(log, name, [it for it in mends["skip"] if it != number], back)
-                want(fewer and verdict(fewer, name, back)[0] == "accepted", fewer and False, f"what {number} is skipped for")
-            after, _ = history_of(longer, {**kept, name: back})
-            status, found = told(folder_of(repositories, f"mended {place} {name.replace('/', ' ')}", after.repository), name)
-            entries = len(numbers_of(longer, name, len(longer) + 1))
-            want((status, found), (0, [{"entries": entries, "reference": name, "verdict": "accepted"}]), f"{name} of drawn log {place}, mended")
-            done += 1
+    found = [hold_mends(repositories, place, *drawn().LOGS[place]) for place in range(len(drawn().LOGS))]
+    done, hopeless = (sum(it) for it in zip(*found))
     want((done > 20, hopeless > 0), (True, True), f"whether enough of both were drawn: {done} and {hopeless}")
     return f"{done} mended, {hopeless} that nobody may mend so"
 
 
 CHECKS = (tells_drawn_logs, tells_what_mends)
+
+
+class Folders:
+    """A folder for each drawn log, made below one."""
+
+    def __init__(self, folder):
+        self.folder = folder
+
+    def path(self, name):
+        return os.path.join(self.folder, name)
+
+
+def hold_drawn(logs, seed):
+    """Holds so many logs that are drawn from seeds on to the slow reading, and mends them."""
+    done = hopeless = entries = 0
+    for _, seed in zip(range(logs), count(seed)):
+        log, kept = drawn().drawn_log(seed)
+        with tempfile.TemporaryDirectory(prefix="gittuf-drawn-") as folder:
+            hold_entries(Folders(folder), seed, log, kept)
+            more, none = hold_mends(Folders(folder), seed, log, kept)
+        done, hopeless, entries = done + more, hopeless + none, entries + len(log)
+    return f"{logs} logs, {entries} entries, {done} violations mended, {hopeless} that nobody may mend so"
+
+
+def main():
+    if not 2 <= len(sys.argv) <= 3 or not all(it.isdigit() for it in sys.argv[1:]):
+        print("usage: python3 tools/tests/check_accounts.py LOGS [SEED]", file=sys.stderr)
+        return 2
+    try:
+        print(hold_drawn(int(sys.argv[1]), int(sys.argv[2]) if sys.argv[2:] else 1))
+    except (Failure, Skip) as why:
+        print(f"FAILED   {why}")
+        return 1
+    return 0
+
+
+if __name__ == "__main__":
+    sys.exit(main())

@@ -18,13 +18,14 @@ import time
 import rows_of_entries
 from check_locks import wait_for
 from check_repositories import Repositories
-from checking import PROGRAM, Failure, run, want, want_run
+from checking import PROGRAM, Failure, in_this_run, run, want, want_run
 from made_databases import ASKED, FAULT, SCHEMA, TABLES, bytes_of, change, command, is_refused, is_sound, rows_of
 from made_databases import small_database, small_objects
 from made_folders import END, HEADER, IMPORTED, object_file, stream_of
 from made_folders import command as folder_command
 
-KILLS, BIG = 24, 400
+# So many stops in the shorter run, and in the longer one.
+KILLS, MORE, BIG = 24, 60, 400
 JUDGED = rows_of_entries.ROWS[:8]
 KINDS = {b"blob": 1, b"tree": 2, b"commit": 3, b"tag": 4}
 # Who is nobody on every system, for what the owner of all files may do anyway.
@@ -347,7 +348,7 @@ def stop_all(repositories, kills, seed):
 
 def stops_anywhere(repositories):
     """a kill at any moment of an import or a record leaves the store as it was or with the whole change"""
-    return stop_all(repositories, KILLS, 31)
+    return stop_all(repositories, in_this_run(KILLS, MORE), 31)
 
 
 CHECKS = (

@@ -1,9 +1,7 @@
 """The checks of tools/test on the hook of a server: what it takes, and what it refuses as a whole before it is there."""
 
 import os
-import signal
 import subprocess
-import time
 
 from checking import run, want
 from guarded_clones import MAIN, another
@@ -12,8 +10,6 @@ LOG, POLICY, ATTESTATIONS = (f"refs/gittuf/{it}" for it in ("reference-state-log
 EMPTY_TREE = "6ef19b41225c5369f1c104d45d8d85efa9b057b53b14b4b9b939dd74decc5321"
 TAKEN_WHOLE = "nothing of this push is taken"
 MANY = 64
-# So many pushes are killed.
-STOPS = 6
 
 
 def gated(repositories, name):
@@ -222,37 +218,6 @@ def takes_one_of_two(repositories):
             clones.gittuf(who, "verify")
 
 
-def takes_all_or_nothing_when_stopped(repositories):
-    """a push that is killed at any of several moments has moved all or nothing, and the next one goes through"""
-    clones = gated(repositories, "gated stops")
-    words, ends = ("push", "--quiet", "--atomic", "origin", "main", f"{LOG}:{LOG}"), {"as before": 0, "done": 0}
-    clones.commit("alice")
-    clones.gittuf("alice", "record", "main")
-    start = time.monotonic()
-    clones.git(*words, who="alice")
-    whole = time.monotonic() - start
-    for it in range(STOPS):
-        clones.commit("alice")
-        clones.gittuf("alice", "record", "main")
-        before = there(clones)
-        ran = subprocess.Popen(("git", "-C", clones.path("alice"), *words), stderr=subprocess.DEVNULL, start_new_session=True)
-        try:
-            ran.wait(timeout=whole * (it + 0.5) / STOPS)
-        except subprocess.TimeoutExpired:
-            os.killpg(ran.pid, signal.SIGKILL)
-        ran.wait()
-        moved = [clones.tip("server.git", name) == clones.tip("alice", name) for name in (MAIN, LOG)]
-        want(moved[0], moved[1], f"whether main and the log moved alike in stop {it}")
-        want(moved[0] or there(clones) == before, True, f"whether nothing else moved in stop {it}")
-        ends["done" if moved[0] else "as before"] += 1
-        clones.git(*words, who="alice")
-    clones.sound("alice")
-    line = f"accepted {MAIN} {STOPS + 2} entries\n".encode()
-    want(run("git", "-C", clones.path("server.git"), "gittuf", "verify", "main")[1], line, "the server's verdict")
-    want(os.path.exists(clones.path("server.git/gittuf/trial")), False, "whether a mark of a trial is left")
-    return ", ".join(f"{number} {end}" for end, number in ends.items())
-
-
 CHECKS = (
     takes_what_is_lawful,
     refuses_what_is_not,
@@ -260,5 +225,4 @@ CHECKS = (
     goes_on_after_a_vain_policy,
     takes_many_at_once,
     takes_one_of_two,
-    takes_all_or_nothing_when_stopped,
 )

@@ -6,10 +6,11 @@ import subprocess
 import sys
 import time
 
-from checking import BRIDGE, LAUNCHER, Failure, on_terminal, processor_seconds, run, want
+from checking import BRIDGE, LAUNCHER, Failure, in_this_run, on_terminal, processor_seconds, run, want
 from guarded_clones import LARGER, MAIN, SMALL, TOOL, another, guarded
 
-STOPS = 20
+# So many records are killed in the shorter run, and in the longer one.
+STOPS, MORE = 10, 20
 COMMITS, FILES, FOLDERS = 2_000, 20_000, 200
 # What a second verify may take beyond the program's own time, in seconds.
 MOST = 2
@@ -33,15 +34,17 @@ def stopped(clones, seconds, with_what_it_started):
 
 
 def is_mended_after_stops(repositories):
-    """a record that is killed at any of twenty moments is as if not begun or done once the next call ran"""
-    clones = guarded(repositories, "stopped", LARGER)
+    """a record that is killed at any of several moments is as if not begun or done once the next call ran"""
+    stops = in_this_run(STOPS, MORE)
+    # The longer run signs more often than the smallest key does.
+    clones = another(repositories, "stopped") if stops == STOPS else guarded(repositories, "stopped", LARGER)
     count, start = 1, time.monotonic()
     clones.gittuf("alice", "record", "main")
     whole, count = time.monotonic() - start, count + 1
     ends = {"as before": 0, "done": 0}
-    for it in range(STOPS):
+    for it in range(stops):
         recorded, kept = clones.tip("alice"), clones.commit("alice")
-        ended = stopped(clones, whole * (it + 0.5) / STOPS, it % 2)
+        ended = stopped(clones, whole * (it + 0.5) / stops, it % 2)
         as_before = f"tip-differs {MAIN} kept {kept} recorded {recorded}\n".encode()
         done = b"accepted %s %d entries\n" % (MAIN.encode(), count + 1)
         status, output, errors = run("git", "-C", clones.path("alice"), "gittuf", "verify", "main")

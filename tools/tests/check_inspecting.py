@@ -16,11 +16,14 @@ NAMES = (MAIN, POLICY, ATTESTATIONS, NONE)
 # 6, which a stranger recorded. Alice signed all but 6, and Bob approved 3, 5 and 9; the rule of main wants both.
 LOG = "refs/gittuf/reference-state-log"
 AT = {
+    2: "07ebf8581cb067e25d5301128dc47feb07369a59881256092d7f74455f9094dc",
     4: "5c6f979188ed66b1dfdf693a7e431f34b5a9a0fb2ea83d1066fc955aa1e1b679",
     6: "da2dfc0ffcd77d14983d059960152d0014e60d53fcab64fdb36637349d74bdfa",
+    7: "dd0728eb73a648777e7881661a61678616fc95c183e79402b180cbd14566f5e3",
 }
 ALICE = "d9e0439828b3396be23817275008675ebfe1626113a89f75197e7e79628c38e0"
 BOB = "49f09f1690f5e84d85882704776516641ca03c08101750a2770c77eb916b1062"
+PERSONS = ("alice", ALICE), ("bob", BOB)
 STRANGER = "1a39b7dd3a7b8e9b3c934151221ae029f1e48776b52463eab0d76fdf798d1aa2"
 NOBODY = 64 * "5"
 FIRST, SECOND = (
@@ -117,12 +120,31 @@ def tells_all(repositories):
     want((found[3], status), ({"kept": TIP, "recorded": ZEROS, "reference": "refs/heads/a", "verdict": "tip-differs"}, 1), "one of them")
 
 
+def tells_unrecorded(repositories):
+    """gittuf-inspect verdicts tells of a branch that a rule protects and no entry records that it is unrecorded, and of no other"""
+    before = kept(repositories, "inspected unrecorded", **{LOG: AT[2], MAIN: FIRST})
+    verdict = {"kept": FIRST, "recorded": ZEROS, "reference": MAIN, "unrecorded": True, "verdict": "tip-differs"}
+    status, found = told(before, MAIN, NONE, POLICY)
+    want((found[0], status), (verdict, 1), "a branch that is kept")
+    as_verify_ref(before, status, found)
+    want(["unrecorded" in it for it in found], [True, False, False], "which are unrecorded")
+    want(told(before)[1][-1], verdict, "the branch where none is named")
+    os.remove(os.path.join(before, *MAIN.split("/")))
+    wanted = {"entries": 0, "reference": MAIN, "unrecorded": True, "verdict": "accepted"}
+    want(told(before, MAIN), (0, [wanted]), "a branch that is not there")
+    empty = kept(repositories, "inspected unprotected")
+    os.remove(os.path.join(empty, *LOG.split("/")))
+    want("unrecorded" in told(empty, MAIN)[1][0], False, "whether one is where no policy is in force")
+
+
 def would(folder, target, keys, name=MAIN, faults=(), **line):
     """Holds what an entry of a name would be found to be to a line, in which what is not given is as of an entry that is lawful."""
     own = {"id": ZEROS, "key": None, "kind": "reference", "reference": name, "rescued": None, "signed": False, "skipped": None}
+    own |= {"author": None, "time": None}
     stood = {"epoch": 1, "from": FIRST, "number": 5, "prior": 3, "signers": [BOB, ALICE], "target": target}
     found = {"fault": faults[0] if faults else None, "verdict": "refused" if faults else "authorised"}
     wanted = {**own, **stood, **found, **line}
+    wanted["persons"] = [name for name, key in PERSONS if key in wanted["signers"]]
     others = [{"fault": it, "number": wanted["number"], "reference": name, "verdict": "violation"} for it in faults]
     found = told(folder, name, target, "--key", keys, word="would")
     want(found, (int(bool(faults)), [wanted, *others]), f"what would be found with {keys}")
@@ -149,6 +171,20 @@ def tells_would(repositories):
     would(empty, FIRST, ALICE, faults=[{"kind": "no-policy"}], number=1, epoch=None, signers=[], **nothing)
 
 
+def tells_skips(repositories):
+    """gittuf-inspect would --annotate skip tells which entries an annotation would skip, and which are none of a reference"""
+    folder = kept(repositories, "inspected skips")
+    skip, other = AT[6], AT[7]
+    found = {"id": skip, "number": 6, "reference": MAIN, "skips": True}
+    none = {"id": NOBODY, "number": None, "reference": None, "skips": False}
+    note = {"id": other, "number": 7, "reference": None, "skips": False}
+    words = ("--annotate", "skip")
+    want(told(folder, *words, skip, "--key", ALICE, word="would"), (0, [found]), "an entry of a branch")
+    want(told(folder, *words, f"{other},{NOBODY},{skip}", "--key", BOB, word="would"), (1, [note, none, found]), "several")
+    want(told(folder, *words, skip, "--key", STRANGER, word="would"), (1, [{**found, "skips": False}]), "by a stranger")
+    want(told(folder, *words, skip, "--key", ALICE, "--root", NOBODY, word="would"), (1, [{**found, "skips": False}]), "by no policy")
+
+
 def body_of(id):
     with open(os.path.join(KEPT, "objects", id), "rb") as file:
         return file.read()
@@ -165,6 +201,9 @@ def tells_policies(repositories):
     folder = kept(repositories, "inspected policy")
     want(run(INSPECT, folder, "policy"), (0, b"".join(map(payload_of, FILES)), b""), "the policy")
     want(run(INSPECT, folder, "policy", "--root", NOBODY), (0, b"", b""), "the policy of others")
+    want(run(INSPECT, folder, "policy", "--at", "1"), (0, b"", b""), "the policy of the first entry")
+    for number in ("2", "10", "1000000"):
+        want(run(INSPECT, folder, "policy", "--at", number), run(INSPECT, folder, "policy"), f"the policy of entry {number}")
     for target in (POLICY_AT, ZEROS, FIRST):
         words = ("policy", "--against", target), ("would", POLICY, target, "--key", NOBODY)
         want(*(run(INSPECT, folder, *it) for it in words), f"what is told of a policy at {target}")
@@ -195,17 +234,21 @@ def tells_breaks(repositories):
     """gittuf-inspect tells a log that is no chain with status 3, and refuses other words with status 2"""
     broken = kept(repositories, "inspected broken", **{LOG: TIP})
     want(run(INSPECT, broken, "verdicts", MAIN), (3, f"log-broken {TIP}\n".encode(), b""), "what is told of a log that breaks")
-    for words in (("would", MAIN, TIP, "--key", ALICE), ("verdicts",), ("policy",), ("used", "--key", ALICE)):
+    others = (("policy", "--at", "1"), ("would", "--annotate", "skip", TIP, "--key", ALICE))
+    for words in (*others, ("would", MAIN, TIP, "--key", ALICE), ("verdicts",), ("policy",), ("used", "--key", ALICE)):
         want(run(INSPECT, broken, *words), (3, f"log-broken {TIP}\n".encode(), b""), f"what is told of {words}")
     outside = (
         *((), ("verdicts", LOG), ("verdicts", "main"), ("log", "--from", "0"), ("log", "--root", ZEROS[1:]), ("policy", MAIN)),
         *(("would", MAIN, TIP), ("would", MAIN, "--key", ALICE), ("would", LOG, TIP, "--key", ALICE)),
         *(("used",), ("used", "--key", ALICE[1:]), ("used", "--key", 60 * "zz")),
         *(("policy", "--against"), ("policy", "--against", TIP[1:])),
+        *(("policy", "--at", "0"), ("policy", "--at", "1", "--against", TIP)),
+        *(("would", "--annotate", "note", TIP, "--key", ALICE), ("would", "--annotate", "skip", TIP, TIP, "--key", ALICE)),
+        *(("would", "--annotate", "skip", TIP[1:], "--key", ALICE), ("would", "--annotate", "skip", TIP, "--key", f"{ALICE},{BOB}")),
         *(("would", MAIN, TIP[1:], "--key", ALICE), ("would", MAIN, TIP, "--key", f"{ALICE},")),
     )
     for words in outside:
         want(run(INSPECT, broken, *words), (2, b"", b"words refused\n"), f"what is told of {words}")
 
 
-CHECKS = (tells_accepted, tells_others, tells_all, tells_would, tells_leaves, tells_policies, tells_breaks)
+CHECKS = (tells_accepted, tells_others, tells_all, tells_unrecorded, tells_would, tells_skips, tells_leaves, tells_policies, tells_breaks)

@@ -4,7 +4,7 @@ import hashlib
 import os
 import shutil
 
-from checking import LAUNCHER, at_terminal, run, want
+from checking import LAUNCHER, PROGRAM, at_terminal, run, want
 from guarded_clones import MAIN, another
 
 LOG = "refs/gittuf/reference-state-log"
@@ -180,7 +180,7 @@ def shows_nothing_of_changed_dossiers(repositories):
     clones.gittuf("carol", "evidence", first, second, "-o", path)
     with open(path, "rb") as file:
         text = file.read()
-    check = lambda given: run(LAUNCHER, "-", "-", "evidence-check", input=given)
+    check = lambda given: run(PROGRAM, "-", "-", "evidence-check", input=given)
     want(check(text), (0, b"fork 3\n", b""), "what the whole dossier shows")
     want(check(text + b"\n"), (3, b"", b"input\n"), "what it shows with a line feed more")
     for at in places_of(text):

@@ -8,7 +8,7 @@ import sys
 import tarfile
 
 from checking import TOP, Failure, Skip, run, want
-from git_gittuf.words import help_of
+from git_gittuf.usage import help_of
 from guarded_clones import MAIN, SMALL, TOOL
 
 PACKAGE = os.path.join(TOP, "tools", "package")
@@ -106,7 +106,7 @@ def has_pages(repositories):
         want(found, (0, b"", b""), f"what {words[0]} says of {it}")
     # Git takes gittuf, which begins with its own name, for the page's name.
     want(text_of("man", "gittuf.1"), ".so man1/git-gittuf.1\n", "what git help gittuf shows")
-    page, use = text_of("man", "git-gittuf.1"), text_of("tools", "bridge", "git_gittuf", "words.py")
+    page, use = text_of("man", "git-gittuf.1"), text_of("tools", "bridge", "git_gittuf", "usage.py")
     for it in WORDS:
         want(bool(re.search(rf"\.(It )?Cm .*\b{it}\b", page)), True, f"whether the page has the word {it}")
         want(bool(re.search(rf"^  {it}\b", use, re.MULTILINE)), True, f"whether -h has the word {it}")
@@ -119,7 +119,7 @@ def has_pages(repositories):
 
 
 def completes(repositories):
-    """bash completes the words of git gittuf, its steps and the names of branches, and the commands of the program"""
+    """bash completes the words of git gittuf, its steps and the names of branches, and the commands of the programs"""
     repositories.needed()
     file = os.path.join(TOP, "completion", "gittuf.bash")
     rows = (
@@ -130,6 +130,8 @@ def completes(repositories):
         ("_git_gittuf", "git gittuf record ma", {"main"}),
         ("_gittuf", "gittuf - - verify-ref --", {"--root", "--stdin"}),
         ("_gittuf", "gittuf kept/ my.key key-gen ", {"5", "10", "15"}),
+        ("_gittuf_inspect", "gittuf-inspect kept/ ", {"log", "verdicts", "would", "used", "policy"}),
+        ("_gittuf_inspect", "gittuf-inspect kept/ policy --a", {"--at", "--against"}),
     )
     for function, line, wanted in rows:
         words = line.split(" ")
@@ -137,7 +139,7 @@ def completes(repositories):
         status, output, errors = run("bash", "-c", script, "bash", file, function, *words, folder=repositories.path("project"))
         want((set(output.decode().split()), errors), (wanted, b""), f"what follows {line!r}")
     if shutil.which("zsh"):
-        for it in ("_gittuf", "_git-gittuf"):
+        for it in ("_gittuf", "_gittuf-inspect", "_git-gittuf"):
             want(run("zsh", "-n", os.path.join(TOP, "completion", it)), (0, b"", b""), f"what zsh says of {it}")
 
 

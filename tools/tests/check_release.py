@@ -11,7 +11,7 @@ import tarfile
 import time
 
 from check_launcher import bare_environment
-from checking import VERIFY, Failure, Skip, processor_seconds, want
+from checking import TOP, VERIFY, Failure, Skip, processor_seconds, want
 from made_releases import ARCHIVE, KIT, RELEASED, Checkout, own_processor, packages, programs_here, releases, stand_ins
 from rows_histories import BEFORE, MAIN, MAINTAINER, guarded
 from rows_runs import Anew, Run
@@ -29,7 +29,7 @@ MOST_BYTES = 6_500_000
 def runs_without_a_toolchain(repositories):
     """a fresh checkout with a release prints the example's verdict and passes tests, with git and Python alone"""
     repositories.needed()
-    checkout = Checkout(repositories, "a fresh checkout", programs_here())
+    checkout = Checkout(repositories, "a fresh checkout")
     environment = bare_environment(repositories, "git and python", "git", "env", "sync", "sed")
     os.symlink(os.path.realpath(sys.executable), os.path.join(environment["PATH"], "python3"))
     with open(checkout.path("examples/guarded.stream"), "rb") as file:
@@ -109,6 +109,23 @@ def refuses_a_damaged_one(repositories):
     want((status, b"GITTUF_BUILD asks for it" in errors), (4, True), "what GITTUF_BUILD=1 does beside a damaged release")
 
 
+# What the loader of a machine says whose C library is too old, with a status that is that of a violation.
+TOO_OLD = b"#!/bin/sh\necho \"$0: libc.so.6: version 'GLIBC_2.99' not found\" >&2\nexit 1\n"
+
+
+def tells_where_it_does_not_run(repositories):
+    """released programs that do not run on a machine, for their C library or their loader, are told as that by status 4"""
+    checkout, environment = Checkout(repositories, "elsewhere", {**stand_ins(), releases.SMALL: TOO_OLD}), bare_environment(repositories, "elsewhere tools")
+    lacks_loader = {name: b"#!/nowhere/loader\n" for name in releases.PROGRAMS[1:]}
+    ends = {b"GLIBC_2.99' not found; GITTUF_BUILD=1 builds one here\n": None, b" cannot be run here, and nothing was judged\n": {**stand_ins(), **lacks_loader}}
+    for part, programs in ends.items():
+        if programs:
+            checkout.release(programs)
+        for _ in range(2):
+            status, output, errors = checkout.call("hello", environment=environment)
+            want((status, output, errors.endswith(part)), (4, b"", True), f"what is answered where it does not run: {errors}")
+
+
 def runs_where_nothing_can_be_written(repositories):
     """in a checkout that cannot be written the release runs from the user's cache or a temporary place, and says nothing"""
     checkout, environment = Checkout(repositories, "read only", stand_ins()), bare_environment(repositories, "read only tools")
@@ -170,7 +187,7 @@ def want_refused(part, call, *words):
 
 
 def is_whole(repositories):
-    """what release/ holds has the sums that it tells, its package has the files of its archive, and the version is this one"""
+    """what release/ holds has the sums that it tells, its package has the files of its archive, and README the C library that it wants"""
     kept = releases.kept()
     if not kept:
         raise Skip("there is no release")
@@ -183,6 +200,9 @@ def is_whole(repositories):
         want(hashlib.sha256(archive[f"lib/gittuf/{name}"]).hexdigest(), told[name], f"the sum of {name}")
     (deb,) = (it for it in kept if it.endswith(".deb"))
     want(files_of_tar(member_of(kept[deb], b"data.tar.xz"), "./usr/"), archive, "the files of the package")
+    with open(os.path.join(TOP, "README.md"), encoding="utf-8") as file:
+        told = set(re.findall(r"glibc ([0-9.]*[0-9])", file.read()))
+    want(told, {packages.c_library(archive[f"lib/gittuf/{it}"] for it in releases.PROGRAMS)}, "the C library that README names")
     size = sum(map(len, kept.values()))
     want(size <= MOST_BYTES, True, f"that {size} bytes are at most {MOST_BYTES}")
     return f"{size} bytes"
@@ -209,6 +229,7 @@ CHECKS = (
     runs_the_one_for_the_processor,
     unpacks_at_once,
     refuses_a_damaged_one,
+    tells_where_it_does_not_run,
     runs_where_nothing_can_be_written,
     compares_programs,
     is_whole,

@@ -2,8 +2,9 @@
 
 import os
 import random
+import shutil
 
-from checking import GIT_TO_STREAM, STREAM_TO_GIT, Failure, Skip, run, want, want_run
+from checking import GIT_TO_STREAM, SHARED, STREAM_TO_GIT, Failure, Skip, alone, run, shared_folder, want, want_run
 
 COMMITS = 300
 # The commits between these stand on a branch beside main, which the second one merges.
@@ -29,7 +30,7 @@ class Repositories:
         for who in ("AUTHOR", "COMMITTER"):
             os.environ.update({f"GIT_{who}_NAME": "Nobody", f"GIT_{who}_EMAIL": "nobody@localhost"})
         self.streams = {}
-        self.why_not = self.make()
+        self.why_not = self.shared() if SHARED in os.environ else self.make()
 
     def path(self, name):
         return os.path.join(self.folder, name)
@@ -52,6 +53,23 @@ class Repositories:
             file.write(text)
         os.chmod(path, mode)
         self.git("add", name)
+
+    def shared(self):
+        """The same as a copy of the one that a run of tools/test makes once for its topics."""
+        place, when = (os.path.join(shared_folder(), it) for it in ("project", "project's seconds"))
+        with alone("project's lock"):
+            if os.path.exists(when):
+                shutil.copytree(place, self.path("project"), symlinks=True)
+                with open(when, encoding="utf-8") as file:
+                    self.seconds = int(file.read())
+                os.environ.update(GIT_AUTHOR_DATE=f"{self.seconds} +0000", GIT_COMMITTER_DATE=f"{self.seconds} +0000")
+                return None
+            why_not = self.make()
+            if not why_not:
+                shutil.copytree(self.path("project"), place, symlinks=True)
+                with open(when, "w", encoding="utf-8") as file:
+                    file.write(str(self.seconds))
+            return why_not
 
     def make(self):
         """Makes the small repository, and returns why it cannot, or None."""

@@ -1,9 +1,11 @@
 """The checks of tools/test on the bridge to Git, and on what all tools have in common."""
 
+import ast
+import importlib
 import os
 import shutil
 
-from checking import EMPTY_TREE, GIT_TO_STREAM, LAUNCHER, STREAM_TO_GIT, TOP, VERIFY, Failure, run, want, want_refusal, want_run
+from checking import BRIDGE, EMPTY_TREE, GIT_TO_STREAM, LAUNCHER, STREAM_TO_GIT, TOP, VERIFY, Failure, run, want, want_refusal, want_run
 
 
 def tells_the_tip(repositories):
@@ -121,7 +123,54 @@ def leaves_nothing(repositories):
     want_refusal((STREAM_TO_GIT, repositories.needed()), b"not empty", input=stream)
 
 
+# What each word of git gittuf wants beside it at least.
+NEEDED = {it: ["x"] for it in ("record", "approve", "recover", "explain", "mirror", "init", "person", "rotate", "rule")}
+NEEDED |= {"skip": ["1"], "note": ["1"], "hook": ["install"]}
+
+
+def taken_of_modules(tree):
+    """What a module takes of others of git gittuf, as a module and a name."""
+    named = [it for it in ast.walk(tree) if isinstance(it, ast.ImportFrom) and (it.module or "").startswith("git_gittuf")]
+    modules = {name.name for it in named if it.module == "git_gittuf" for name in it.names}
+    for it in named:
+        for name in it.names if it.module != "git_gittuf" else ():
+            yield it.module.partition(".")[2], name.name
+    for it in ast.walk(tree):
+        if isinstance(it, ast.Attribute) and isinstance(it.value, ast.Name) and it.value.id in modules:
+            yield it.value.id, it.attr
+
+
+def loads_what_is_there(_):
+    """each word of git gittuf is carried out by something that is there, and so is what its modules take of each other"""
+    words = importlib.import_module("git_gittuf.words")
+    asked = [[it, *NEEDED.get(it, [])] for it in words.WORDS if it != "policy"]
+    asked += [["policy", it, *NEEDED.get(it, [])] for it in words.STEPS]
+    want([it for it in asked if not callable(words.read(it).work)], [], "which words nothing carries out")
+    place, count, lacking = os.path.join(BRIDGE, "git_gittuf"), 0, []
+    for name in sorted(it for it in os.listdir(place) if it.endswith(".py")):
+        with open(os.path.join(place, name), encoding="utf-8") as file:
+            taken = {*taken_of_modules(ast.parse(file.read()))}
+        count += len(taken)
+        lacking += [f"{name}: {module}.{it}" for module, it in sorted(taken) if not hasattr(importlib.import_module(f"git_gittuf.{module}"), it)]
+    want(lacking, [], "what modules take that is not there")
+    return f"{len(asked)} words, {count} names"
+
+
+def tells_its_own_faults(repositories):
+    """where git gittuf itself is wrong it says so, and ends with 4, which is the status of no verdict"""
+    place = repositories.path("wrong tools")
+    shutil.copytree(BRIDGE, os.path.join(place, "bridge"), ignore=shutil.ignore_patterns("__pycache__"))
+    tool = shutil.copy(os.path.join(TOP, "tools", "git-gittuf"), place)
+    for module in ("listing", "words"):
+        with open(os.path.join(place, "bridge", "git_gittuf", f"{module}.py"), "w", encoding="utf-8") as file:
+            file.write("raise KeyError('none')\n")
+        status, output, errors = run(tool, "log", folder=repositories.needed())
+        want((status, output, errors.splitlines()[-1:]), (4, b"", [b"git-gittuf: this is a fault of git gittuf itself, and nothing was judged"]), module)
+
+
 CHECKS = (
+    loads_what_is_there,
+    tells_its_own_faults,
     tells_the_tip,
     goes_both_ways,
     is_sound,

@@ -1,6 +1,7 @@
 """What the checks of tools/test share: running programs, and holding what they do to what is wanted."""
 
 import contextlib
+import fcntl
 import os
 import pty
 import resource
@@ -30,12 +31,14 @@ QUESTION = b"[y/N] "
 SECONDS = 120
 # A script has many lines.
 SCRIPT_SECONDS = 600
-# The environment names the folder that the topics of a run share.
-SHARED = "GITTUF_TEST_SHARED"
+# The environment names the folder that the topics of a run share, and the programs, and says whether it is the longer run.
+SHARED, PROGRAMS, LONG = "GITTUF_TEST_SHARED", "GITTUF_TEST_PROGRAMS", "GITTUF_TEST_LONG"
 
 
 def programs():
     """The program that the launcher runs, and the small one that it asks: those that are built here, or the released ones."""
+    if SHARED in os.environ and PROGRAMS in os.environ:
+        return os.environ[PROGRAMS].split("\n")
     told = subprocess.run((BUILD_PROGRAM, "--programs"), stdin=subprocess.DEVNULL, capture_output=True, check=True).stdout.decode()
     found = dict(line.split(" ", 1) for line in told.splitlines())
     built = (os.path.join(TOP, "crates", it, "out", it) for it in ("gittuf", "source_check"))
@@ -57,18 +60,32 @@ def shared():
     if SHARED in os.environ:
         yield
         return
-    # What is compiled is to be kept there.
+    # What is compiled is to be kept there, and read by the tools that keep nothing themselves.
     os.environ.pop("PYTHONDONTWRITEBYTECODE", None)
     with tempfile.TemporaryDirectory(prefix="gittuf-test-") as folder:
         cache = os.path.join(os.path.realpath(folder), "cache")
         os.mkdir(cache)
-        os.environ.update({SHARED: folder, "XDG_CACHE_HOME": cache})
+        compiled = os.path.join(cache, "gittuf", "python")
+        os.environ.update({SHARED: folder, PROGRAMS: "\n".join((PROGRAM, SMALL_PROGRAM)), "XDG_CACHE_HOME": cache, "PYTHONPYCACHEPREFIX": compiled})
         yield
 
 
 def shared_folder():
     """The folder of a run of tools/test that its topics share, which goes with the run."""
     return os.environ[SHARED]
+
+
+def in_this_run(count, longer):
+    """How often something is tried in this run, which is the longer one by `tools/test --long`."""
+    return longer if os.environ.get(LONG) else count
+
+
+@contextlib.contextmanager
+def alone(name):
+    """Lets the topics of a run do something one after the other, which have a lock of this name for it."""
+    with open(os.path.join(shared_folder(), name), "wb") as lock:
+        fcntl.flock(lock, fcntl.LOCK_EX)
+        yield
 
 
 class Failure(Exception):

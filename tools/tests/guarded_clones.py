@@ -1,11 +1,10 @@
 """Clones of one server that tools/test guards by git gittuf: two maintainers, and whoever else comes."""
 
-import fcntl
 import os
 import shutil
 import sys
 
-from checking import GIT_TO_STREAM, LAUNCHER, TOP, Failure, run, shared_folder, want
+from checking import GIT_TO_STREAM, LAUNCHER, TOP, Failure, alone, run, shared_folder, want
 
 TOOL = os.path.join(TOP, "tools", "git-gittuf")
 MAIN = "refs/heads/main"
@@ -63,10 +62,11 @@ class Clones:
             raise Failure(f"git gittuf {' '.join(words)} ended with {found}, {output!r} and {errors!r}, and wanted is {part!r}")
 
     def refused_after(self, who, *words, status, part):
-        """The same where what is asked for is shown before it is refused."""
+        """The same where what is asked for is shown before it is refused. Returns what is said."""
         found, _, errors = run("git", "-C", self.path(who), "gittuf", *words)
         if found != status or part not in errors.decode():
             raise Failure(f"git gittuf {' '.join(words)} ended with {found} and {errors!r}, and wanted is {part!r}")
+        return errors.decode()
 
     def advised(self, who, part):
         """The line to copy that doctor has after a sentence with this part."""
@@ -167,10 +167,8 @@ def first(repositories):
     if getattr(repositories, "first_guarded", None) is not None:
         return repositories.first_guarded
     repositories.needed()
-    shared = shared_folder()
-    with open(os.path.join(shared, "lock"), "wb") as lock:
-        fcntl.flock(lock, fcntl.LOCK_EX)
-        place, when = (os.path.join(shared, it) for it in ("guarded", "seconds"))
+    place, when = (os.path.join(shared_folder(), it) for it in ("guarded", "seconds"))
+    with alone("lock"):
         if not os.path.exists(when):
             guarded(repositories, "guarded", place=place)
             with open(when, "w", encoding="utf-8") as file:

@@ -1,6 +1,7 @@
 """Checkouts with a release, for tools/test: of the program that is here, or of stand-ins."""
 
 import os
+import re
 import shutil
 import subprocess
 import sys
@@ -16,6 +17,8 @@ VERSION = packages.version()
 ARCHIVE = f"gittuf-{VERSION}.tar.gz"
 RELEASED = "crates/gittuf/out/released"
 KIT = "a kit that is none"
+# What no launcher and no build reads, and half of a checkout is.
+OF_PROOFS = re.compile("crates/[^/]+/(proofs|must-fail)/")
 
 
 def paths_of_the_checkout():
@@ -47,18 +50,34 @@ def own_processor(environment):
 
 
 class Checkout:
-    """A fresh checkout of what is here, in a folder of its own, with a release of these programs."""
+    """A fresh checkout of what is here, in a folder of its own, with a release of these programs.
 
-    def __init__(self, repositories, name, programs):
+    Without programs it is whole, and the release is the one that is kept, or one of the programs here where that is of others.
+    """
+
+    def __init__(self, repositories, name, programs=None):
         self.top = repositories.path(name)
-        for path in paths_of_the_checkout():
-            os.makedirs(os.path.dirname(os.path.join(self.top, path)), exist_ok=True)
+        paths = [it for it in paths_of_the_checkout() if not (programs and OF_PROOFS.match(it))]
+        for folder in {os.path.dirname(it) for it in paths}:
+            os.makedirs(os.path.join(self.top, folder), exist_ok=True)
+        for path in paths:
             shutil.copy2(os.path.join(TOP, path), os.path.join(self.top, path), follow_symlinks=False)
-        commit = packages.asked("rev-parse", "HEAD")
-        told = {"kit": KIT, "sources": self.told()["sources"]}
+        self.commit, self.says = packages.asked("rev-parse", "HEAD"), {"kit": KIT, "sources": self.told()["sources"]}
+        kept = releases.kept()
+        if programs or not kept or packages.released()["sources"] != self.says["sources"]:
+            self.release(programs or programs_here())
+        else:
+            self.put_release(kept)
+
+    def put_release(self, files):
+        shutil.rmtree(self.path("release"), ignore_errors=True)
         os.mkdir(self.path("release"))
-        self.files = releases.files_of(programs, VERSION, commit, told)
-        packages.write(self.path("release"), self.files)
+        self.files = files
+        packages.write(self.path("release"), files)
+
+    def release(self, programs):
+        """Gives it a release of these programs, in place of any other."""
+        self.put_release(releases.files_of(programs, VERSION, self.commit, self.says))
 
     def path(self, *names):
         return os.path.join(self.top, *names)

@@ -1,5 +1,7 @@
 """Rows on demonstrations, whose repositories are made here from the formats alone."""
 
+import functools
+
 import made_keys
 from rows_histories import MAIN, POLICY, History, asked_again
 from rows_objects import FILE
@@ -26,7 +28,10 @@ class Key(made_keys.Key):
         return super().sign(message)
 
 
-KEYS = [Key(number) for number in range(3)]
+@functools.cache
+def keys():
+    """The three keys, which take seconds to make."""
+    return [Key(number) for number in range(3)]
 
 
 def demonstration(count):
@@ -36,13 +41,13 @@ def demonstration(count):
     def at(seconds):
         history.repository.author = b"gittuf <gittuf@localhost> %d +0000" % seconds
 
-    first, second, _ = KEYS
+    first, second, _ = keys()
     rules = [
         rule("keys", "file:keys/*", [second], terminating=True),
-        rule("main", f"git:{MAIN}", sorted(KEYS, key=lambda key: key.id)),
+        rule("main", f"git:{MAIN}", sorted(keys(), key=lambda key: key.id)),
     ]
     at(0)
-    sealed = {"root": root(1, [first], [first], [first]), "targets": rule_file("targets", KEYS, rules)}
+    sealed = {"root": root(1, [first], [first], [first]), "targets": rule_file("targets", keys(), rules)}
     policy = {f"metadata/{stem}.json".encode(): (FILE, history.seal(text, [first])) for stem, text in sealed.items()}
     history.record(POLICY, history.snapshot(POLICY, policy), first)
     for number in range(1, count + 1):
@@ -50,7 +55,7 @@ def demonstration(count):
         files[b"src/f%d" % (number % FILES)] = (FILE, b"%d" % number)
         if number % PERIOD == KEY_TURN:
             files[b"keys/k"] = (FILE, b"%d" % number)
-        history.record(MAIN, history.snapshot(MAIN, files), KEYS[number % 3])
+        history.record(MAIN, history.snapshot(MAIN, files), keys()[number % 3])
     return history
 
 

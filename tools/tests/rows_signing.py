@@ -9,6 +9,8 @@ import hashlib
 
 HEIGHT, LEAVES, CHAINS, LAST = 5, 32, 34, 255
 LMS_TYPE, OTS_TYPE = (5).to_bytes(4, "big"), (4).to_bytes(4, "big")
+# The values of a chain at each so many steps are kept: a leaf signs in several rows.
+APART, STEPS = 16, [bytes((it,)) for it in range(LAST)]
 RANDOMIZER, MESSAGE, PUBLIC, LEAF, INNER = 0xFFFD, 0x8181, 0x8080, 0x8282, 0x8383
 
 
@@ -22,6 +24,13 @@ def short(number):
 
 def long(number):
     return number.to_bytes(4, "big")
+
+
+def walked_on(front, value, first, end):
+    """The value of a chain after the steps from the first up to the end."""
+    for step in STEPS[first:end]:
+        value = hashlib.sha256(front + step + value).digest()
+    return value
 
 
 class Key:
@@ -52,13 +61,18 @@ class Key:
     def derived(self, leaf, number):
         return sha256(self.identifier, long(leaf), short(number), b"\xff", self.seed)
 
+    @functools.cache
+    def kept(self, leaf, chain):
+        """The values of a chain after 0, 16, 32 and further steps from its secret start."""
+        front, found = self.identifier + long(leaf) + short(chain), [self.derived(leaf, chain)]
+        for at in range(0, LAST - APART + 1, APART):
+            found.append(walked_on(front, found[-1], at, at + APART))
+        return found
+
     def walked(self, leaf, chain, steps):
         """The value of a chain after so many steps from its secret start."""
-        value = self.derived(leaf, chain)
-        front = self.identifier + long(leaf) + short(chain)
-        for step in range(steps):
-            value = hashlib.sha256(front + bytes((step,)) + value).digest()
-        return value
+        near = min(steps, LAST) // APART
+        return walked_on(self.identifier + long(leaf) + short(chain), self.kept(leaf, chain)[near], near * APART, steps)
 
     def leaf_node(self, leaf):
         ends = [self.walked(leaf, chain, LAST) for chain in range(CHAINS)]

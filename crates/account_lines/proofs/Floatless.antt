@@ -1,12 +1,14 @@
 -- No number in a line has a fraction, so each line is the text of its value.
-use Rattle.std.proofs.Common.{◌≡◌, ◌∙◌, ℕ, Bool, false, List, refl, ap}
-use Rattle.std.specs.Prelude.{IfOk, Result}
+use Rattle.std.proofs.Common.{◌≡◌, ◌∙◌, ℕ, Bool, false, List, Option, refl, ap}
+use Rattle.std.specs.Prelude.{IfOk, Result, option_and_then}
 use Rattle.std.proofs.lemmas.Result.{IfOk-weaker}
 use Rattle.serde_json.specs.Data.{Data}
 use Rattle.serde_json.specs.Written.{has_float}
-use Rattle.json_lines.specs.Values.{hex_data, line_text, number_data}
+use Rattle.json_lines.specs.Values.{hex_data, line_text, number_data, text_data}
 use Rattle.json_lines.proofs.Floatless.{list_floatless, option_floatless, text_floatless}
 use Rattle.rsl_chain.specs.declared.entries.Entry.{Entry}
+use Rattle.entry_authors.specs.Authors.{author_of}
+use Rattle.entry_authors.specs.Times.{time_of}
 use Rattle.rsl_chain.specs.declared.entries.EntryBody.{EntryBody}
 use Rattle.rsl_chain.specs.declared.entries.EntryBody.TheVariants.{Reference, Annotation}
 use Rattle.judging.specs.declared.verdicts.EntryVerdict.{EntryVerdict}
@@ -17,7 +19,8 @@ use Rattle.mends.specs.declared.mend.Mend.{Mend}
 use Rattle.policy_epochs.specs.Telling.{fault_text}
 use Rattle.entry_rules.specs.declared.faults.Fault.{Fault}
 use Rattle.entry_rules.specs.declared.faults.Fault.TheVariants.{Broken, NoPolicy, NotEpoch, PathRule, RefRule}
-use Rattle.account_lines.specs.Lines.{body_data, fault_data, mend_data, refusal_data, verdict_data, violation_data}
+use Rattle.account_lines.specs.Lines.{body_data, fault_data, mend_data, refusal_data, skip_data, unrecorded_data, verdict_data}
+use Rattle.account_lines.specs.Lines.{violation_data}
 use Rattle.account_lines.specs.declared.rows.EntryRow.{EntryRow}
 use Rattle.account_lines.specs.declared.rows.Later.{Later}
 
@@ -37,23 +40,42 @@ refusal_floatless Noted = refl
 pub body_floatless : (entry : Entry) (row : EntryRow) (later : Later) (body : EntryBody) → has_float (body_data entry row later body) ≡ false
 body_floatless entry row later (Reference name target) =
     rw (
+      option_floatless text_data text_floatless (author_of entry.signed),
       option_floatless number_data (λ _. refl) row.epoch,
       refusal_floatless row.verdict,
       option_floatless hex_data (λ _. refl) row.from,
       option_floatless hex_data (λ _. refl) entry.signer,
+      list_floatless text_data text_floatless row.persons,
       option_floatless number_data (λ _. refl) row.prior,
       text_floatless name,
       option_floatless number_data (λ _. refl) later.rescuer,
       list_floatless hex_data (λ _. refl) row.signers,
       option_floatless number_data (λ _. refl) later.skipper,
+      option_floatless number_data (λ _. refl) (option_and_then time_of (author_of entry.signed)),
     ) refl
 body_floatless entry row later (Annotation ids skip message) =
-    rw (list_floatless hex_data (λ _. refl) ids, option_floatless number_data (λ _. refl) row.epoch, option_floatless hex_data (λ _. refl) entry.signer, text_floatless message) refl
+    rw (
+      option_floatless text_data text_floatless (author_of entry.signed),
+      list_floatless hex_data (λ _. refl) ids,
+      option_floatless number_data (λ _. refl) row.epoch,
+      option_floatless hex_data (λ _. refl) entry.signer,
+      text_floatless message,
+      list_floatless text_data text_floatless row.persons,
+      option_floatless number_data (λ _. refl) (option_and_then time_of (author_of entry.signed)),
+    ) refl
 
 pub verdict_floatless : (name : List ℕ) (verdict : Verdict Fault) → has_float (verdict_data name verdict) ≡ false
 verdict_floatless name (Accepted count) = rw (text_floatless name) refl
 verdict_floatless name (TipDiffers kept recorded) = rw (text_floatless name) refl
 verdict_floatless name (Violation number fault) = rw (fault_floatless fault, text_floatless name) refl
+
+pub unrecorded_floatless : (name : List ℕ) (verdict : Verdict Fault) → has_float (unrecorded_data name verdict) ≡ false
+unrecorded_floatless name (Accepted count) = rw (text_floatless name) refl
+unrecorded_floatless name (TipDiffers kept recorded) = rw (text_floatless name) refl
+unrecorded_floatless name (Violation number fault) = verdict_floatless name (Violation number fault)
+
+pub skip_floatless : (id : List ℕ) (number : Option ℕ) (name : Option (List ℕ)) (skips : Bool) → has_float (skip_data id number name skips) ≡ false
+skip_floatless id number name skips = rw (option_floatless number_data (λ _. refl) number, option_floatless text_data text_floatless name) refl
 
 mend_floatless : (mend : Mend) → has_float (mend_data mend) ≡ false
 mend_floatless mend =

@@ -1,10 +1,12 @@
 -- The lines that tell an entry and a verdict: objects of JSON, with the fields in the order of their names' bytes.
-use Rattle.std.specs.Prelude.{ℕ, Bool, true, false, List, codes}
+use Rattle.std.specs.Prelude.{ℕ, Bool, true, false, List, Option, codes, option_and_then}
 use Rattle.json_lines.specs.Values.{hex_data, line_text, list_data, number_data, option_data, text_data}
 use Rattle.serde_json.specs.Data.{Data, Members, boolean, member, no_members, null, object, string}
 use Rattle.rsl_chain.specs.declared.entries.Entry.{Entry}
 use Rattle.rsl_chain.specs.declared.entries.EntryBody.{EntryBody}
 use Rattle.rsl_chain.specs.declared.entries.EntryBody.TheVariants.{Reference, Annotation}
+use Rattle.entry_authors.specs.Authors.{author_of}
+use Rattle.entry_authors.specs.Times.{time_of}
 use Rattle.judging.specs.declared.verdicts.EntryVerdict.{EntryVerdict}
 use Rattle.judging.specs.declared.verdicts.EntryVerdict.TheVariants.{Authorised, Refused, Noted}
 use Rattle.judging.specs.declared.verdicts.Verdict.{Verdict}
@@ -45,29 +47,41 @@ refusal_data Authorised = null
 refusal_data (Refused fault) = fault_data fault
 refusal_data Noted = null
 
+-- who an entry says made it, and when
+abbrev pub author_data : Entry → Data
+author_data entry = option_data text_data (author_of entry.signed)
+
+abbrev pub time_data : Entry → Data
+time_data entry = option_data number_data (option_and_then time_of (author_of entry.signed))
+
 -- what is known of an entry of a reference
 abbrev pub known_members : Entry → EntryRow → Members
 known_members entry row =
-    member (codes "epoch") (option_data number_data row.epoch)
+    member (codes "author") (author_data entry)
+    (member (codes "epoch") (option_data number_data row.epoch)
     (member (codes "fault") (refusal_data row.verdict)
     (member (codes "from") (option_data hex_data row.from)
     (member (codes "id") (hex_data entry.id)
     (member (codes "key") (option_data hex_data entry.signer)
+    (member (codes "persons") (list_data text_data row.persons)
     (member (codes "prior") (option_data number_data row.prior)
     (member (codes "signed") (boolean row.signed)
     (member (codes "signers") (list_data hex_data row.signers)
-    (member (codes "verdict") (string (verdict_word row.verdict)) no_members))))))))
+    (member (codes "time") (time_data entry)
+    (member (codes "verdict") (string (verdict_word row.verdict)) no_members)))))))))))
 
 -- an entry of a reference, with that and what later entries make of it
 abbrev pub reference_data : Entry → List ℕ → List ℕ → EntryRow → Later → Data
 reference_data entry name target row later =
-    object (member (codes "epoch") (option_data number_data row.epoch)
+    object (member (codes "author") (author_data entry)
+    (member (codes "epoch") (option_data number_data row.epoch)
     (member (codes "fault") (refusal_data row.verdict)
     (member (codes "from") (option_data hex_data row.from)
     (member (codes "id") (hex_data entry.id)
     (member (codes "key") (option_data hex_data entry.signer)
     (member (codes "kind") (string (codes "reference"))
     (member (codes "number") (number_data entry.number)
+    (member (codes "persons") (list_data text_data row.persons)
     (member (codes "prior") (option_data number_data row.prior)
     (member (codes "reference") (text_data name)
     (member (codes "rescued") (option_data number_data later.rescuer)
@@ -75,7 +89,8 @@ reference_data entry name target row later =
     (member (codes "signers") (list_data hex_data row.signers)
     (member (codes "skipped") (option_data number_data later.skipper)
     (member (codes "target") (hex_data target)
-    (member (codes "verdict") (string (verdict_word row.verdict)) no_members)))))))))))))))
+    (member (codes "time") (time_data entry)
+    (member (codes "verdict") (string (verdict_word row.verdict)) no_members))))))))))))))))))
 
 -- whether an annotation skips what it lists
 abbrev pub annotation_word : Bool → List ℕ
@@ -84,15 +99,18 @@ annotation_word false = codes "note"
 
 abbrev pub annotation_data : Entry → List (List ℕ) → Bool → List ℕ → EntryRow → Data
 annotation_data entry ids skip message row =
-    object (member (codes "entries") (list_data hex_data ids)
+    object (member (codes "author") (author_data entry)
+    (member (codes "entries") (list_data hex_data ids)
     (member (codes "epoch") (option_data number_data row.epoch)
     (member (codes "id") (hex_data entry.id)
     (member (codes "key") (option_data hex_data entry.signer)
     (member (codes "kind") (string (annotation_word skip))
     (member (codes "message") (text_data message)
     (member (codes "number") (number_data entry.number)
+    (member (codes "persons") (list_data text_data row.persons)
     (member (codes "signed") (boolean row.signed)
-    (member (codes "verdict") (string (verdict_word row.verdict)) no_members)))))))))
+    (member (codes "time") (time_data entry)
+    (member (codes "verdict") (string (verdict_word row.verdict)) no_members))))))))))))
 
 abbrev pub body_data : Entry → EntryRow → Later → EntryBody → Data
 body_data entry row later (Reference name target) = reference_data entry name target row later
@@ -118,6 +136,36 @@ verdict_data name (Violation number fault) = object (member (codes "fault") (fau
 
 unfoldable pub verdict_line : List ℕ → Verdict Fault → List ℕ
 verdict_line name verdict = line_text (verdict_data name verdict)
+
+-- ---- references of which the log does not speak, and a rule does
+
+-- a verdict with a field that says so; a violation is by an entry, of which the log speaks
+abbrev pub unrecorded_data : List ℕ → Verdict Fault → Data
+unrecorded_data name (Accepted count) = object (member (codes "entries") (number_data count)
+    (member (codes "reference") (text_data name)
+    (member (codes "unrecorded") (boolean true)
+    (member (codes "verdict") (string (codes "accepted")) no_members))))
+unrecorded_data name (TipDiffers kept recorded) = object (member (codes "kept") (hex_data kept)
+    (member (codes "recorded") (hex_data recorded)
+    (member (codes "reference") (text_data name)
+    (member (codes "unrecorded") (boolean true)
+    (member (codes "verdict") (string (codes "tip-differs")) no_members)))))
+unrecorded_data name (Violation number fault) = verdict_data name (Violation number fault)
+
+unfoldable pub unrecorded_line : List ℕ → Verdict Fault → List ℕ
+unrecorded_line name verdict = line_text (unrecorded_data name verdict)
+
+-- ---- whether an annotation would skip an entry
+
+-- the id that it lists; the number of the entry, where the log has it; the reference, where the entry is of one
+abbrev pub skip_data : List ℕ → Option ℕ → Option (List ℕ) → Bool → Data
+skip_data id number name skips = object (member (codes "id") (hex_data id)
+    (member (codes "number") (option_data number_data number)
+    (member (codes "reference") (option_data text_data name)
+    (member (codes "skips") (boolean skips) no_members))))
+
+unfoldable pub skip_line : List ℕ → Option ℕ → Option (List ℕ) → Bool → List ℕ
+skip_line id number name skips = line_text (skip_data id number name skips)
 
 -- ---- violations, with what mends them
 

@@ -8,6 +8,7 @@ ghost use Rattle.account_lines.specs.Lines.{annotation_data, annotation_word, bo
 ghost use Rattle.account_lines.specs.Lines.{reference_data, refusal_data, verdict_word};
 
 use crate::faults::fault_json;
+use crate::made::{author_json, texts_json, time_json};
 use crate::{EntryRow, Later};
 use entry_rules::Fault;
 use git_object::{Ids, ObjectId, RefName};
@@ -42,23 +43,29 @@ fn refusal_json(alloc: Global, verdict: &EntryVerdict<Fault>) -> Result<Value, M
 fn known_fields(alloc: Global, entry: &Entry, row: &EntryRow) -> Result<Map<String, Value>, Memory>
     ensures { IfOk result (λ fields. members_view fields.entries ≡ known_members entry.now row.now) }
 {
+    let author = author_json(alloc, entry)?;
     let epoch = option_json(alloc, row.epoch.as_ref())?;
     let fault = refusal_json(alloc, &row.verdict)?;
     let from = option_json(alloc, row.from.as_ref())?;
     let id = hex_json(alloc, entry.id.as_bytes())?;
     let key = option_json(alloc, entry.signer.as_ref())?;
+    let persons = texts_json(alloc, row.persons.as_slice())?;
     let prior = option_json(alloc, row.prior.as_ref())?;
     let signers = list_json(alloc, row.signers.as_slice())?;
+    let time = time_json(entry);
     let verdict = word_json(alloc, verdict_word(&row.verdict))?;
     let mut fields = Map::new(alloc);
+    put(&mut fields, alloc, "author", author)?;
     put(&mut fields, alloc, "epoch", epoch)?;
     put(&mut fields, alloc, "fault", fault)?;
     put(&mut fields, alloc, "from", from)?;
     put(&mut fields, alloc, "id", id)?;
     put(&mut fields, alloc, "key", key)?;
+    put(&mut fields, alloc, "persons", persons)?;
     put(&mut fields, alloc, "prior", prior)?;
     put(&mut fields, alloc, "signed", Value::from(row.signed))?;
     put(&mut fields, alloc, "signers", signers)?;
+    put(&mut fields, alloc, "time", time)?;
     put(&mut fields, alloc, "verdict", verdict)?;
     Ok(fields)
 }
@@ -105,14 +112,17 @@ fn annotation_json(
 ) -> Result<Value, Memory>
     ensures { IfOk result (λ value. view value ≡ annotation_data entry.now ids.now skip message.now row.now) }
 {
+    let author = author_json(alloc, entry)?;
     let entries = list_json(alloc, ids.as_slice())?;
     let epoch = option_json(alloc, row.epoch.as_ref())?;
     let id = hex_json(alloc, entry.id.as_bytes())?;
     let key = option_json(alloc, entry.signer.as_ref())?;
     let kind = word_json(alloc, annotation_word(skip))?;
     let message = text_json(alloc, message.as_slice())?;
+    let persons = texts_json(alloc, row.persons.as_slice())?;
     let verdict = word_json(alloc, verdict_word(&row.verdict))?;
     let mut fields = Map::new(alloc);
+    put(&mut fields, alloc, "author", author)?;
     put(&mut fields, alloc, "entries", entries)?;
     put(&mut fields, alloc, "epoch", epoch)?;
     put(&mut fields, alloc, "id", id)?;
@@ -120,7 +130,9 @@ fn annotation_json(
     put(&mut fields, alloc, "kind", kind)?;
     put(&mut fields, alloc, "message", message)?;
     put(&mut fields, alloc, "number", number_json(entry.number))?;
+    put(&mut fields, alloc, "persons", persons)?;
     put(&mut fields, alloc, "signed", Value::from(row.signed))?;
+    put(&mut fields, alloc, "time", time_json(entry))?;
     put(&mut fields, alloc, "verdict", verdict)?;
     Ok(Value::Object(fields))
 }

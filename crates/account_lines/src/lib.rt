@@ -6,11 +6,16 @@
 
 mod entries;
 mod faults;
+mod made;
 mod mending;
 mod rows;
+mod skips;
+mod unrecorded;
 mod verdicts;
 
 pub use entries::entry_line;
 pub use mending::violation_line;
 pub use rows::{EntryRow, Later};
+pub use skips::skip_line;
+pub use unrecorded::unrecorded_line;
 pub use verdicts::verdict_line;

@@ -3,6 +3,7 @@
 use entry_rules::Fault;
 use git_object::ObjectId;
 use judging::{EntryVerdict, KeyIds};
+use octets::{Items, Octets};
 
 /// What is known of an entry once it is judged.
 #[derive(Drop)]
@@ -21,6 +22,8 @@ pub struct EntryRow {
     pub signed: bool,
     /// The keys of the policy that signed it or approved its change.
     pub signers: KeyIds,
+    /// The names of the persons of the policy who have one of these keys, or of an annotation the one that signed it.
+    pub persons: Items<Octets>,
     /// Whether it is authorised, refused for a fault, or an annotation.
     pub verdict: EntryVerdict<Fault>,
 }

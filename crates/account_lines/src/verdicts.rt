@@ -46,7 +46,12 @@ fn tip_differs(
     Ok(Value::Object(fields))
 }
 
-fn violation(alloc: Global, name: &RefName, number: u64, fault: &Fault) -> Result<Value, Memory>
+pub(crate) fn violation(
+    alloc: Global,
+    name: &RefName,
+    number: u64,
+    fault: &Fault,
+) -> Result<Value, Memory>
     ensures { IfOk result (λ value. view value ≡ verdict_data name.now (verdict.Violation number fault.now)) }
 {
     let fault = fault_json(alloc, fault)?;

@@ -2,6 +2,7 @@ mod Rowed
 mod Taking
 mod Walked
 mod Lines
+mod Skipping
 mod OneAccount
 mod Would
 mod WaysBack

@@ -19,7 +19,7 @@ use Rattle.accounts.proofs.Rowed.{row_there}
 
 -- ---- the entry of a row
 
-at_index : {X : Type 0} (P : X → Type 0) (xs : List X) (k : ℕ) (x : X) → AllByRecursion P xs → slice_get xs k ≡ Some x → P x
+pub at_index : {X : Type 0} (P : X → Type 0) (xs : List X) (k : ℕ) (x : X) → AllByRecursion P xs → slice_get xs k ≡ Some x → P x
 at_index P [] k x all is = absurd (cc is)
 at_index P (y ∷ ys) zero x all is = let same : y ≡ x = cc is in subst P same all.0
 at_index P (y ∷ ys) (suc k) x all is = at_index P ys k x all.1 is

@@ -1,17 +1,20 @@
 -- A repository has one account at most.
-use Rattle.std.proofs.Common.{◌≡◌, ◌<◌, ◌≤◌, ℕ, Bool, true, List, Option, Some, length, sym, ap, subst, ◌∙◌}
+use Rattle.std.proofs.Common.{◌≡◌, ◌<◌, ◌≤◌, ◌-◌, ℕ, Bool, true, List, Option, Some, length, map, take, sym, ap, subst, ◌∙◌}
 use Rattle.std.specs.FinMap.{get}
 use Rattle.std.proofs.lemmas.Bool.{true≢false}
+use Rattle.std.proofs.lemmas.List.{take-map}
 use Rattle.git_object.specs.Names.{log_name}
 use Rattle.git_object.specs.Repository.{Repository}
 use Rattle.rsl_chain.specs.Entries.{Taken}
 use Rattle.rsl_chain.specs.Chain.{NeverBoth, OneLog}
 use Rattle.rsl_chain.specs.Logs.{IsBreakOf, heads_of}
 use Rattle.judging.proofs.Counting.{last_number}
+use Rattle.judging.specs.Logs.{before}
 use Rattle.entry_rules.specs.RealRules.{real_rules}
-use Rattle.verify_ref.specs.Logs.{AreEntries}
+use Rattle.verify_ref.specs.Logs.{AreEntries, taken_at}
 use Rattle.verify_ref.proofs.OneVerdict.{one_verdict, same_entries}
 use Rattle.accounts.specs.Accounts.{IsLine, IsLineOf, IsToldVerdict, is_accepted, line_of, told_line}
+use Rattle.accounts.specs.Fronts.{AsBefore}
 use Rattle.accounts.specs.Rows.{epoch_of, opens_at}
 
 module _ (anchor : Option (List (List ℕ))) (log : List Taken) (number : ℕ) where
@@ -46,3 +49,13 @@ pub greatest : (anchor : Option (List (List ℕ))) (log : List Taken) (k : ℕ) 
 greatest anchor log k is =
     let last = last_number (opens_at (real_rules anchor) log) (length log) k is in
     (last.0, last.1, last.2, λ j later within opens. true≢false (sym opens ∙ last.3 j later within))
+
+pub as_before : OneLog → AsBefore
+as_before one anchor r number front whole is all =
+    let n = number - 1 in
+    let ids = one (heads_of r) (get r.refs log_name) is.ids all.ids is.is_log all.is_log in
+    let some : Taken → Option Taken = λ t. Some t in
+    let those : map (taken_at r) (take n all.ids) ≡ map some (take n all.log) =
+    sym (take-map (taken_at r) n all.ids) ∙ ap (take n) all.entries ∙ take-map some n all.log in
+    let these : AreEntries r (take n all.ids) is.log = subst (λ (xs : List (List ℕ)). AreEntries r (take n xs) is.log) ids is.entries in
+    same_entries is.log (before all.log number) (sym these ∙ those)

@@ -1,17 +1,22 @@
 -- A judged log with one entry more.
-use Rattle.std.proofs.Common.{◌≡◌, ◌+◌, ◌&&◌, ◌++◌, ℕ, suc, Bool, cond, is_none, List, [], ◌∷◌, Option, Some, None, length, map, refl, ap, sym, ◌∙◌, arith}
+use Rattle.std.proofs.Common.{◌≡◌, ◌+◌, ◌&&◌, ◌++◌, ℕ, suc, Bool, true, false, cond, is_none, is_some, List, [], ◌∷◌, Option, Some, None, length, map, refl, ap, sym, ◌∙◌, arith}
+use Rattle.std.specs.Str.{bytes_eq}
 use Rattle.std.proofs.lemmas.List.{length-map}
 use Rattle.git_object.specs.References.{policy_name}
 use Rattle.rsl_chain.specs.Entries.{Taken, is_of, target_of}
 use Rattle.rsl_chain.specs.declared.entries.EntryBody.{EntryBody}
 use Rattle.rsl_chain.specs.declared.entries.EntryBody.TheVariants.{Reference, Annotation}
 use Rattle.judging.specs.Engines.{taken}
-use Rattle.judging.specs.Logs.{fault_of, last_signers, policy_after, signers_of}
+use Rattle.judging.specs.Logs.{attested_after, body_signers, fault_of, from, last_signers, opened, ordinary_signers, policy_after, signers_of}
+use Rattle.judging.specs.Rules.{Rules}
 use Rattle.judging.specs.Verdicts.{body_verdict, verdict_of}
 use Rattle.judging.specs.declared.verdicts.EntryVerdict.{EntryVerdict}
-use Rattle.judging.proofs.Takes.{attested_push, signers_push}
+use Rattle.judging.proofs.Takes.{attested_push, policy_push, signers_push}
 use Rattle.log_names.specs.Names.{with_body}
 use Rattle.log_names.proofs.Naming.{names_push}
+use Rattle.policy_epochs.specs.declared.policies.Policy.{Policy}
+use Rattle.signing_persons.specs.Persons.{persons_of}
+use Rattle.signing_persons.proofs.Naming.{nobody}
 use Rattle.entry_rules.specs.RealRules.{real_rules}
 use Rattle.entry_rules.specs.declared.faults.Fault.{Fault}
 use Rattle.verify_ref.specs.Following.{Follows, TakesOne}
@@ -19,7 +24,7 @@ use Rattle.verify_ref.specs.declared.engine.Engine.{Engine}
 use Rattle.account_lines.specs.declared.rows.EntryRow.{EntryRow}
 use Rattle.accounts.specs.Judging.{StandsFor}
 use Rattle.by_whom.specs.Keeping.{Knows}
-use Rattle.accounts.specs.Rows.{epoch_of, from_of, is_signed, prior_of, row_of, rows_of}
+use Rattle.accounts.specs.Rows.{counted_by, epoch_of, from_of, prior_of, row_of, rows_of, signer_in}
 use Rattle.accounts.specs.Steps.{attested_then, is_authorised}
 use Rattle.accounts.specs.declared.judged_log.JudgedLog.{JudgedLog}
 use Rattle.accounts.proofs.Rowed.{epoch_more, rows_more}
@@ -35,6 +40,18 @@ taken_long log engine follows =
     let many : length (map targets log) ≡ length log = length-map log targets in
     ap length follows.targets ∙ many
 
+-- an entry of the policy's reference changes the policy, and no keys count for it
+no_persons : (b : Bool) (was now : Option Policy) (keys : List (List ℕ)) → persons_of (cond b now was) (cond b [] keys) ≡ persons_of was (cond b [] keys)
+no_persons true was now keys = nobody now ∙ sym (nobody was)
+no_persons false was now keys = refl
+
+same_persons : (rules : Rules Policy Fault) (log : List Taken) (t : Taken) (body : EntryBody) (signer : Option (List ℕ)) (was now : Option Policy)
+    → persons_of (cond (is_of body policy_name) now was) (counted_by body signer (body_signers rules log t body))
+    ≡ persons_of was (counted_by body signer (body_signers rules log t body))
+same_persons rules log t (Reference name target) signer was now =
+    no_persons (bytes_eq name policy_name) was now (ordinary_signers rules (policy_after rules log) t (from rules log name) (attested_after log))
+same_persons rules log t (Annotation ids skip message) signer was now = refl
+
 -- what was found of an entry before it was taken, and what was answered then
 pub record IsFound (log : List Taken) (t : Taken) (was now : JudgedLog) (row : EntryRow) : Type 0 where
   pub rules : now.engine.rules ≡ was.engine.rules
@@ -45,8 +62,10 @@ pub record IsFound (log : List Taken) (t : Taken) (was now : JudgedLog) (row : E
   pub epoch : row.epoch ≡ was.epoch
   pub prior : row.prior ≡ prior_of (real_rules was.engine.rules.anchor) log t.entry.body
   pub from : row.from ≡ from_of (real_rules was.engine.rules.anchor) log t.entry.body
-  pub signed : row.signed ≡ is_signed (policy_after (real_rules was.engine.rules.anchor) log) t.entry
+  pub signed : row.signed ≡ is_some (signer_in (policy_after (real_rules was.engine.rules.anchor) log) t.entry)
   pub signers : row.signers ≡ last_signers (real_rules now.engine.rules.anchor) (log ++ t ∷ [])
+  pub persons : row.persons ≡ persons_of (policy_after (real_rules now.engine.rules.anchor) (log ++ t ∷ []))
+      (counted_by t.entry.body (signer_in (policy_after (real_rules was.engine.rules.anchor) log) t.entry) row.signers)
   pub rows : now.rows ≡ was.rows ++ row ∷ []
   pub attested : now.attested ≡ attested_then was.attested t.entry.body
   pub names : now.names ≡ with_body was.names t.entry.body
@@ -68,10 +87,29 @@ module _ (log : List Taken) (t : Taken) (was now : JudgedLog) (row : EntryRow) (
       let epoch : row.epoch ≡ epoch_of rules log = found.epoch ∙ epoch_was in
       let prior : row.prior ≡ prior_of rules log t.entry.body = found.prior ∙ ap (λ (a : Option (List (List ℕ))). prior_of (real_rules a) log t.entry.body) same in
       let from : row.from ≡ from_of rules log t.entry.body = found.from ∙ ap (λ (a : Option (List (List ℕ))). from_of (real_rules a) log t.entry.body) same in
-      let signed : row.signed ≡ is_signed (policy_after rules log) t.entry = found.signed ∙ ap (λ (a : Option (List (List ℕ))). is_signed (policy_after (real_rules a) log) t.entry) same in
+      let signed : row.signed ≡ is_some (signer_in (policy_after rules log) t.entry) =
+      found.signed ∙ ap (λ (a : Option (List (List ℕ))). is_some (signer_in (policy_after (real_rules a) log) t.entry)) same in
       let signers : row.signers ≡ signers_of rules log t = found.signers ∙ signers_push rules log t in
       let verdict : row.verdict ≡ verdict_of rules log t = found.takes.answer in
-      λ i. record { id = found.id i; epoch = epoch i; prior = prior i; from = from i; signed = signed i; signers = signers i; verdict = verdict i }
+      let signer = signer_in (policy_after rules log) t.entry in
+      let persons : row.persons ≡ persons_of (policy_after rules log) (counted_by t.entry.body signer (signers_of rules log t)) =
+      found.persons
+      ∙ ap (λ (a : Option (List (List ℕ))). persons_of (policy_after rules (log ++ t ∷ []))
+      (counted_by t.entry.body (signer_in (policy_after (real_rules a) log) t.entry) row.signers)) same
+      ∙ ap (λ (ks : List (List ℕ)). persons_of (policy_after rules (log ++ t ∷ [])) (counted_by t.entry.body signer ks)) signers
+      ∙ ap (λ (p : Option Policy). persons_of p (counted_by t.entry.body signer (signers_of rules log t))) (policy_push rules log t)
+      ∙ same_persons rules log t t.entry.body signer (policy_after rules log)
+      (opened rules (policy_after rules log) (rules.epoch t.repository (policy_after rules log) t.entry)) in
+      λ i. record {
+        id = found.id i;
+        epoch = epoch i;
+        prior = prior i;
+        from = from i;
+        signed = signed i;
+        signers = signers i;
+        persons = persons i;
+        verdict = verdict i;
+      }
 
   epoch_is : now.epoch ≡ epoch_of (real_rules now.engine.rules.anchor) (log ++ t ∷ [])
   epoch_is =

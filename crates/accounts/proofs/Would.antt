@@ -9,6 +9,7 @@ use Rattle.recovery.specs.Lanes.{first_of}
 use Rattle.judging.specs.Logs.{attested_after, policy_after, prior, prior_target}
 use Rattle.judging.specs.Verdicts.{answer_of}
 use Rattle.policy_epochs.specs.declared.policies.Policy.{Policy}
+use Rattle.signing_persons.specs.Persons.{persons_of}
 use Rattle.entry_rules.specs.RealRules.{real_rules}
 use Rattle.entry_rules.specs.declared.faults.Fault.{Fault}
 use Rattle.would_be.specs.Laws.{stood_at}
@@ -30,11 +31,12 @@ first_is (x ∷ xs) = refl
 -- what is known of it, and where its reference stands
 module _ (judged : JudgedLog) (log : List Taken) (stands : StandsFor log judged) where
   pub row_is : (p : Proposed) (found : Would) (row : EntryRow) → row.id ≡ zeros → row.epoch ≡ judged.epoch → row.prior ≡ prior (real_rules judged.engine.rules.anchor) log p.name
-      → row.from ≡ prior_target (real_rules judged.engine.rules.anchor) log p.name → row.signed ≡ false → row.signers ≡ found.signers → row.verdict ≡ answer_of (first_of found.faults)
+      → row.from ≡ prior_target (real_rules judged.engine.rules.anchor) log p.name → row.signed ≡ false → row.signers ≡ found.signers
+      → row.persons ≡ persons_of (policy_after (real_rules judged.engine.rules.anchor) log) found.signers → row.verdict ≡ answer_of (first_of found.faults)
       → row ≡ would_row judged.engine.rules.anchor log p found
-  row_is p found row id epoch before from signed signers verdict =
+  row_is p found row id epoch before from signed signers persons verdict =
       let last = epoch ∙ stands.epoch in
-      λ i. record { id = id i; epoch = last i; prior = before i; from = from i; signed = signed i; signers = signers i; verdict = verdict i }
+      λ i. record { id = id i; epoch = last i; prior = before i; from = from i; signed = signed i; signers = signers i; persons = persons i; verdict = verdict i }
 
   pub stood_is : (name : List ℕ) (from : Option (List ℕ)) (stood : Stood) → from ≡ prior_target (real_rules judged.engine.rules.anchor) log name
       → stood.from ≡ unwrap_or from zeros → stood.attested ≡ judged.attested → stood ≡ stood_at judged.engine.rules.anchor log name

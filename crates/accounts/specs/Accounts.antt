@@ -23,10 +23,12 @@ use Rattle.would_be.specs.Laws.{stood_at}
 use Rattle.would_be.specs.Would.{IsWould}
 use Rattle.would_be.specs.declared.proposals.Proposed.{Proposed}
 use Rattle.would_be.specs.declared.proposals.Would.{Would}
-use Rattle.account_lines.specs.Lines.{entry_line, verdict_line, violation_line}
+use Rattle.signing_persons.specs.Persons.{persons_of}
+use Rattle.account_lines.specs.Lines.{entry_line, unrecorded_line, verdict_line, violation_line}
 use Rattle.account_lines.specs.declared.rows.EntryRow.{EntryRow}
 use Rattle.account_lines.specs.declared.rows.Later.{Later}
 use Rattle.accounts.specs.Rows.{epoch_of, row_of}
+use Rattle.accounts.specs.Unrecorded.{is_unrecorded}
 
 -- what later entries of a log make of the entry of a number
 abbrev pub later_of : Option (List (List ℕ)) → List Taken → ℕ → Later
@@ -59,10 +61,16 @@ is_accepted (Accepted count) = true
 is_accepted (TipDiffers kept recorded) = false
 is_accepted (Violation number fault) = false
 
+-- the line of a verdict, which says where the reference is unrecorded
+abbrev pub plain_line : Bool → List ℕ → Verdict Fault → List ℕ
+plain_line true name verdict = unrecorded_line name verdict
+plain_line false name verdict = verdict_line name verdict
+
 -- the line of a verdict on a reference by a log, a violation with what mends it by the trees of the repository
 abbrev pub told_line : Rules Policy Fault → List Taken → Repository → List ℕ → Verdict Fault → List ℕ
-told_line rules log r name (Accepted count) = verdict_line name (Accepted count)
-told_line rules log r name (TipDiffers kept recorded) = verdict_line name (TipDiffers kept recorded)
+told_line rules log r name (Accepted count) = plain_line (is_unrecorded rules log name) name (Accepted count)
+told_line rules log r name (TipDiffers kept recorded) =
+    plain_line (is_unrecorded rules log name) name (TipDiffers kept recorded)
 told_line rules log r name (Violation number fault) =
     violation_line name number fault (mend_of rules log name r number)
 
@@ -97,6 +105,7 @@ would_row anchor log p found = record {
   from = prior_target (real_rules anchor) log p.name;
   signed = false;
   signers = found.signers;
+  persons = persons_of (policy_after (real_rules anchor) log) found.signers;
   verdict = answer_of (first_of found.faults);
 }
 

@@ -1,5 +1,5 @@
 -- What is known of each entry of a log once it is judged: by the entries before it, and it alone.
-use Rattle.std.specs.Prelude.{◌&&◌, ◌++◌, ◌∷◌, [], ℕ, Bool, false, List, length}
+use Rattle.std.specs.Prelude.{◌&&◌, ◌++◌, ◌∷◌, [], ℕ, Bool, List, length}
 use Rattle.std.specs.Prelude.{Option, Some, None, is_some}
 use Rattle.std.specs.List.{filter}
 use Rattle.git_object.specs.References.{policy_name}
@@ -14,8 +14,9 @@ use Rattle.judging.specs.Rules.{Rules}
 use Rattle.judging.specs.Verdicts.{verdict_of}
 use Rattle.policy_epochs.specs.declared.policies.Policy.{Policy}
 use Rattle.entry_rules.specs.RealRules.{real_rules}
-use Rattle.entry_rules.specs.Signing.{signer_among}
+use Rattle.entry_rules.specs.Signing.{listed, signer_among}
 use Rattle.entry_rules.specs.declared.faults.Fault.{Fault}
+use Rattle.signing_persons.specs.Persons.{persons_of}
 use Rattle.account_lines.specs.declared.rows.EntryRow.{EntryRow}
 
 -- the number of the last entry of an entry's reference before it that is not skipped
@@ -36,10 +37,16 @@ opens_at rules log i = is_entry_of (entry_at log i) policy_name && authorised ru
 abbrev pub epoch_of : Rules Policy Fault → List Taken → Option ℕ
 epoch_of rules log = last_of (filter (opens_at rules log) (numbers (length log)))
 
--- the key that the entry names is one of the policy, and the signature is good by it
-abbrev pub is_signed : Option Policy → Entry → Bool
-is_signed None entry = false
-is_signed (Some policy) entry = is_some (signer_among policy.keys entry)
+-- the key that the entry names, where it is one of the policy and the signature is good by it
+abbrev pub signer_in : Option Policy → Entry → Option (List ℕ)
+signer_in None entry = None
+signer_in (Some policy) entry = signer_among policy.keys entry
+
+-- the keys whose persons are told: those that signed or approved an entry of a reference, and of an annotation its
+-- signer
+abbrev pub counted_by : EntryBody → Option (List ℕ) → List (List ℕ) → List (List ℕ)
+counted_by (Reference name target) signer signers = signers
+counted_by (Annotation ids skip message) signer signers = listed signer
 
 -- of the entry that comes after these
 abbrev pub row_of : Option (List (List ℕ)) → List Taken → Taken → EntryRow
@@ -48,8 +55,11 @@ row_of anchor earlier t = record {
   epoch = epoch_of (real_rules anchor) earlier;
   prior = prior_of (real_rules anchor) earlier t.entry.body;
   from = from_of (real_rules anchor) earlier t.entry.body;
-  signed = is_signed (policy_after (real_rules anchor) earlier) t.entry;
+  signed = is_some (signer_in (policy_after (real_rules anchor) earlier) t.entry);
   signers = signers_of (real_rules anchor) earlier t;
+  persons = persons_of (policy_after (real_rules anchor) earlier)
+      (counted_by t.entry.body (signer_in (policy_after (real_rules anchor) earlier) t.entry)
+      (signers_of (real_rules anchor) earlier t));
   verdict = verdict_of (real_rules anchor) earlier t;
 }
 

@@ -16,8 +16,8 @@ use policy_epochs::Policy;
 use verify_ref::Engine;
 
 /// A log that was judged: the engine that took its entries, the number of the last entry that brought a policy into
-/// force, the target of the last entry of the attestations' reference, the names of which it speaks, what is known of each
-/// entry, in their order, and by which later ones they are skipped and rescued.
+/// force, the target of the last entry of the attestations' reference, the names of which it speaks, what is known of
+/// each entry, in their order, and by which later ones they are skipped and rescued.
 #[derive(Drop)]
 pub struct JudgedLog {
     pub(crate) engine: Engine,

@@ -1,6 +1,8 @@
 //! Laws over the definitions of this crate. No call needs these functions: their contracts are the laws.
 
+ghost use Rattle.accounts.specs.Fronts.{AsBefore};
 ghost use Rattle.accounts.specs.Laws.{EpochGreatest, OneLine, OneVerdictLine};
+ghost use Rattle.accounts.specs.Skips.{AsSkipped};
 
 use rsl_chain::laws::logs;
 
@@ -22,3 +24,17 @@ pub fn one_verdict_line()
 pub fn epoch_greatest()
     ensures { EpochGreatest }
 {}
+
+/// What is told of an entry that an annotation would skip is what it does, once it is recorded behind the log, signed
+/// by that key.
+pub fn as_skipped()
+    ensures { AsSkipped }
+{}
+
+/// The entries that are judged before a number are those of the whole log before it, by which the entry of this number
+/// is judged.
+pub fn as_before()
+    ensures { AsBefore }
+{
+    logs();
+}

@@ -1,7 +1,7 @@
 //! What mends a violation, by a judged log.
 
-ghost use Rattle.std.specs.Prelude.{◌≡◌, ◌⊎◌, ◌++◌, ◌∷◌, [], ◌<◌, ◌≤◌, ℕ, List, true, length, reverse, Some, IfOk, IsTrue, unwrap_or};
-ghost use Rattle.std.specs.Prelude.{if◌then◌else◌};
+ghost use Rattle.std.specs.Prelude.{◌≡◌, ◌⊎◌, ◌+◌, ◌++◌, ◌∷◌, [], ◌<◌, ◌≤◌, ℕ, List, true, length, reverse, Some};
+ghost use Rattle.std.specs.Prelude.{IfOk, IsTrue, unwrap_or, if◌then◌else◌};
 ghost use Rattle.octets.specs.Causes.{HasCause};
 ghost use Rattle.git_object.specs.Repository.{Repository};
 ghost use Rattle.keeper_api.specs.Faults.{keeper_failed};
@@ -10,11 +10,13 @@ ghost use Rattle.rsl_chain.specs.Entries.{Taken};
 ghost use Rattle.judging.specs.Logs.{above, skipped};
 ghost use Rattle.entry_rules.specs.RealRules.{real_rules};
 ghost use Rattle.entry_rules.specs.Signing.{tree_in};
+ghost use Rattle.tree_paths.specs.Listings.{walk_visits};
 ghost use Rattle.tree_paths.specs.Repositories.{readings_of};
 ghost use Rattle.tree_paths.specs.States.{walk_of};
 ghost use Rattle.mends.specs.Mends.{back_to, from_on, mend_of, way_back};
 ghost use Rattle.mends.specs.Walking.{HasEnded, IsWalked, some_number};
 ghost use Rattle.accounts.specs.Judging.{StandsFor};
+ghost use Rattle.accounts.specs.MendReads.{mend_reads};
 
 use crate::JudgedLog;
 use git_object::{ObjectId, RefName};
@@ -25,8 +27,8 @@ use policy_reading::own_state;
 use std::alloc::Global;
 use tree_paths::State;
 
-/// Where a way back over a reference's entries has come to: the number of an entry, or 0 at its front, the entry's target, and the
-/// numbers that were found on it, the last of the log first.
+/// Where a way back over a reference's entries has come to: the number of an entry, or 0 at its front, the entry's
+/// target, and the numbers that were found on it, the last of the log first.
 #[derive(Drop)]
 pub(crate) struct Way {
     pub at: u64,
@@ -141,6 +143,8 @@ fn tree_of<R: Keeper>(
         → tree ≡ tree_in (walk_of (readings_of r) target.now)) }
     ensures same { Undisturbed R.Keeper keeper.old keeper.new }
     ensures cause { HasCause keeper_failed (R.faults keeper.old) (R.faults keeper.new) result }
+    ensures reads { (r : Repository) → R.content keeper.new ≡ Some r → R.reads keeper.new ≤ R.reads keeper.old + 9
+        + walk_visits (readings_of r) target.now }
 {
     match own_state(alloc, keeper, target)? {
         State::Absent => Ok(Some(ObjectId::zeros())),
@@ -173,7 +177,7 @@ fn mend_from(mut way: Way, tree: Option<ObjectId>) -> Mend
 }
 
 /// What mends a violation of a reference at a number, by a judged log and the trees of the store's repository. It reads
-/// the state of the target that is gone back to.
+/// the state of the target that is gone back to: it makes at most nine reads beside one for each tree of its walk.
 pub fn mend_of<R: Keeper>(
     alloc: Global,
     keeper: &mut R,
@@ -186,6 +190,8 @@ pub fn mend_of<R: Keeper>(
         → mend ≡ mend_of (real_rules judged.now.engine.rules.anchor) log name.now r number) }
     ensures same { Undisturbed R.Keeper keeper.old keeper.new }
     ensures cause { HasCause keeper_failed (R.faults keeper.old) (R.faults keeper.new) result }
+    ensures reads { (r : Repository) → R.content keeper.new ≡ Some r → (log : List Taken) → StandsFor log judged.now
+        → R.reads keeper.new ≤ R.reads keeper.old + mend_reads judged.now.engine.rules.anchor log r name.now number }
 {
     let way = way_back(alloc, judged, name, number)?;
     let target = way.from.unwrap_or(ObjectId::zeros());

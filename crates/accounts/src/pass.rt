@@ -1,6 +1,6 @@
 //! Judging a log in one pass, and keeping what is known of each entry.
 
-ghost use Rattle.std.specs.Prelude.{◌≡◌, ◌≤◌, ◌+◌, ◌++◌, ◌∷◌, [], List, Some, true, false};
+ghost use Rattle.std.specs.Prelude.{◌≡◌, ◌≤◌, ◌+◌, ◌-◌, ◌++◌, ◌∷◌, [], ℕ, List, Some, take, true, false};
 ghost use Rattle.std.specs.Prelude.{IfErr, IfOk, OnOk};
 ghost use Rattle.std.specs.List.{AllByRecursion};
 ghost use Rattle.octets.specs.Causes.{HasCause};
@@ -17,10 +17,13 @@ ghost use Rattle.verify_ref.specs.Following.{Follows};
 ghost use Rattle.verify_ref.specs.Logs.{AreEntries, IsAstray};
 ghost use Rattle.verify_ref.specs.Reading.{AreBounded, ReadsVerdict, extending_reads, judging_reads};
 ghost use Rattle.verify_ref.specs.Verdicts.{IsRefusal};
+ghost use Rattle.accounts.specs.Fronts.{IsJudgedBefore, ReadsBefore};
 ghost use Rattle.accounts.specs.Judging.{IsJudgedLog, IsOwn, JudgesNext, StandsFor};
 
 use crate::JudgedLog;
-use crate::rows::{from_of, is_signed, next_attested, next_epoch, opens, prior_of};
+use crate::rows::{
+    from_of, is_there, next_attested, next_epoch, opens, prior_of, signer_in, told_persons,
+};
 use account_lines::EntryRow;
 use by_whom::{ByWhom, open_to};
 use entry_rules::Fault;
@@ -62,7 +65,8 @@ fn judge_entry<R: Keeper>(
     let prior = prior_of(&judged.engine, entry);
     let from = from_of(&judged.engine, entry);
     let numbers = open_to(alloc, judged.engine.entries(), entry)?;
-    let signed = is_signed(judged.engine.policy(), entry);
+    let signer = signer_in(judged.engine.policy(), entry);
+    let signed = is_there(&signer);
     let epoch = judged.epoch;
     let verdict = match judged.engine.extend(alloc, keeper, entry) {
         Ok(verdict) => verdict,
@@ -71,6 +75,7 @@ fn judge_entry<R: Keeper>(
     };
     judged.epoch = next_epoch(epoch, opens(entry, &verdict), entry.number);
     let signers = judged.engine.signers().copy()?;
+    let persons = told_persons(alloc, judged.engine.policy(), entry, &signer, &signers)?;
     judged
         .later
         .take(judged.engine.entries(), entry, numbers.as_slice())?;
@@ -83,6 +88,7 @@ fn judge_entry<R: Keeper>(
         from,
         signed,
         signers,
+        persons,
         verdict,
     })?;
     Ok(())
@@ -134,7 +140,7 @@ fn take_all<R: Keeper>(
     ensures stands { OnOk result ((r : Repository) → R.content keeper.new ≡ Some r → (log : List Taken)
         × AreEntries r ids.now log × AllByRecursion (IsOwn r) log × StandsFor log judged.new) }
     ensures unbroken { IfErr result (λ fault. (r : Repository) → R.content keeper.new ≡ Some r
-        → IsLogOf r ids.now → IsUnbroken fault) }
+        → (rest : List (List ℕ)) → IsLogOf r (ids.now ++ rest) → IsUnbroken fault) }
     ensures rules { judged.new.engine.rules ≡ judged.old.engine.rules }
     ensures same { Undisturbed R.Keeper keeper.old keeper.new }
     ensures cause { HasCause log_failed (R.faults keeper.old) (R.faults keeper.new) result }
@@ -149,6 +155,22 @@ fn take_all<R: Keeper>(
         }
     }
     Ok(())
+}
+
+// A log of no entry.
+fn unjudged(alloc: Global, anchor: Option<KeyIds>) -> JudgedLog
+    ensures none { StandsFor [] result }
+    ensures anchor { result.engine.rules.anchor ≡ anchor }
+    ensures known { (r : Repository) → AreKnownIn r result.engine.known }
+{
+    JudgedLog {
+        engine: Engine::new(alloc, anchor),
+        epoch: None,
+        attested: None,
+        names: LogNames::new(alloc),
+        rows: Items::new(alloc),
+        later: ByWhom::new::<Policy, Fault>(alloc),
+    }
 }
 
 /// The log of the store's repository, each entry judged in it, under the policy in force at its number. Where ids are
@@ -170,15 +192,51 @@ pub fn judge_log<R: Keeper>(
         → ReadsVerdict anchor r (R.reads keeper.old) (R.reads keeper.new)) }
 {
     let log = Log::load(alloc, keeper)?;
-    let mut judged = JudgedLog {
-        engine: Engine::new(alloc, anchor),
-        epoch: None,
-        attested: None,
-        names: LogNames::new(alloc),
-        rows: Items::new(alloc),
-        later: ByWhom::new::<Policy, Fault>(alloc),
-    };
+    let mut judged = unjudged(alloc, anchor);
     match take_all(alloc, keeper, &mut judged, log.ids.as_slice()) {
+        Ok(()) => Ok(judged),
+        Err(fault) => Err(fault),
+    }
+}
+
+// How many numbers from 1 on are below a number.
+fn below(number: u64) -> u64
+    ensures { result ≡ number - 1 }
+{
+    if number == 0 { 0 } else { number - 1 }
+}
+
+// So many of the ids, or all where there are fewer.
+fn front_of(ids: &[ObjectId], count: u64) -> &[ObjectId]
+    ensures { result.now ≡ take count ids.now }
+{
+    let (front, _) = ids.split_at(ids.len().min(count as usize));
+    front
+}
+
+/// The entries of the store's log before a number, or all where there are fewer, judged as `judge_log` judges the
+/// whole: the policy in force behind them is that under which the entry of this number is judged. `Broken` comes
+/// exactly where the whole log is no chain. It reads the whole log once to find it, and those entries once more, and of
+/// the trees and files what judges them.
+pub fn judge_before<R: Keeper>(
+    alloc: Global,
+    keeper: &mut R,
+    anchor: Option<KeyIds>,
+    number: u64,
+) -> Result<JudgedLog, LogFault>
+    ensures judged { IfOk result (λ judged. (r : Repository) → R.content keeper.new ≡ Some r
+        → IsJudgedBefore anchor r number judged) }
+    ensures broken { IfErr result (λ fault. (r : Repository) → R.content keeper.new ≡ Some r
+        → IsRefusal r fault) }
+    ensures same { Undisturbed R.Keeper keeper.old keeper.new }
+    ensures cause { HasCause log_failed (R.faults keeper.old) (R.faults keeper.new) result }
+    ensures reads { OnOk result ((r : Repository) → R.content keeper.new ≡ Some r
+        → ReadsBefore anchor r number (R.reads keeper.old) (R.reads keeper.new)) }
+{
+    let log = Log::load(alloc, keeper)?;
+    let mut judged = unjudged(alloc, anchor);
+    let front = front_of(log.ids.as_slice(), below(number));
+    match take_all(alloc, keeper, &mut judged, front) {
         Ok(()) => Ok(judged),
         Err(fault) => Err(fault),
     }

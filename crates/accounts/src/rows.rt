@@ -1,19 +1,23 @@
 //! What an engine knows of the next entry before it takes it.
 
-ghost use Rattle.std.specs.Prelude.{◌≡◌, ◌&&◌, List, Some, cond};
+ghost use Rattle.std.specs.Prelude.{◌≡◌, ◌&&◌, List, Some, cond, is_some, IfOk};
 ghost use Rattle.std.specs.Option.{option_copied};
 ghost use Rattle.rsl_chain.specs.Entries.{Taken, is_of};
 ghost use Rattle.git_object.specs.References.{policy_name};
 ghost use Rattle.entry_rules.specs.RealRules.{real_rules};
 ghost use Rattle.verify_ref.specs.Following.{Follows};
-ghost use Rattle.accounts.specs.Rows.{from_of, is_signed, prior_of};
+ghost use Rattle.signing_persons.specs.Persons.{persons_of};
+ghost use Rattle.accounts.specs.Rows.{counted_by, from_of, prior_of, signer_in};
 ghost use Rattle.accounts.specs.Steps.{attested_then, is_authorised};
 
 use entry_rules::{Fault, signer_among};
-use git_object::ObjectId;
-use judging::EntryVerdict;
+use git_object::{KeyId, ObjectId};
+use judging::{EntryVerdict, KeyIds};
+use octets::{Items, Memory, Octets};
 use policy_epochs::Policy;
 use rsl_chain::{Entry, EntryBody};
+use signing_persons::persons_of;
+use std::alloc::Global;
 use verify_ref::Engine;
 
 /// The number of the last entry of the next entry's reference that is not skipped.
@@ -46,14 +50,62 @@ pub(crate) fn from_of(engine: &Engine, entry: &Entry) -> Option<ObjectId>
     }
 }
 
-/// Whether a key of the policy signed an entry.
-pub(crate) fn is_signed(policy: Option<&Policy>, entry: &Entry) -> bool
-    ensures { result ≡ is_signed (option_copied policy.entry) entry.now }
+/// The key that an entry names, where it is one of the policy and the signature is good by it.
+pub(crate) fn signer_in(policy: Option<&Policy>, entry: &Entry) -> Option<KeyId>
+    ensures { result ≡ signer_in (option_copied policy.entry) entry.now }
 {
     match policy {
-        Some(policy) => signer_among(&policy.keys, entry).is_some(),
-        None => false,
+        Some(policy) => signer_among(&policy.keys, entry),
+        None => None,
     }
+}
+
+/// Whether an entry has a signer.
+pub(crate) fn is_there(signer: &Option<KeyId>) -> bool
+    ensures { result ≡ is_some signer.now }
+{
+    signer.is_some()
+}
+
+// The keys whose persons are told of an entry.
+fn counted_by(
+    alloc: Global,
+    entry: &Entry,
+    signer: &Option<KeyId>,
+    signers: &KeyIds,
+) -> Result<KeyIds, Memory>
+    ensures { IfOk result (λ keys. keys ≡ counted_by entry.now.body signer.now signers.now) }
+{
+    match &entry.body {
+        EntryBody::Reference { name: _, target: _ } => signers.copy(),
+        EntryBody::Annotation {
+            ids: _,
+            skip: _,
+            message: _,
+        } => {
+            let mut keys = Items::new(alloc);
+            if let Some(signer) = signer {
+                keys.push(*signer)?;
+            }
+            Ok(keys)
+        }
+    }
+}
+
+/// The names of the persons of the policy in force who signed or approved an entry, or of an annotation the one who
+/// signed it.
+pub(crate) fn told_persons(
+    alloc: Global,
+    policy: Option<&Policy>,
+    entry: &Entry,
+    signer: &Option<KeyId>,
+    signers: &KeyIds,
+) -> Result<Items<Octets>, Memory>
+    ensures { IfOk result (λ names. names
+        ≡ persons_of (option_copied policy.entry) (counted_by entry.now.body signer.now signers.now)) }
+{
+    let keys = counted_by(alloc, entry, signer, signers)?;
+    persons_of(alloc, policy, keys.as_slice())
 }
 
 fn is_authorised(verdict: &EntryVerdict<Fault>) -> bool

@@ -23,6 +23,7 @@ use keeper_api::{Keeper, KeeperFault};
 use octets::{Copied, Items, Memory, Octets};
 use root_metadata::KeyIds;
 use rsl_chain::{Entry, EntryBody};
+use signing_persons::persons_of;
 use std::alloc::Global;
 use would_be::{Proposed, Stood, Would, would};
 
@@ -84,6 +85,7 @@ fn would_line(
         from: judged.engine.prior_target(&proposed.name),
         signed: false,
         signers: found.signers.copy()?,
+        persons: persons_of(alloc, judged.engine.policy(), found.signers.as_slice())?,
         verdict: answer_of(&found.faults)?,
     };
     let later = Later {
@@ -105,9 +107,9 @@ fn stood_of(judged: &JudgedLog, name: &RefName) -> Stood
     }
 }
 
-/// What would be found of an entry behind a judged log, if these keys signed it now, with the approvals that stand, and the
-/// line of JSON that tells the entry so, as one that nobody signed yet: where the store still holds the repository that was
-/// judged, what the rules give. The ids are those that the log was judged with, if it was with any.
+/// What would be found of an entry behind a judged log, if these keys signed it now, with the approvals that stand, and
+/// the line of JSON that tells the entry so, as one that nobody signed yet: where the store still holds the repository
+/// that was judged, what the rules give. The ids are those that the log was judged with, if it was with any.
 pub fn tell_would<R: Keeper>(
     alloc: Global,
     keeper: &mut R,

@@ -22,7 +22,8 @@ IsDescentOf most parents (At commit root) (At from tree) descent = IsDescent mos
 -- of two targets in a repository
 abbrev pub IsDescentIn : ℕ → Repository → List ℕ → List ℕ → Descent → Type 0
 IsDescentIn most r target from descent =
-    IsDescentOf most (commit_parents r) (root_of (readings_of r).heads target) (root_of (readings_of r).heads from) descent
+    let peeled = root_of (readings_of r).heads in
+    IsDescentOf most (commit_parents r) (peeled target) (peeled from) descent
 
 -- both were peeled, and at most the ancestors of the first one's commit were walked
 abbrev pub AreReadsOf : ℕ → Parents → Peeled → ℕ → ℕ → Type 0
@@ -31,4 +32,5 @@ AreReadsOf most parents (Bad id) before now = now ≤ before + 18
 AreReadsOf most parents (At commit tree) before now = IsWalked most parents commit (before + 18) now
 
 abbrev pub AreReadsIn : ℕ → Repository → List ℕ → ℕ → ℕ → Type 0
-AreReadsIn most r target before now = AreReadsOf most (commit_parents r) (root_of (readings_of r).heads target) before now
+AreReadsIn most r target before now =
+    AreReadsOf most (commit_parents r) (root_of (readings_of r).heads target) before now

@@ -28,13 +28,14 @@ pub fn closed()
         → met parents root (more + n) ≡ met parents root n }
 {}
 
-/// The order of ancestors has each commit that is reached from the first by parents, and no other; and no id is met twice.
+/// The order of ancestors has each commit that is reached from the first by parents, and no other; and no id is met
+/// twice.
 pub fn reached()
     ensures { (parents : Parents) (root : List ℕ) → IsOrderOfReached parents root }
 {}
 
-/// What the definitions call the parents at an id are those that the commit of this id names, and none where there is no
-/// such commit.
+/// What the definitions call the parents at an id are those that the commit of this id names, and none where there is
+/// no such commit.
 pub fn parents()
     ensures { (r : Repository) (id : List ℕ) → AreParentsAt r id (commit_parents r id) }
 {}

@@ -16,8 +16,8 @@ use tree_paths::{Peeled, root_of};
 
 /// Whether the commit to which a target is peeled has the commit of another, `from`, among its first `most` ancestors.
 /// Each target descends from zeros, where nothing stands; else zeros descends from none, nor does what is peeled to no
-/// commit, nor anything from that. Each id that is met is read once, behind at most 18 reads for both targets; what leads
-/// to no commit is passed over.
+/// commit, nor anything from that. Each id that is met is read once, behind at most 18 reads for both targets; what
+/// leads to no commit is passed over.
 pub fn descends<R: Keeper>(
     alloc: Global,
     keeper: &mut R,

@@ -126,8 +126,8 @@ pub fn attest_at(
 /// target is peeled to, if there is one; the one reference change sets `refs/gittuf/attestations` to it. All else in
 /// the tree stays. `Unreadable` names the first object on the way to the approval's place that is no commit, tag or
 /// tree where one is wanted, that is no directory, or is one in the approval's place, or the old tree that would grow
-/// past 16 MiB. It makes at most 27 reads. It asks for an approval of at most 1 MiB as it is written, which `is_approval`
-/// tells, and for an author of at most 1 MiB.
+/// past 16 MiB. It makes at most 27 reads. It asks for an approval of at most 1 MiB as it is written, which
+/// `is_approval` tells, and for an author of at most 1 MiB.
 pub fn attest<R: Keeper>(
     alloc: Global,
     keeper: &mut R,

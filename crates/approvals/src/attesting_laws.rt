@@ -25,13 +25,14 @@ pub fn repositories()
     ensures { (before after : Repository) → AreHeld before after }
 {}
 
-/// What is attested is found: after the change, none of whose objects clashes with one that is kept or with one another,
-/// the approvers of the new commit are the signers of the envelope that was put.
+/// What is attested is found: after the change, none of whose objects clashes with one that is kept or with one
+/// another, the approvers of the new commit are the signers of the envelope that was put.
 pub fn approvers_found()
     ensures { (r : Repository) → IsFoundAgain r }
 {}
 
-/// And each path of the attestations but the approval's leads from the new commit to what it led to from the old target.
+/// And each path of the attestations but the approval's leads from the new commit to what it led to from the old
+/// target.
 pub fn approvals_stay()
     ensures { (r : Repository) → StaysElsewhere r }
 {}

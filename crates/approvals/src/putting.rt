@@ -139,10 +139,10 @@ fn put_last(
     Ok(placed)
 }
 
-/// Puts a file at a path whose directories were read: makes the new trees on the way, each the old one with one entry put
-/// in its place, adds them to the objects, those below first, and answers the id of the root's, or the first object that is
-/// in the way. After that, or after a refusal, some of the trees may have been added. It is as many calls deep as the path
-/// has names.
+/// Puts a file at a path whose directories were read: makes the new trees on the way, each the old one with one entry
+/// put in its place, adds them to the objects, those below first, and answers the id of the root's, or the first object
+/// that is in the way. After that, or after a refusal, some of the trees may have been added. It is as many calls deep
+/// as the path has names.
 pub fn put_levels(
     alloc: Global,
     levels: &[Level],

@@ -159,9 +159,9 @@ fn site_of<R: Keeper>(
 
 /// Reads where an approval for a reference, the target that it goes from and the tree that it goes to is put among the
 /// attestations, whose reference stands at a target or is not there (zeros are nothing): whatever approval is put there
-/// afterwards, nothing more is read. It makes at most 27 reads. `Unreadable` names the first object on the way to the approval's place that is no
-/// commit, tag or tree where one is wanted, that is no directory, or is one in the approval's place, or the old tree that
-/// would grow past 16 MiB.
+/// afterwards, nothing more is read. It makes at most 27 reads. `Unreadable` names the first object on the way to the
+/// approval's place that is no commit, tag or tree where one is wanted, that is no directory, or is one in the
+/// approval's place, or the old tree that would grow past 16 MiB.
 pub fn find_site<R: Keeper>(
     alloc: Global,
     keeper: &mut R,

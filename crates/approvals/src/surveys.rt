@@ -49,9 +49,9 @@ fn load_old<R: Keeper>(
     }
 }
 
-/// Reads the directories on the way to a file from an old tree, and adds them to the levels; or answers the first object
-/// on the way that is no tree or no directory. It reads at most one tree for each name of the path, and is as many calls
-/// deep as the path has names.
+/// Reads the directories on the way to a file from an old tree, and adds them to the levels; or answers the first
+/// object on the way that is no tree or no directory. It reads at most one tree for each name of the path, and is as
+/// many calls deep as the path has names.
 pub fn survey<R: Keeper>(
     alloc: Global,
     keeper: &mut R,

@@ -5,8 +5,8 @@ use lms_keys::LmsType;
 
 /// What is done, and so what is made: the SHA-256 of 55 bytes, a one-time public key, the one-time public keys of eight
 /// leaves, an LMS key, its root by one hash after another, a signature with each leaf in turn, or a verdict on one, and
-/// the last two by one hash after another; or a signature of two levels, each below another leaf of the top key than the
-/// one before.
+/// the last two by one hash after another; or a signature of two levels, each below another leaf of the top key than
+/// the one before.
 #[derive(Debug, Clone, Copy)]
 pub(crate) enum Work {
     Hash,

@@ -3,8 +3,8 @@
 //!
 //! The words are `value` or `rules` and a number of times, with a text on standard input; or `search` or `patterns`, a
 //! number of times and a path, with rule files on standard input, a line each, of which the first is the top file. The
-//! input has at most 4 MiB. It prints what the last time found: the length of the text that is a value, how many rules and
-//! keys the file has, or how many rules the path reaches or patterns match it.
+//! input has at most 4 MiB. It prints what the last time found: the length of the text that is a value, how many rules
+//! and keys the file has, or how many rules the path reaches or patterns match it.
 
 use crate::searching::{match_often, rules_of, search_often};
 use edge_io::{StdSource, read_all};

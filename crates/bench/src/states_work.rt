@@ -2,9 +2,9 @@
 //!
 //! The words are a store, a number of times and the id of a commit, and where the commit is to be compared with an
 //! earlier one, the id of that. With the word `known` behind them, the trees of the earlier one are learned before each
-//! comparison, so that all but the first find them known. A store `-` is the stream on standard input, taken into memory,
-//! and any other a kept folder. It prints what the last time found: how many paths and trees the commit has, or how many
-//! paths changed.
+//! comparison, so that all but the first find them known. A store `-` is the stream on standard input, taken into
+//! memory, and any other a kept folder. It prints what the last time found: how many paths and trees the commit has, or
+//! how many paths changed.
 
 ghost use Rattle.std.specs.Prelude.{◌≡◌, Some};
 ghost use Rattle.git_object.specs.Repository.{Repository};

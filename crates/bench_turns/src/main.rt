@@ -1,5 +1,5 @@
-//! Takes a turn and gives it back a number of times, in one thread or in several side by side, for `tools/bench desk` to
-//! time beside a lock of the standard library.
+//! Takes a turn and gives it back a number of times, in one thread or in several side by side, for `tools/bench desk`
+//! to time beside a lock of the standard library.
 //!
 //! What it promises, and where to begin: `README.md` in this crate's folder.
 

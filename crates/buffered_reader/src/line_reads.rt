@@ -34,10 +34,9 @@ impl From<Failed> for LineFault {
 impl BufferedReader {
     ghost use Rattle.buffered_reader.specs.Ahead.{ahead, past};
 
-    /// Takes a line and its line feed. `Long` comes exactly where 400 bytes stand ahead without a line feed, and
-    /// then these were taken; `Cut` exactly where fewer do, and then all of them were taken. `Failed` comes exactly where the
-    /// source counted a fault, and then the front of a line was taken, and nothing is buffered. It takes no
-    /// memory.
+    /// Takes a line and its line feed. `Long` comes exactly where 400 bytes stand ahead without a line feed, and then
+    /// these were taken; `Cut` exactly where fewer do, and then all of them were taken. `Failed` comes exactly where
+    /// the source counted a fault, and then the front of a line was taken, and nothing is buffered. It takes no memory.
     pub fn line<S: Source>(&mut self, source: &mut S) -> Result<Line, LineFault>
         ensures is_line { IfOk result IsLine }
         ensures ahead { IfOk result (λ line. ahead self.old (S.left source.old) ≡ with_front (line ++ 10 ∷ [])

@@ -1,6 +1,7 @@
 //! The reader, and the calls that touch its buffer.
 
-ghost use Rattle.std.specs.Prelude.{◌≡◌, ◌≢◌, ◌≤◌, ◌<◌, ◌+◌, ◌-◌, ◌⊎◌, ◌↔◌, ◌++◌, ◌∷◌, [], ℕ, List, Option, length};
+ghost use Rattle.std.specs.Prelude.{◌≡◌, ◌≢◌, ◌≤◌, ◌<◌, ◌+◌, ◌-◌, ◌⊎◌, ◌↔◌};
+ghost use Rattle.std.specs.Prelude.{◌++◌, ◌∷◌, [], ℕ, List, Option, length};
 ghost use Rattle.std.specs.Prelude.{take, drop, min, IfOk, IfSome, IfNone, IsTrue, OnErr, false};
 ghost use Rattle.octets.specs.Causes.{HasCause, each};
 ghost use Rattle.octets.specs.Content.{with_front};

@@ -9,7 +9,8 @@ use Rattle.command_words.specs.Grammars.{Takes, bare_app}
 use Rattle.command_words.specs.declared.commands.Command.{Command}
 use Rattle.command_words.specs.declared.commands.Command.TheVariants.{VerifyRef, Export, Import, KeyGen, Log, Record}
 use Rattle.command_words.specs.declared.commands.Command.TheVariants.{Seal, Snapshot, PolicyApply, Explain, Annotate}
-use Rattle.command_words.specs.declared.commands.Command.TheVariants.{Approve, Demo, Mirror, EvidenceMake, EvidenceCheck}
+use Rattle.command_words.specs.declared.commands.Command.TheVariants.{Approve, Demo, Mirror}
+use Rattle.command_words.specs.declared.commands.Command.TheVariants.{EvidenceMake, EvidenceCheck}
 use Rattle.command_words.specs.declared.commands.CommandName.{CommandName}
 use Rattle.command_words.specs.declared.commands.CommandName.TheVariants as name
 use Rattle.command_words.specs.declared.commands.Height.{Height}

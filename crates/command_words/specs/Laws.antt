@@ -12,7 +12,8 @@ use Rattle.command_words.specs.FirstWords.{IsCommand}
 use Rattle.command_words.specs.declared.commands.Command.{Command}
 use Rattle.command_words.specs.declared.commands.Command.TheVariants.{VerifyRef, Export, Import, KeyGen, Log, Record}
 use Rattle.command_words.specs.declared.commands.Command.TheVariants.{Seal, Snapshot, PolicyApply, Explain, Annotate}
-use Rattle.command_words.specs.declared.commands.Command.TheVariants.{Approve, Demo, Mirror, EvidenceMake, EvidenceCheck}
+use Rattle.command_words.specs.declared.commands.Command.TheVariants.{Approve, Demo, Mirror}
+use Rattle.command_words.specs.declared.commands.Command.TheVariants.{EvidenceMake, EvidenceCheck}
 use Rattle.command_words.specs.declared.commands.Height.{Height}
 use Rattle.command_words.specs.declared.commands.Width.{Width}
 

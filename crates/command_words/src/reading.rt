@@ -69,8 +69,8 @@ fn read_rest(alloc: Global, first: CommandName, words: &[String]) -> Result<Comm
 }
 
 /// The command that words ask for, whose values are within their limits, and whose reference is not the log's own.
-/// `Outside` comes exactly where they ask for none, want of memory aside; want of memory comes only where the first word
-/// is the name of a command.
+/// `Outside` comes exactly where they ask for none, want of memory aside; want of memory comes only where the first
+/// word is the name of a command.
 pub fn read_command(alloc: Global, words: &[String]) -> Result<Command, WordsFault>
     ensures found { IfOk result (IsCommand (map string_bytes words.now)) }
     ensures within { IfOk result IsWithinLimits }

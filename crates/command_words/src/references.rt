@@ -57,8 +57,8 @@ fn take_reference<'a>(
     take_words(command, words)
 }
 
-/// The reference that the words after the name of such a command name. `Outside` comes exactly where they name none, want
-/// of memory aside.
+/// The reference that the words after the name of such a command name. `Outside` comes exactly where they name none,
+/// want of memory aside.
 pub(crate) fn read_reference(
     alloc: Global,
     command: &str,

@@ -7,8 +7,8 @@ ghost use Rattle.command_words.specs.Spaced.{IsSpaced};
 use ref_patterns::Space;
 use text_reader::strip_front;
 
-/// The space whose prefix stands in front, and what stands after it, which may be nothing; None where no prefix does. It
-/// takes no memory.
+/// The space whose prefix stands in front, and what stands after it, which may be nothing; None where no prefix does.
+/// It takes no memory.
 pub fn split_space(text: &[u8]) -> Option<(Space, &[u8])>
     ensures found { IfSome result (λ found. IsSpaced text.now found.0 found.1.now) }
     ensures none { IfNone result ((space : Space) (rest : List ℕ) → IsSpaced text.now space rest → ⊥) }

@@ -54,12 +54,12 @@ fn tell_refusal<K: Sink>(why: NotApproved, line: Vec<u8>, sink: &mut K) -> Appro
 }
 
 /// Adds the key's signature to the approval of a reference, from where it stands behind the log to the tree of a target
-/// (zeros are nothing), keeps it among the attestations, whose reference then stands at a new commit, and prints its line. The
-/// signature stands in place of the key's old one, or else last; all other files of the attestations stay. It reads the key
-/// file, then the log, then the target, the policies, and the approval under the attestations' value, asks the clock, signs
-/// with the first unused leaf, commits once and prints; the first refusal decides. The memory for the line is taken before
-/// anything is read. Each entry of the log is read twice and judged; the target's state, the approval and its place are read
-/// once.
+/// (zeros are nothing), keeps it among the attestations, whose reference then stands at a new commit, and prints its
+/// line. The signature stands in place of the key's old one, or else last; all other files of the attestations stay. It
+/// reads the key file, then the log, then the target, the policies, and the approval under the attestations' value,
+/// asks the clock, signs with the first unused leaf, commits once and prints; the first refusal decides. The memory for
+/// the line is taken before anything is read. Each entry of the log is read twice and judged; the target's state, the
+/// approval and its place are read once.
 pub fn approve<K: Sink, R: Keeper, D: Disk, C: Clock>(
     alloc: Global,
     name: &RefName,

@@ -32,8 +32,8 @@ use std::alloc::Global;
 // The type of the envelopes of approvals.
 const PAYLOAD_TYPE: &str = "application/vnd.gittuf+json";
 
-/// An approval that can be signed: from where it goes and to which tree, its envelope, the id of the key that is to sign it
-/// as text, and its place among the attestations.
+/// An approval that can be signed: from where it goes and to which tree, its envelope, the id of the key that is to
+/// sign it as text, and its place among the attestations.
 #[derive(Drop)]
 pub struct Prepared {
     pub ends: Ends,
@@ -254,9 +254,9 @@ fn prepare_between<R: Keeper>(
     }
 }
 
-/// Reads the approval of a reference from where it stands behind an open log to the tree of a target, as it is kept under
-/// the attestations' value, and its place there; the first refusal decides. An approval that is not there, or is malformed,
-/// is one without signatures.
+/// Reads the approval of a reference from where it stands behind an open log to the tree of a target, as it is kept
+/// under the attestations' value, and its place there; the first refusal decides. An approval that is not there, or is
+/// malformed, is one without signatures.
 pub fn prepare<R: Keeper>(
     alloc: Global,
     name: &RefName,

@@ -133,9 +133,9 @@ fn keep_prepared<R: Keeper, D: Disk>(
     }
 }
 
-/// Asks the clock, signs an approval that was prepared with the first unused leaf of the key file, and commits the change
-/// that keeps it among the attestations, whose reference then stands at its commit. Disk and store have to be as they were
-/// when the approval was prepared.
+/// Asks the clock, signs an approval that was prepared with the first unused leaf of the key file, and commits the
+/// change that keeps it among the attestations, whose reference then stands at its commit. Disk and store have to be as
+/// they were when the approval was prepared.
 ///
 /// `ClockFailed` comes before anything else, then `Exhausted` exactly where each leaf is used.
 pub fn store_approval<R: Keeper, D: Disk, C: Clock>(

@@ -10,8 +10,8 @@ use endings::Ending;
 use std::alloc::Global;
 use worlds::{Kinds, Lent, Objects, Of};
 
-/// Loads the log of the store, and prints how many entries a desk over it begins with, or the line that names where the log
-/// breaks. The store is as before.
+/// Loads the log of the store, and prints how many entries a desk over it begins with, or the line that names where the
+/// log breaks. The store is as before.
 pub fn serve<W: Objects>(alloc: Global, outside: &mut Lent<W>) -> Ending
     ensures runs { ServeRuns ⟦<Of<W> as Objects>⟧.ways (world_of outside.old) (world_of outside.new) result }
     ensures unsaid { outside.new.faults_out ≡ outside.old.faults_out }

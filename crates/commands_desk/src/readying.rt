@@ -93,8 +93,9 @@ fn tell<K: Sink>(alloc: Global, sink: &mut K, count: usize) -> Result<usize, Ser
     }
 }
 
-/// Loads the log of the store, prints the line that says that a desk with its entries is ready, and answers how many there
-/// are. `LogBroken` comes exactly where the log breaks, and the line that names the break was printed. The store is as before.
+/// Loads the log of the store, prints the line that says that a desk with its entries is ready, and answers how many
+/// there are. `LogBroken` comes exactly where the log breaks, and the line that names the break was printed. The store
+/// is as before.
 pub fn serve<K: Sink, R: Keeper>(
     alloc: Global,
     sink: &mut K,

@@ -36,8 +36,8 @@ fn append_digits(line: &mut Vec<u8>, public: &[u8])
     append(line, shown);
 }
 
-/// Writes the line that tells a key into an empty buffer with room for it: `key `, the key's id, a space, and the bytes of
-/// its public key, 56 or 60, both as lower-case hexadecimal digits, and a line feed.
+/// Writes the line that tells a key into an empty buffer with room for it: `key `, the key's id, a space, and the bytes
+/// of its public key, 56 or 60, both as lower-case hexadecimal digits, and a line feed.
 pub fn write_key_line(public: &[u8], line: &mut Vec<u8>)
     requires short { length public.now ≤ 60 }
     requires empty { line.old.items ≡ [] }

@@ -147,8 +147,8 @@ fn make<D: Disk>(
 
 /// Makes the key of these types, from an identifier and a seed that are drawn in this order, on a disk that holds
 /// nothing, and prints its id and its public key. With `bottom` the key has two levels, and that is the type of the
-/// trees below. `NotEmpty` comes exactly where the disk holds something, which it keeps, also where it fails. The memory
-/// for the line is taken before anything is drawn, and 48 bytes are drawn at most.
+/// trees below. `NotEmpty` comes exactly where the disk holds something, which it keeps, also where it fails. The
+/// memory for the line is taken before anything is drawn, and 48 bytes are drawn at most.
 pub fn key_gen<K: Sink, D: Disk, E: Entropy>(
     alloc: Global,
     lms: LmsType,

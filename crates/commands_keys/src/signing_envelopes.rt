@@ -84,8 +84,9 @@ fn sign_with<D: Disk>(
 }
 
 /// Opens the key file that a disk holds, signs an envelope with its first unused leaf, and gives the text of the
-/// envelope with the signature in place of the first whose `keyid` is the key's id in lower-case hexadecimal, or else at
-/// the end, and a line feed. A file that is none is refused before an envelope that is full, and that before a key that is used up.
+/// envelope with the signature in place of the first whose `keyid` is the key's id in lower-case hexadecimal, or else
+/// at the end, and a line feed. A file that is none is refused before an envelope that is full, and that before a key
+/// that is used up.
 pub fn sign_envelope<D: Disk>(
     alloc: Global,
     envelope: Envelope,

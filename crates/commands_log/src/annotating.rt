@@ -65,8 +65,8 @@ fn append_note<R: Keeper, D: Disk, C: Clock>(
 }
 
 /// Adds an entry to the log that annotates those of 1 to 256 ids, which may be any, and prints its line: that they are
-/// skipped, or just spoken of. It takes the memory for line and entry, reads the key file, then the log, asks the clock,
-/// signs with the first unused leaf, commits once and prints; the first refusal decides.
+/// skipped, or just spoken of. It takes the memory for line and entry, reads the key file, then the log, asks the
+/// clock, signs with the first unused leaf, commits once and prints; the first refusal decides.
 pub fn annotate<K: Sink, R: Keeper, D: Disk, C: Clock>(
     alloc: Global,
     ids: &Ids,

@@ -101,8 +101,8 @@ fn dossier_text(
     dossier.write(alloc)
 }
 
-/// Prints the dossier of a key of 56 bytes or of 60 and of the bodies of two objects of the store. The first of them that
-/// is not there is named.
+/// Prints the dossier of a key of 56 bytes or of 60 and of the bodies of two objects of the store. The first of them
+/// that is not there is named.
 pub fn evidence_make<K: Sink, R: Keeper>(
     alloc: Global,
     public: &[u8],

@@ -36,10 +36,11 @@ fn unrecorded(fault: RecordFault) -> ApplyFault
     ApplyFault::Unrecorded { fault }
 }
 
-/// Adds an entry to the log that records the value of the policy's reference, and prints its line, where the entry is an epoch
-/// whatever keys the first root has. It reads the key file, then the log, then the reference and the policies, asks the clock,
-/// signs with the first unused leaf, commits once and prints; the first refusal decides. The memory for the line is taken
-/// before anything is read. Each entry of the log is read twice, and each policy that one brings, and the new one, once.
+/// Adds an entry to the log that records the value of the policy's reference, and prints its line, where the entry is
+/// an epoch whatever keys the first root has. It reads the key file, then the log, then the reference and the policies,
+/// asks the clock, signs with the first unused leaf, commits once and prints; the first refusal decides. The memory for
+/// the line is taken before anything is read. Each entry of the log is read twice, and each policy that one brings, and
+/// the new one, once.
 pub fn policy_apply<K: Sink, R: Keeper, D: Disk, C: Clock>(
     alloc: Global,
     sink: &mut K,

@@ -92,10 +92,10 @@ fn print_text<K: Sink, R: Keeper>(
     Ok(())
 }
 
-/// Prints which rules protect a name under the policy in force after the whole log: a line for each reached rule in pre-order,
-/// `unprotected` where there is none, or `no-policy`. `Broken` comes exactly where the log breaks, and the line that names the
-/// break was printed. After the other refusals a front of the text went out. The store is as before. Each entry of the log is
-/// read twice, and each policy that one brings once.
+/// Prints which rules protect a name under the policy in force after the whole log: a line for each reached rule in
+/// pre-order, `unprotected` where there is none, or `no-policy`. `Broken` comes exactly where the log breaks, and the
+/// line that names the break was printed. After the other refusals a front of the text went out. The store is as
+/// before. Each entry of the log is read twice, and each policy that one brings once.
 pub fn explain<K: Sink, R: Keeper>(
     alloc: Global,
     space: Space,

@@ -16,8 +16,8 @@ ghost use Rattle.commands_snapshot.specs.declared.making.Made.{Made};
 
 use object_making::laws::kept;
 
-/// In a repository that has each of the objects that were made of a listing under its own id, a walk of their root meets
-/// exactly the listing's paths with their modes and blobs, in its order, and each tree on it may be visited.
+/// In a repository that has each of the objects that were made of a listing under its own id, a walk of their root
+/// meets exactly the listing's paths with their modes and blobs, in its order, and each tree on it may be visited.
 pub fn listings_kept()
     ensures { (r : Repository) (readings : Readings) → AreReadings r readings → (rows : List Row) (made : Made)
         → IsMade rows made

@@ -79,8 +79,8 @@ fn take_snapshot<S: Source, R: Keeper, C: Clock>(
 /// Makes a commit of the listing that the source gives, with the commit at which the reference stands as its only
 /// parent, if it is there, sets the reference to it, and prints its line. The new objects are the listing's blobs, the
 /// trees and the commit. The source is read to its end first, then the reference, then the clock is asked, and one
-/// change is committed; the first refusal decides. The memory for the line is taken before anything is read. At most one
-/// object is read, the commit at which the reference stands.
+/// change is committed; the first refusal decides. The memory for the line is taken before anything is read. At most
+/// one object is read, the commit at which the reference stands.
 pub fn snapshot<S: Source, K: Sink, R: Keeper, C: Clock>(
     alloc: Global,
     name: &RefName,

@@ -90,8 +90,8 @@ fn look<S: Source, R: Keeper>(
 
 /// Opens the repository - the source's stream where `stdin` asks for it, else what the store holds -, judges the
 /// reference, and prints the verdict's line, or the line that says at which commit the log breaks. Where no stream is
-/// asked for, the source is not touched. Where ids of keys are given, the first policy must have exactly these. Each entry of
-/// the log is read twice, and beside that what judging it asks for.
+/// asked for, the source is not touched. Where ids of keys are given, the first policy must have exactly these. Each
+/// entry of the log is read twice, and beside that what judging it asks for.
 pub fn verify_ref<S: Source, K: Sink, R: Keeper>(
     alloc: Global,
     name: &RefName,

@@ -21,8 +21,8 @@ pub enum FillFault {
     CommitFailed,
 }
 
-/// Fills a store that holds nothing with a demonstration of so many changes, by one commit. `NotEmpty` comes exactly where it
-/// holds something, before anything is made. It reads no object.
+/// Fills a store that holds nothing with a demonstration of so many changes, by one commit. `NotEmpty` comes exactly
+/// where it holds something, before anything is made. It reads no object.
 pub fn fill<R: Keeper>(alloc: Global, count: u32, keeper: &mut R) -> Result<(), FillFault>
     requires { count ≤ 500 }
     ensures ends { FillEnds count R.Keeper keeper.old keeper.new result }

@@ -208,8 +208,8 @@ fn refs_of(
     Ok(refs)
 }
 
-/// The change that makes the repository of a demonstration of so many changes, 500 at most, of nothing. It takes some seconds
-/// at most, and memory for all the objects.
+/// The change that makes the repository of a demonstration of so many changes, 500 at most, of nothing. It takes some
+/// seconds at most, and memory for all the objects.
 pub fn make_change(alloc: Global, count: u32) -> Result<Change, Memory>
     requires { count ≤ 500 }
     ensures { IfOk result (λ change. change ≡ demo_change count) }

@@ -118,9 +118,9 @@ fn fill_and_judge<R: Keeper>(
     }
 }
 
-/// Makes the repository of a demonstration of so many changes, 1 to 500, in a store that holds nothing, by one commit, judges
-/// its branch by the log, and prints how many changes there are and the verdict's line; or the line that says at which
-/// commit the log breaks. `NotEmpty` comes exactly where the store holds something, and then nothing is changed.
+/// Makes the repository of a demonstration of so many changes, 1 to 500, in a store that holds nothing, by one commit,
+/// judges its branch by the log, and prints how many changes there are and the verdict's line; or the line that says at
+/// which commit the log breaks. `NotEmpty` comes exactly where the store holds something, and then nothing is changed.
 pub fn demo<K: Sink, R: Keeper>(
     alloc: Global,
     count: u32,

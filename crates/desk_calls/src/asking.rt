@@ -14,7 +14,8 @@ use std::alloc::Global;
 use std::sync::Wait;
 
 impl<S: DeskShop + Drop> Desk<S> {
-    /// How many entries there are, and the id of the last, or zeros. `Moved`, `Fault` and `Memory` come where a doubt stays.
+    /// How many entries there are, and the id of the last, or zeros. `Moved`, `Fault` and `Memory` come where a doubt
+    /// stays.
     pub fn tip<W: Wait>(
         &self,
         rt: &W,
@@ -35,8 +36,8 @@ impl<S: DeskShop + Drop> Desk<S> {
         Ok(tip)
     }
 
-    /// What is said of a reference by all entries that the seat then has seen. `Moved` comes where a doubt stays, `Fault` where
-    /// the store failed.
+    /// What is said of a reference by all entries that the seat then has seen. `Moved` comes where a doubt stays,
+    /// `Fault` where the store failed.
     pub fn verdict<W: Wait>(
         &self,
         rt: &W,
@@ -62,8 +63,8 @@ impl<S: DeskShop + Drop> Desk<S> {
         }
     }
 
-    /// The whole repository as one text, by all entries that the seat then has seen. `Moved` comes where a doubt stays, `Fault`
-    /// where the store failed, and else what the shop says of a repository that has no such text.
+    /// The whole repository as one text, by all entries that the seat then has seen. `Moved` comes where a doubt stays,
+    /// `Fault` where the store failed, and else what the shop says of a repository that has no such text.
     #[tactic(auto, using(crate::proofs::Streamed::streamed))]
     pub fn stream<W: Wait>(&self, rt: &W, alloc: Global, seat: &mut Seat) -> Result<Octets, Reply>
         requires idle { IsIdle self.now seat.old }

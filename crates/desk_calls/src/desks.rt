@@ -27,8 +27,8 @@ impl<S: DeskShop> Model for Desk<S> {
 }
 
 impl<S: DeskShop + Drop> Desk<S> {
-    /// A desk with this shop, and its seats, numbered from 1 in order. The shop stands for a history of nobody's entries, as
-    /// one whose state was just loaded.
+    /// A desk with this shop, and its seats, numbered from 1 in order. The shop stands for a history of nobody's
+    /// entries, as one whose state was just loaded.
     pub fn new(alloc: Global, shop: S, seats: u32) -> Result<(Desk<S>, Vec<Seat>), Memory>
         requires seats { 0 < seats }
         requires stands { (history : History) × S.stands shop history × IsAtStart history }

@@ -45,9 +45,9 @@ impl<S: DeskShop + Drop> Desk<S> {
         answer
     }
 
-    /// Answers a push's text. The text is read first, and one that is no push is answered without a turn: `Malformed` and
-    /// `TooLarge` come as of `read_push`. Then a doubt is settled, and where it stays nothing is asked. What else is answered,
-    /// is answered in the turn in which the entry is added.
+    /// Answers a push's text. The text is read first, and one that is no push is answered without a turn: `Malformed`
+    /// and `TooLarge` come as of `read_push`. Then a doubt is settled, and where it stays nothing is asked. What else
+    /// is answered, is answered in the turn in which the entry is added.
     pub fn push<W: Wait>(&self, rt: &W, alloc: Global, seat: &mut Seat, body: &[u8]) -> S::Answer
         requires idle { IsIdle self.now seat.old }
         ensures idle { IsIdle self.now seat.new }

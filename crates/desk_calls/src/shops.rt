@@ -54,11 +54,12 @@ pub trait DeskShop: Chronicle {
     /// What is said of a reference by a history. The shop is the one that said it.
     ghost judges: { Self → History → List ℕ → Self.Judged → Type 0 };
 
-    /// What a text of the repository, or the reply why there is none, says of a history. The shop is the one that gave it.
+    /// What a text of the repository, or the reply why there is none, says of a history. The shop is the one that gave
+    /// it.
     ghost streams: { Self → History → Result (List ℕ) Reply → Type 0 };
 
-    /// Ends a doubt where the log's reference is at the last entry or at the one in doubt, which then is taken in, of nobody.
-    /// `Moved` never comes over a store that tells what it holds.
+    /// Ends a doubt where the log's reference is at the last entry or at the one in doubt, which then is taken in, of
+    /// nobody. `Moved` never comes over a store that tells what it holds.
     fn settle(&mut self, alloc: Global) -> Settled
         ensures stands { (h : History) → Self.stands self.old h
             → StandsSettled Self.stands in_doubt told self.new h result }
@@ -69,8 +70,8 @@ pub trait DeskShop: Chronicle {
         ensures count { (h : History) → Self.stands self.now h → result.0 ≡ count h }
         ensures id { (h : History) → Self.stands self.now h → result.1 ≡ unwrap_or (tip_of (rows h)) zeros };
 
-    /// Answers a push of a seat, and takes it where it is the next entry and nothing else is wrong with it. Where its commit
-    /// fails it is in doubt.
+    /// Answers a push of a seat, and takes it where it is the next entry and nothing else is wrong with it. Where its
+    /// commit fails it is in doubt.
     fn push(&mut self, alloc: Global, seat: u32, push: &Push) -> Self::Answer
         requires clear { in_doubt self.old ≡ false }
         requires spelled { IsSpelled push.now }

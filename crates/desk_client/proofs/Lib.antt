@@ -1,3 +1,4 @@
 pub mod Reading
 pub mod Uniqueness
 pub mod Writing
+mod Stopping

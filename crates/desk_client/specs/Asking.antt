@@ -1,7 +1,8 @@
 -- What was sent to a desk, and what came of it.
 use Rattle.std.specs.Prelude.{◌≡◌, ◌≤◌, ◌⊎◌, ℕ, List, Option, length}
-use Rattle.octets.specs.Content.{with_end, with_front}
+use Rattle.octets.specs.Content.{GainsPart, with_end, with_front}
 use Rattle.edge_io.specs.Read.{IsAtEnd}
+use Rattle.desk_requests.specs.Reading.{HasFront}
 use Rattle.desk_client.specs.Replies.{IsBad, IsReply}
 use Rattle.desk_client.specs.Requests.{request_text}
 use Rattle.desk_client.specs.declared.asking.Answer.{Answer}
@@ -28,3 +29,9 @@ pub record HasAsked (given given_now left left_now : Option (List ℕ)) (push : 
   pub bytes : List ℕ
   pub came : HasCome left left_now bytes
   pub answers : Answers bytes answer
+
+-- there was no answer: a front of the request was sent and nothing read, or all of it, and what came was read in part
+abbrev pub HasStopped : Option (List ℕ) → Option (List ℕ) → Option (List ℕ) → Option (List ℕ) → List ℕ → Type 0
+HasStopped given given_now left left_now push =
+    (GainsPart given given_now (request_text push) × (left_now ≡ left))
+    ⊎ ((given_now ≡ with_end given (request_text push)) × HasFront left left_now)

@@ -1,4 +1,5 @@
--- The head of a reply in front of bytes, in httparse's grammar (RFC 9112, sections 4 and 5), and the length that it says.
+-- The head of a reply in front of bytes, in httparse's grammar (RFC 9112, sections 4 and 5), and the length that it
+-- says.
 use Rattle.std.specs.Prelude.{◌≡◌, ◌≤◌, ◌∷◌, [], ℕ, List, codes, decimal, drop, length, map}
 use Rattle.httparse.specs.Grammar.{ReadsResponse, ResponseHead, print_response}
 use Rattle.httparse.specs.Spans.{IsResponseAt, IsResponseWithin, name_and_value, span_bytes}

@@ -13,7 +13,8 @@ OneReading = (bytes : List ℕ) (a b : ℕ) (body other : List ℕ) → IsReply 
 
 -- no reply is bad, and what is bad is so for one cause alone
 pub record OneCause : Type 0 where
-  pub apart : (bytes : List ℕ) (code : ℕ) (body : List ℕ) (why : BadReply) → IsReply bytes code body → IsBad bytes why → ⊥
+  pub apart : (bytes : List ℕ) (code : ℕ) (body : List ℕ) (why : BadReply) → IsReply bytes code body
+      → IsBad bytes why → ⊥
   pub one : (bytes : List ℕ) (a b : BadReply) → IsBad bytes a → IsBad bytes b → a ≡ b
 
 -- the text of a desk's reply whose body is short enough is read as that reply

@@ -3,7 +3,7 @@
 ghost use Rattle.std.specs.Prelude.{◌≡◌, IfOk, IfSome, OnErr, OnOk, length};
 ghost use Rattle.octets.specs.Causes.{HasCause, each};
 ghost use Rattle.desk_requests.specs.Reading.{HasFront};
-ghost use Rattle.desk_client.specs.Asking.{HasAsked, most_read};
+ghost use Rattle.desk_client.specs.Asking.{HasAsked, HasStopped, most_read};
 
 use crate::receiving::receive;
 use crate::replies::{BadReply, read_reply};
@@ -22,7 +22,8 @@ pub enum Answer<'b> {
 
 /// Asks the desk at a port to take the push of which this is the text: it connects, sends the request, reads to the end
 /// of what comes or as far as the buffer goes, and reads the reply from that. `Failed` comes exactly where the peer
-/// counted a fault. It takes no memory.
+/// counted a fault: a front of the request was given to the peer then and nothing read of it, or all of it, and some of
+/// what came was read. It takes no memory.
 pub fn ask_desk<'b, P: Peer>(
     peer: &mut P,
     port: u16,
@@ -30,9 +31,12 @@ pub fn ask_desk<'b, P: Peer>(
     bytes: &'b mut [u8],
 ) -> Result<Answer<'b>, Failed>
     requires { length bytes.old ≡ most_read }
-    ensures asked { IfOk result (HasAsked (P.given peer.old) (P.given peer.new) (P.left peer.old) (P.left peer.new) push.now) }
+    ensures asked { IfOk result (HasAsked (P.given peer.old) (P.given peer.new) (P.left peer.old) (P.left peer.new)
+        push.now) }
     ensures port { OnOk result (IfSome (P.connected peer.new) (λ at. at ≡ port)) }
     ensures front { OnErr result (HasFront (P.left peer.old) (P.left peer.new)) }
+    ensures stopped { OnErr result (HasStopped (P.given peer.old) (P.given peer.new) (P.left peer.old) (P.left peer.new)
+        push.now) }
     ensures cause { HasCause each (P.faults peer.old) (P.faults peer.new) result }
 {
     peer.connect(port)?;

@@ -102,8 +102,8 @@ fn take_all<R: Keeper>(
     Ok(())
 }
 
-/// The verdict on a reference by the entries of rows, of which an engine took the first, and by its value in the store. The
-/// engine takes the others now.
+/// The verdict on a reference by the entries of rows, of which an engine took the first, and by its value in the store.
+/// The engine takes the others now.
 pub(crate) fn verdict_behind<R: Keeper>(
     alloc: Global,
     keeper: &mut R,

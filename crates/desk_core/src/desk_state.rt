@@ -29,8 +29,8 @@ use rsl_chain::LogFault;
 use std::alloc::Global;
 use verify_ref::{Engine, RefVerdict};
 
-/// A desk's log, and an engine that took some of its entries. Verdicts go by no anchor: the first policy's root role may have
-/// any keys.
+/// A desk's log, and an engine that took some of its entries. Verdicts go by no anchor: the first policy's root role
+/// may have any keys.
 #[derive(Drop)]
 pub struct DeskState {
     log: DeskLog,
@@ -38,7 +38,8 @@ pub struct DeskState {
 }
 
 impl DeskState {
-    /// The state of a store's log. Nobody put its entries there, and none is judged yet. It reads each entry's commit once.
+    /// The state of a store's log. Nobody put its entries there, and none is judged yet. It reads each entry's commit
+    /// once.
     pub fn load<R: Keeper>(alloc: Global, keeper: &mut R) -> Result<DeskState, LogFault>
         ensures loaded { IfOk result (IsUnjudged (R.content keeper.new)) }
         ensures broken { IfErr result (λ fault. (r : Repository) → R.content keeper.new ≡ Some r → IsBrokenAs r fault) }
@@ -94,8 +95,8 @@ impl DeskState {
         self.log.check(alloc, keeper, push)
     }
 
-    /// Answers a push, and takes it where it is the next entry and nothing that it needs is missing. Then there is one commit;
-    /// where it fails the entry is in doubt. No entry is judged.
+    /// Answers a push, and takes it where it is the next entry and nothing that it needs is missing. Then there is one
+    /// commit; where it fails the entry is in doubt. No entry is judged.
     pub fn step<R: Keeper>(
         &mut self,
         alloc: Global,
@@ -112,8 +113,8 @@ impl DeskState {
         self.log.step(alloc, keeper, seat, push)
     }
 
-    /// Ends a doubt where the log's reference is at the tip or at the entry in doubt. It puts the reference there again, so
-    /// that a stop leaves nothing else. Where nothing is in doubt it calls nothing. No entry is judged.
+    /// Ends a doubt where the log's reference is at the tip or at the entry in doubt. It puts the reference there
+    /// again, so that a stop leaves nothing else. Where nothing is in doubt it calls nothing. No entry is judged.
     pub fn settle<R: Keeper>(&mut self, alloc: Global, keeper: &mut R) -> Settled
         ensures settles { Settles R.Keeper keeper.old keeper.new self.old.log self.new.log result }
         ensures engine { self.new.engine ≡ self.old.engine }
@@ -123,11 +124,11 @@ impl DeskState {
         self.log.settle(alloc, keeper)
     }
 
-    /// The verdict on a reference by all entries of the log and by its value in the store. First the engine takes the entries
-    /// that came since, each to be judged in the repository that the store holds; they stay taken after a refusal too, up to
-    /// where it came. `Broken` names the first of them at which no entry stands that comes next. What was learned of trees is
-    /// let go first, since the store may hold others now. Where no target of these entries is broken, it reads what taking them
-    /// costs, and nothing where there are none.
+    /// The verdict on a reference by all entries of the log and by its value in the store. First the engine takes the
+    /// entries that came since, each to be judged in the repository that the store holds; they stay taken after a
+    /// refusal too, up to where it came. `Broken` names the first of them at which no entry stands that comes next.
+    /// What was learned of trees is let go first, since the store may hold others now. Where no target of these entries
+    /// is broken, it reads what taking them costs, and nothing where there are none.
     pub fn verdict<R: Keeper>(
         &mut self,
         alloc: Global,

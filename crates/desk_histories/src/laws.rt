@@ -15,13 +15,14 @@ pub fn step_keeps<R: Keeper>()
     ensures { StepKeeps R.Keeper }
 {}
 
-/// Settling keeps it too, with one member more exactly where the entry in doubt is taken in; and over a store that tells what
-/// it holds the log's reference is nowhere else.
+/// Settling keeps it too, with one member more exactly where the entry in doubt is taken in; and over a store that
+/// tells what it holds the log's reference is nowhere else.
 pub fn settle_keeps<R: Keeper>()
     ensures { SettleKeeps R.Keeper }
 {}
 
-/// A log that was just loaded, over a store of which a stop leaves what it holds, stands for a history of nobody's entries.
+/// A log that was just loaded, over a store of which a stop leaves what it holds, stands for a history of nobody's
+/// entries.
 pub fn load_stands<R: Keeper>()
     ensures { LoadStands R.Keeper }
 {}

@@ -92,5 +92,6 @@ module _ {R : Type 0} (k : keeper.Ghosts R) where
   abbrev pub EachReplyIsStep : Type 0
   EachReplyIsStep =
       ((store : R) → (r : Repository) × (k.content store ≡ Some r))
-      → (body : List ℕ) (reply : Reply) (old new : Sitting) → AnswersPush body (Replied reply) old new → IsToldReply reply
+      → (body : List ℕ) (reply : Reply) (old new : Sitting) → AnswersPush body (Replied reply) old new
+      → IsToldReply reply
       → IsNoPush body reply old new ⊎ IsStepped body reply old new

@@ -6,10 +6,14 @@
 #![tactic(auto)]
 
 mod answers;
+mod faults;
 pub mod laws;
 mod opening;
 mod serving;
+mod staffing;
 
 pub use answers::verdict_line;
-pub use opening::{DeskFault, HttpDesk, open_desk, workers_at};
+pub use faults::DeskFault;
+pub use opening::{HttpDesk, open_desk};
 pub use serving::serve_store;
+pub use staffing::workers_at;

@@ -1,35 +1,21 @@
-//! Opening a desk over a store, and its workers.
+//! Opening a desk over a store.
 
-ghost use Rattle.std.specs.Prelude.{◌≡◌, ◌<◌, IfOk, IfSome, All, length};
+ghost use Rattle.std.specs.Prelude.{◌≡◌, ◌<◌, IfErr, IfOk, All, length};
 ghost use Rattle.desk_histories.specs.Legal.{IsLegal};
-ghost use Rattle.desk_lock.specs.Seats.{AreNew, IsIdle, TurnId};
+ghost use Rattle.desk_lock.specs.Seats.{AreNew, IsIdle};
+ghost use Rattle.desk_core.specs.Loading.{IsUnjudged};
 ghost use Rattle.desk_shops.specs.Calls.{IsLeftAlone};
+ghost use Rattle.desk_http.specs.Opening.{ComesOfLog, IsOfOpening, ReadsLog};
 
+use crate::faults::{DeskFault, fault_of};
 use desk_calls::Desk;
 use desk_core::DeskState;
 use desk_lock::Seat;
-use desk_serving::Worker;
 use desk_shops::Shop;
-use edge_io::Failed;
-use git_object::ObjectId;
 use keeper_api::Keeper;
-use links::TcpDoor;
-use rsl_chain::LogFault;
+use octets::Memory;
 use std::alloc::Global;
 use std::marker::Model;
-use std::net::TcpListener;
-
-/// Why a desk is not open, or serves no more.
-#[derive(Clone, Copy, Debug, PartialEq, Eq, Drop)]
-pub enum DeskFault {
-    /// The log breaks at the commit of this id.
-    LogBroken { id: ObjectId },
-    /// The store failed while the log was loaded.
-    KeeperFailed,
-    /// There is no listener at the port, or a worker's door failed.
-    DoorFailed,
-    Memory,
-}
 
 /// A desk over a store, as the connections of its workers ask it.
 #[derive(Drop)]
@@ -47,17 +33,41 @@ impl<R: Keeper> Model for HttpDesk<R> {
     ghost view = { λ d. d.desk };
 }
 
-// Why no log was loaded.
-fn fault_of(fault: LogFault) -> DeskFault {
-    match fault {
-        LogFault::Broken { id } => DeskFault::LogBroken { id },
-        LogFault::Failed => DeskFault::KeeperFailed,
-        LogFault::Memory => DeskFault::Memory,
+// Loads the log of a store for a desk.
+pub(crate) fn load_log<R: Keeper>(alloc: Global, store: &mut R) -> Result<DeskState, DeskFault>
+    ensures unjudged { IfOk result (IsUnjudged (R.content store.new)) }
+    ensures reads { ReadsLog R.Keeper store.old store.new result }
+    ensures opening { IfErr result IsOfOpening }
+{
+    match DeskState::load(alloc, store) {
+        Ok(state) => Ok(state),
+        Err(fault) => Err(fault_of(fault)),
     }
 }
 
-/// A desk over a store whose log is loaded now, and its seats, numbered from 1 in order. All its entries are of nobody. Of the
-/// store a stop leaves what it holds, where it tells what a stop leaves.
+// A desk over a store whose log was just loaded, and its seats.
+pub(crate) fn desk_over<R: Keeper + Drop>(
+    alloc: Global,
+    state: DeskState,
+    store: R,
+    seats: u32,
+) -> Result<(HttpDesk<R>, Vec<Seat>), Memory>
+    requires some { 0 < seats }
+    requires loaded { IsUnjudged (R.content store) state }
+    requires left { IsLeftAlone R.Keeper store }
+    ensures count { IfOk result (λ given. length given.1.items ≡ seats) }
+    ensures seats { IfOk result (λ given. AreNew IsLegal given.0 given.1.items) }
+    ensures idle { IfOk result (λ given. All (IsIdle given.0) given.1.items) }
+{
+    match Desk::new(alloc, Shop::new(state, store), seats) {
+        Ok((desk, given)) => Ok((HttpDesk { desk }, given)),
+        Err(error) => Err(error),
+    }
+}
+
+/// A desk over a store whose log is loaded now, and its seats, numbered from 1 in order. All its entries are of nobody.
+/// Of the store a stop leaves what it holds, where it tells what a stop leaves. `LogBroken` comes exactly where the log
+/// breaks, and `KeeperFailed` exactly where the store counted a fault, want of memory aside.
 pub fn open_desk<R: Keeper + Drop>(
     alloc: Global,
     mut store: R,
@@ -68,52 +78,15 @@ pub fn open_desk<R: Keeper + Drop>(
     ensures count { IfOk result (λ given. length given.1.items ≡ seats) }
     ensures seats { IfOk result (λ given. AreNew IsLegal given.0 given.1.items) }
     ensures idle { IfOk result (λ given. All (IsIdle given.0) given.1.items) }
+    ensures log { ComesOfLog R.Keeper store result }
+    ensures opening { IfErr result IsOfOpening }
 {
-    let state = match DeskState::load(alloc, &mut store) {
+    let state = match load_log(alloc, &mut store) {
         Ok(state) => state,
-        Err(fault) => return Err(fault_of(fault)),
+        Err(fault) => return Err(fault),
     };
-    match Desk::new(alloc, Shop::new(state, store), seats) {
-        Ok((desk, given)) => Ok((HttpDesk { desk }, given)),
+    match desk_over(alloc, state, store, seats) {
+        Ok(opened) => Ok(opened),
         Err(_) => Err(DeskFault::Memory),
     }
-}
-
-// The last of these seats.
-fn last_of(seats: &mut Vec<Seat>) -> Option<Seat>
-    ensures left { (t : TurnId) → All (IsIdle t) seats.old.items → All (IsIdle t) seats.new.items }
-    ensures seat { (t : TurnId) → All (IsIdle t) seats.old.items → IfSome result (IsIdle t) }
-{
-    seats.pop()
-}
-
-/// A worker for each of these seats, each with a door of its own at the listener.
-pub fn workers_at(
-    alloc: Global,
-    listener: &TcpListener,
-    mut seats: Vec<Seat>,
-) -> Result<Vec<Worker<TcpDoor>>, DeskFault>
-    ensures { (t : TurnId) → All (IsIdle t) seats.items
-        → IfOk result (λ workers. All (λ w. IsIdle t w.seat) workers.items) }
-{
-    let mut workers = Vec::new(alloc);
-    'seats: for _ in 0..seats.len() {
-        let Some(seat) = last_of(&mut seats) else {
-            return Ok(workers);
-        };
-        let door = match TcpDoor::at(listener) {
-            Ok(door) => door,
-            Err(Failed) => return Err(DeskFault::DoorFailed),
-        };
-        let worker = Worker {
-            seat,
-            door,
-            end: None,
-        };
-        match workers.push(worker) {
-            Ok(()) => {}
-            Err(_) => return Err(DeskFault::Memory),
-        }
-    }
-    Ok(workers)
 }

@@ -1,8 +1,11 @@
 //! Serving a port of this machine by a desk over a store.
 
 ghost use Rattle.std.specs.Prelude.{◌<◌};
+ghost use Rattle.desk_http.specs.Opening.{Serves};
 
-use crate::opening::{DeskFault, open_desk, workers_at};
+use crate::faults::DeskFault;
+use crate::opening::{desk_over, load_log};
+use crate::staffing::workers_at;
 use desk_serving::{NoGate, Worker, WorkerEnd, serve_all};
 use edge_io::Failed;
 use keeper_api::Keeper;
@@ -18,9 +21,8 @@ fn are_served(workers: &[Worker<TcpDoor>]) -> bool {
     workers.iter().all(|worker| !matches!(worker.end, Some(WorkerEnd::DoorFailed(_))))
 }
 
-/// Opens a desk over a store at a port of this machine, and serves so many connections by each of so many workers side by
-/// side. The store is lent to the desk, and is the caller's again at the end.
-pub fn serve_store<R, W>(
+// Opens a desk over a store that is lent, and serves.
+fn serve_lent<R, W>(
     rt: &W,
     alloc: Global,
     store: &mut R,
@@ -32,13 +34,24 @@ where
     R: Keeper + Drop + Send,
     W: Threads + Wait + Sync + Net<Listener = TcpListener, Stream = TcpStream>,
     requires { 0 < workers }
+    ensures { Serves R.Keeper store.old store.new result }
 {
-    let (desk, seats) = open_desk(alloc, LentKeeper { store }, workers)?;
+    let state = match load_log(alloc, store) {
+        Ok(state) => state,
+        Err(fault) => return Err(fault),
+    };
     let listener = match listen(rt, port) {
         Ok(listener) => listener,
-        Err(Failed) => return Err(DeskFault::DoorFailed),
+        Err(Failed) => return Err(DeskFault::NoListener),
     };
-    let mut workers = workers_at(alloc, &listener, seats)?;
+    let (desk, seats) = match desk_over(alloc, state, LentKeeper { store }, workers) {
+        Ok(opened) => opened,
+        Err(_) => return Err(DeskFault::Memory),
+    };
+    let mut workers = match workers_at(alloc, &listener, seats) {
+        Ok(workers) => workers,
+        Err(fault) => return Err(fault),
+    };
     serve_all(
         rt,
         alloc,
@@ -52,4 +65,26 @@ where
     } else {
         Err(DeskFault::DoorFailed)
     }
+}
+
+/// Opens a desk over a store at a port of this machine, serves so many connections by each of so many workers side by
+/// side, and gives the store back. Want of memory aside, `LogBroken` comes exactly where the log breaks, and
+/// `KeeperFailed` exactly where the store counted a fault while its log was read. Where it ends by either, or by
+/// `NoListener`, nothing was done to the store but that its log was read.
+pub fn serve_store<R, W>(
+    rt: &W,
+    alloc: Global,
+    mut store: R,
+    port: u16,
+    workers: u32,
+    connections: u32,
+) -> (R, Result<(), DeskFault>)
+where
+    R: Keeper + Drop + Send,
+    W: Threads + Wait + Sync + Net<Listener = TcpListener, Stream = TcpStream>,
+    requires { 0 < workers }
+    ensures { Serves R.Keeper store result.0 result.1 }
+{
+    let served = serve_lent(rt, alloc, &mut store, port, workers, connections);
+    (store, served)
 }

@@ -1,5 +1,6 @@
 -- How an entry in doubt is settled.
-use Rattle.std.specs.Prelude.{◌≡◌, ◌⊎◌, true, List, [], ◌∷◌, ℕ, Bool, false, Option, Some, None, Result, Ok, Err, unwrap_or}
+use Rattle.std.specs.Prelude.{◌≡◌, ◌⊎◌, true, List, [], ◌∷◌, ℕ, Bool}
+use Rattle.std.specs.Prelude.{false, Option, Some, None, Result, Ok, Err, unwrap_or}
 use Rattle.std.specs.FinMap.{get}
 use Rattle.octets.specs.Content.{Told}
 use Rattle.git_object.specs.Ids.{zeros}
@@ -35,7 +36,8 @@ pub record IsSame (value : Option (List ℕ)) (was now : Repository) : Type 0 wh
   pub same : now ≡ was
 
 module _ {R : Type 0} (keeper_of : keeper.Ghosts R) (old new : R) where
-  -- the log's reference had this value and was put there again: the store holds what it held, and a stop leaves that alone
+  -- the log's reference had this value and was put there again: the store holds what it held, and a stop leaves that
+  -- alone
   pub record KeepsTip (value : Option (List ℕ)) : Type 0 where
     pub held : Told (IsSame value) (keeper_of.content old) (keeper_of.content new)
     pub tells : keeper_of.tells_left new ≡ true → keeper_of.tells_left old ≡ true

@@ -102,8 +102,8 @@ module _ {R : Type 0} (keeper_of : keeper.Ghosts R) (old new : R) (was now : Des
     pub stop : keeper_of.tells_left new ≡ true → (w : Repository) → keeper_of.content new ≡ Some w
         → (r : Repository) → keeper_of.left new r → r ≡ w
 
-  -- the commit failed: the store holds what it held or what the push makes of it, and a stop leaves no more than it could,
-  -- and that
+  -- the commit failed: the store holds what it held or what the push makes of it, and a stop leaves no more than it
+  -- could, and that
   pub record IsInDoubt : Type 0 where
     pub state : now ≡ in_doubt was push.entry.id
     pub fits : early was.log push.entry ≡ None

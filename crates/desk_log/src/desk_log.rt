@@ -147,8 +147,8 @@ impl DeskLog {
         }
     }
 
-    /// Answers a push, and takes it where it is the next entry and nothing that it needs is missing. Then there is one commit;
-    /// where it fails the entry is in doubt.
+    /// Answers a push, and takes it where it is the next entry and nothing that it needs is missing. Then there is one
+    /// commit; where it fails the entry is in doubt.
     pub fn step<R: Keeper>(
         &mut self,
         alloc: Global,

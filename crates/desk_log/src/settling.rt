@@ -110,8 +110,8 @@ impl DeskLog {
         }
     }
 
-    /// Ends a doubt where the log's reference is at the tip or at the entry in doubt. It puts the reference there again, so
-    /// that a stop leaves nothing else. Where nothing is in doubt it calls nothing.
+    /// Ends a doubt where the log's reference is at the tip or at the entry in doubt. It puts the reference there
+    /// again, so that a stop leaves nothing else. Where nothing is in doubt it calls nothing.
     pub fn settle<R: Keeper>(&mut self, alloc: Global, keeper: &mut R) -> Settled
         ensures settles { Settles R.Keeper keeper.old keeper.new self.old self.new result }
         ensures free { self.old.doubt ≡ None → keeper.new ≡ keeper.old }

@@ -61,8 +61,8 @@ impl<R: Keeper> Chronicle for Shop<R> {
 }
 
 impl<R: Keeper> Shop<R> {
-    /// The shop of a store and a state beside it. Where the state was just loaded from the store, and a stop leaves of the store
-    /// what it holds, the shop stands for a history with the entries of the log, all of nobody.
+    /// The shop of a store and a state beside it. Where the state was just loaded from the store, and a stop leaves of
+    /// the store what it holds, the shop stands for a history with the entries of the log, all of nobody.
     pub fn new(state: DeskState, keeper: R) -> Shop<R>
         ensures state { result.state ≡ state }
         ensures keeper { result.keeper ≡ keeper }
@@ -88,8 +88,8 @@ impl<R: Keeper> Shop<R> {
         self.state.in_doubt()
     }
 
-    /// Ends a doubt where the log's reference is at the last entry or at the one in doubt, which then is taken in, of nobody.
-    /// Where nothing is in doubt it calls nothing. `Moved` never comes over a store that tells what it holds.
+    /// Ends a doubt where the log's reference is at the last entry or at the one in doubt, which then is taken in, of
+    /// nobody. Where nothing is in doubt it calls nothing. `Moved` never comes over a store that tells what it holds.
     pub fn settle(&mut self, alloc: Global) -> Settled
         ensures stands { (h : History) → Stands R.Keeper self.old.keeper self.old.state h
             → StandsAfterSettling R.Keeper self.new.keeper self.new.state h result }
@@ -99,8 +99,8 @@ impl<R: Keeper> Shop<R> {
         self.state.settle(alloc, &mut self.keeper)
     }
 
-    /// Answers a push of a seat, and takes it where it is the next entry and nothing that it needs is missing. Where its commit
-    /// fails it is in doubt.
+    /// Answers a push of a seat, and takes it where it is the next entry and nothing that it needs is missing. Where
+    /// its commit fails it is in doubt.
     pub fn push(&mut self, alloc: Global, seat: u32, push: &Push) -> Reply
         requires clear { self.old.state.log.doubt ≡ None }
         requires spelled { IsSpelled push.now }
@@ -115,8 +115,8 @@ impl<R: Keeper> Shop<R> {
         self.state.step(alloc, &mut self.keeper, seat, push)
     }
 
-    /// The verdict on a reference by all entries of the history and by its value in the last repository. The entries that came
-    /// since the last verdict are judged now. `Broken` never comes over a store that tells what it holds.
+    /// The verdict on a reference by all entries of the history and by its value in the last repository. The entries
+    /// that came since the last verdict are judged now. `Broken` never comes over a store that tells what it holds.
     pub fn verdict(&mut self, alloc: Global, name: &RefName) -> Result<RefVerdict, LogFault>
         requires clear { self.old.state.log.doubt ≡ None }
         ensures stands { (h : History) → Stands R.Keeper self.old.keeper self.old.state h

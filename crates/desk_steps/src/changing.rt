@@ -53,8 +53,8 @@ fn add_refs(refs: &mut RefChanges, body: &EntryBody) -> Result<(), Memory>
     Ok(())
 }
 
-/// The change of a push that is taken: the pushed objects whose ids are not in the log, the entry's reference at its target,
-/// and then the log's at the entry.
+/// The change of a push that is taken: the pushed objects whose ids are not in the log, the entry's reference at its
+/// target, and then the log's at the entry.
 pub fn change_of(alloc: Global, rows: &Placed<Row>, push: &Push) -> Result<Change, Memory>
     ensures { IfOk result (λ change. change ≡ change_of rows.now push.now) }
 {

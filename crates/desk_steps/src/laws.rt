@@ -19,8 +19,8 @@ pub fn push_grows()
     ensures { PushGrows }
 {}
 
-/// Over pushes made again, commits that fail, and stops, each id is in the log at most once, no acknowledged id leaves it,
-/// and a push whose id is there is there already and changes nothing.
+/// Over pushes made again, commits that fail, and stops, each id is in the log at most once, no acknowledged id leaves
+/// it, and a push whose id is there is there already and changes nothing.
 pub fn retry_once()
     ensures { RetryOnce }
 {}

@@ -109,7 +109,8 @@ fn first_ids(alloc: Global, body: &EntryBody) -> Result<Vec<ObjectId>, Memory>
 }
 
 /// The first id that an entry with these objects needs and that neither they nor the store have: depth first from the
-/// entry's target, through what the objects name, each id at its first visit. Objects of the store are not walked through.
+/// entry's target, through what the objects name, each id at its first visit. Objects of the store are not walked
+/// through.
 pub fn first_missing<R: Keeper>(
     alloc: Global,
     keeper: &mut R,

@@ -83,8 +83,9 @@ fn rest_of(signatures: &[Signature], at: usize) -> &[Signature]
 }
 
 impl Envelope {
-    /// Puts a signature in place of the first whose `keyid` is the same, or else at the end; all others stay. `Full` comes
-    /// exactly where there are 64 signatures or more and none has this `keyid`. After a refusal the envelope is as before.
+    /// Puts a signature in place of the first whose `keyid` is the same, or else at the end; all others stay. `Full`
+    /// comes exactly where there are 64 signatures or more and none has this `keyid`. After a refusal the envelope is
+    /// as before.
     pub fn seal(&mut self, alloc: Global, signature: Signature) -> Result<(), SealFault>
         ensures sealed { OnOk result (self.new ≡ sealed signature self.old) }
         ensures room { IsOk result → has_room signature.keyid self.old.signatures ≡ true }

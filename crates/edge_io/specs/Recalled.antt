@@ -17,7 +17,8 @@ pub is_left : (start : List ℕ) (steps : List Step) (c : List ℕ) → LeftSinc
     → MayLeave start steps c
 is_left start [] c left = left
 is_left start (step ∷ earlier) c (inl now) = now
-is_left start (step ∷ earlier) c (inr past) = absurd (let le : suc (length earlier) ≤ length earlier = past.0 in omega arith)
+is_left start (step ∷ earlier) c (inr past) =
+    absurd (let le : suc (length earlier) ≤ length earlier = past.0 in omega arith)
 
 -- how long the file is with these bytes at an offset
 spliced_len : (at : ℕ) (bytes file : List ℕ) → length (splice at bytes file) ≡ min at (length file) + length bytes
@@ -43,7 +44,8 @@ spliced_below at bytes file i within before =
 spliced_above : (at : ℕ) (bytes file : List ℕ) (i : ℕ) → i < length file → at + length bytes ≤ i
     → get_or (splice at bytes file) i 0 ≡ get_or file i 0
 spliced_above at bytes file i within after =
-    let long : length (take at file ++ bytes) ≡ at + length bytes = omega (arith, length-append (take at file) bytes, length-take at file) in
+    let long : length (take at file ++ bytes) ≡ at + length bytes =
+    omega (arith, length-append (take at file) bytes, length-take at file) in
     let same : at + length bytes + (i - (at + length bytes)) ≡ i = omega arith in
     get_or-append_right (take at file ++ bytes) (drop (at + length bytes) file) (at + length bytes) i 0 long after
     ∙ get_or-drop (at + length bytes) file (i - (at + length bytes)) 0
@@ -82,4 +84,6 @@ reading_stays start (synced ∷ earlier) = refl
 
 pub seen_is : (start : List ℕ) (steps : List Step) (bytes : List ℕ) → Some (seen_after start steps) ≡ Some bytes
     → MayLeave start steps bytes
-seen_is start steps bytes told = let same : seen_after start steps ≡ bytes = cc in subst (MayLeave start steps) same (reading_stays start steps)
+seen_is start steps bytes told =
+    let same : seen_after start steps ≡ bytes = cc in
+    subst (MayLeave start steps) same (reading_stays start steps)

@@ -1,22 +1,21 @@
 -- Reading the author's line, and the time in it.
-use Rattle.std.proofs.Common.{◌≡◌, ◌≢◌, ◌≤◌, ◌<◌, ◌==◌, ◌&&◌, ◌||◌, ◌++◌, ◌∷◌, [], ℕ, Bool, true, false, List, Bor, Option, Some, None, refl, ap, sym, subst, ◌∙◌, arith, inl, inr, append_assoc}
-use Rattle.std.specs.Prelude.{cond, codes, decimal, is_some, nat_le, option_and_then, if◌then◌else◌}
+use Rattle.std.proofs.Common.{◌≡◌, ◌≤◌, ◌<◌, ◌==◌, ◌&&◌, ◌||◌, ◌++◌, ◌∷◌, [], ℕ, Bool, true, false, List, Option, Some, None, refl, ap, sym, subst, ◌∙◌, arith, inl, inr, append_assoc}
+use Rattle.std.specs.Prelude.{codes, decimal, is_some, nat_le, option_and_then, if◌then◌else◌}
 use Rattle.std.specs.Char.{is_ascii_digit}
 use Rattle.std.specs.Cmp.Derive.{both_true}
 use Rattle.std.specs.List.{list_all}
-use Rattle.std.specs.Option.{option_copied}
-use Rattle.std.proofs.lemmas.Bool.{and_parts, cases_eq, eq-eqb, eqb-true, false≢true, le-leb, leb-true, ne_eqb, true≢false}
-use Rattle.std.proofs.lemmas.List.{append-nil}
+use Rattle.std.proofs.lemmas.Bool.{and_parts, cases_eq, false≢true, le-leb, leb-true, ne_eqb, true≢false}
 use Rattle.std.proofs.lemmas.List.Sums.{list_all-from_AllPass}
 use Rattle.text_reader.specs.Line.{has_byte}
 use Rattle.text_reader.specs.Number.{IsNumber, number_of}
-use Rattle.text_reader.proofs.Numbers.{decimal_is_number, number_of-decimal}
-use Rattle.rsl_chain.specs.Lines.{begins, is_number, lines, strip}
+use Rattle.text_reader.proofs.Numbers.{decimal_is_number, number_of-decimal, written_number}
+use Rattle.rsl_chain.specs.Lines.{begins, is_number, strip}
 use Rattle.rsl_chain.proofs.LineLemmas.{lines_more, lines_none}
 use Rattle.rsl_chain.proofs.WordLemmas.{number_from_test, number_test, strip_there}
+use Rattle.entry_authors.proofs.Words.{end_of, last_two, words_behind, words_more, words_one}
 use Rattle.entry_authors.specs.Authors.{author_in, author_of, or_later}
-use Rattle.entry_authors.specs.Laws.{AuthorWhere}
-use Rattle.entry_authors.specs.Times.{last_cut, most_seconds, seconds_of, time_of}
+use Rattle.entry_authors.specs.Laws.{AuthorWhere, TimeWhere}
+use Rattle.entry_authors.specs.Times.{BeginsWord, SaysTime, last_but_one, seconds_of, time_of, words}
 
 -- ---- the author
 
@@ -52,36 +51,6 @@ author_where = record {
 }
 
 -- ---- the time
-
-or_parts : (a b : Bool) → (a || b) ≡ false → (a ≡ false) × (b ≡ false)
-or_parts true b never = absurd (true≢false never)
-or_parts false b is = (refl, is)
-
-pub cut_more : (found : Option (List ℕ)) (word front rest : List ℕ) → has_byte 32 front ≡ false → last_cut found word (front ++ 32 ∷ rest) ≡ last_cut (Some (word ++ front)) [] rest
-cut_more found word [] rest none = ap (λ (w : List ℕ). last_cut (Some w) [] rest) (sym (append-nil word))
-cut_more found word (b ∷ front) rest none =
-    let parts = or_parts (b == 32) (has_byte 32 front) none in
-    ap (λ (t : Bool). cond t (last_cut (Some word) [] (front ++ 32 ∷ rest)) (last_cut found (word ++ b ∷ []) (front ++ 32 ∷ rest))) parts.0
-    ∙ cut_more found (word ++ b ∷ []) front rest parts.1
-    ∙ ap (λ (w : List ℕ). last_cut (Some w) [] rest) (append_assoc word (b ∷ []) front)
-
-pub cut_none : (found : Option (List ℕ)) (word text : List ℕ) → has_byte 32 text ≡ false → last_cut found word text ≡ found
-cut_none found word [] none = refl
-cut_none found word (b ∷ text) none =
-    let parts = or_parts (b == 32) (has_byte 32 text) none in
-    ap (λ (t : Bool). cond t (last_cut (Some word) [] text) (last_cut found (word ++ b ∷ []) text)) parts.0 ∙ cut_none found (word ++ b ∷ []) text parts.1
-
--- behind a space the words so far no longer matter, but for the last of them
-cut_space : (found : Option (List ℕ)) (word who rest : List ℕ) → (last : List ℕ) × (last_cut found word (who ++ 32 ∷ rest) ≡ last_cut (Some last) [] rest)
-cut_space found word [] rest = (word, refl)
-cut_space found word (b ∷ who) rest = elim (cases_eq b 32) [
-  | inl same ↦
-      let more = cut_space (Some word) [] who rest in
-      (more.0, ap (λ (t : Bool). cond t (last_cut (Some word) [] (who ++ 32 ∷ rest)) (last_cut found (word ++ b ∷ []) (who ++ 32 ∷ rest))) (eq-eqb b 32 same) ∙ more.1)
-  | inr other ↦
-      let more = cut_space found (word ++ b ∷ []) who rest in
-      (more.0, ap (λ (t : Bool). cond t (last_cut (Some word) [] (who ++ 32 ∷ rest)) (last_cut found (word ++ b ∷ []) (who ++ 32 ∷ rest))) (ne_eqb b 32 other) ∙ more.1)
-]
 
 pub seconds_there : (text : List ℕ) (n : ℕ) → text ≡ decimal n → n ≤ 253402300799 → seconds_of text ≡ Some n
 unfolding seconds_of
@@ -123,8 +92,52 @@ all_digits text n is small =
     let number : IsNumber text = subst IsNumber (sym is) (decimal_is_number n (omega arith)) in
     no_spaces text (list_all-from_AllPass is_ascii_digit text number.digits)
 
-pub time_where : (who zone : List ℕ) (seconds : ℕ) → has_byte 32 zone ≡ false → seconds ≤ most_seconds → time_of (who ++ 32 ∷ (decimal seconds ++ 32 ∷ zone)) ≡ Some seconds
-time_where who zone seconds none small =
-    let first = cut_space None [] who (decimal seconds ++ 32 ∷ zone) in
-    ap (option_and_then seconds_of) (first.1 ∙ cut_more (Some first.0) [] (decimal seconds) zone (all_digits (decimal seconds) seconds refl small) ∙ cut_none (Some (decimal seconds)) [] zone none)
-    ∙ seconds_there (decimal seconds) seconds refl small
+seconds_said : (word : List ℕ) (n : ℕ) (b : Bool) → (is_number word && nat_le (number_of word) 253402300799) ≡ b
+    → (if b then Some (number_of word) else None) ≡ Some n → (word ≡ decimal n) × (n ≤ 253402300799)
+seconds_said word n true is value =
+    let parts = and_parts (is_number word) (nat_le (number_of word) 253402300799) is in
+    let small : number_of word ≤ 253402300799 = leb-true (number_of word) 253402300799 parts.1 in
+    let same : number_of word ≡ n = cc value in
+    (written_number word (number_from_test word parts.0) (omega arith) ∙ ap decimal same, omega arith)
+seconds_said word n false is value = absurd (cc value)
+
+seconds_say : (word : List ℕ) (n : ℕ) → seconds_of word ≡ Some n → (word ≡ decimal n) × (n ≤ 253402300799)
+unfolding seconds_of
+seconds_say word n value = seconds_said word n (is_number word && nat_le (number_of word) 253402300799) refl value
+
+said_by : (author : List ℕ) (n : ℕ) (o : Option (List ℕ)) → last_but_one (words author) ≡ o → option_and_then seconds_of o ≡ Some n → SaysTime author n
+said_by author n None is value = absurd (cc value)
+said_by author n (Some word) is value =
+    let ends = end_of author word is in
+    let number = seconds_say word n value in
+    record {
+      front = ends.front;
+      zone = ends.zone;
+      is = ends.is ∙ ap (λ (w : List ℕ). ends.front ++ (w ++ 32 ∷ ends.zone)) number.0;
+      begins = ends.begins;
+      last = ends.last;
+      within = number.1;
+    }
+
+module _ (n : ℕ) (zone : List ℕ) (small : n ≤ 253402300799) (none : has_byte 32 zone ≡ false) where
+  two_words : words (decimal n ++ 32 ∷ zone) ≡ decimal n ∷ (zone ∷ [])
+  two_words = words_more (decimal n) zone (all_digits (decimal n) n refl small) ∙ ap (λ (ws : List (List ℕ)). decimal n ∷ ws) (words_one zone none)
+
+  word_there : (front : List ℕ) → BeginsWord front → last_but_one (words (front ++ (decimal n ++ 32 ∷ zone))) ≡ Some (decimal n)
+  word_there front begins = elim begins [
+    | inl nothing ↦ ap (λ (t : List ℕ). last_but_one (words (t ++ (decimal n ++ 32 ∷ zone)))) nothing ∙ ap last_but_one two_words
+    | inr some ↦
+        let all = words_behind some.0 (decimal n ++ 32 ∷ zone) in
+        ap (λ (t : List ℕ). last_but_one (words (t ++ (decimal n ++ 32 ∷ zone)))) some.1
+        ∙ ap (λ (t : List ℕ). last_but_one (words t)) (append_assoc some.0 (32 ∷ []) (decimal n ++ 32 ∷ zone))
+        ∙ ap last_but_one all.2 ∙ ap (λ (ws : List (List ℕ)). last_but_one (all.0 ∷ (all.1 ++ ws))) two_words
+        ∙ last_two all.0 all.1 (decimal n) zone
+  ]
+
+told : (author : List ℕ) (n : ℕ) → SaysTime author n → time_of author ≡ Some n
+told author n says =
+    ap time_of says.is ∙ ap (option_and_then seconds_of) (word_there n says.zone says.within says.last says.front says.begins)
+    ∙ seconds_there (decimal n) n refl says.within
+
+pub time_where : TimeWhere
+time_where author n = (said_by author n (last_but_one (words author)) refl, told author n)

@@ -7,7 +7,8 @@ pub fn author_where()
     ensures { AuthorWhere }
 {}
 
-/// The time is the number before the last space, behind another one.
+/// A text has a time exactly where a number stands before its last space, up to the end of the year 9999, and before
+/// that number nothing or another space, and its time is that number.
 pub fn time_where()
     ensures { TimeWhere }
 {}

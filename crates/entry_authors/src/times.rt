@@ -1,8 +1,8 @@
 //! The time in an author's text.
 
-ghost use Rattle.std.specs.Prelude.{◌≡◌, [], None};
+ghost use Rattle.std.specs.Prelude.{◌≡◌};
 ghost use Rattle.std.specs.Option.{option_copied};
-ghost use Rattle.entry_authors.specs.Times.{last_cut, seconds_of, time_of};
+ghost use Rattle.entry_authors.specs.Times.{last_but_one, seconds_of, time_of, words};
 
 use text_reader::{NumberFault, read_decimal_within, split_word};
 
@@ -10,8 +10,8 @@ use text_reader::{NumberFault, read_decimal_within, split_word};
 const MOST_SECONDS: u64 = 253402300799;
 
 // The last word that a space follows.
-fn last_cut(text: &[u8]) -> Option<&[u8]>
-    ensures { option_copied result ≡ last_cut None [] text.now }
+fn last_but_one(text: &[u8]) -> Option<&[u8]>
+    ensures { option_copied result ≡ last_but_one (words text.now) }
 {
     let mut last = None;
     let mut rest = text;
@@ -33,11 +33,11 @@ fn seconds_of(text: &[u8]) -> Option<u64>
 }
 
 /// The seconds since the beginning of 1970, in UTC, that an author's text has as its last word but one, as Git writes
-/// it, up to the end of the year 9999.
+/// it, up to the end of the year 9999. Spaces alone part words.
 pub fn time(author: &[u8]) -> Option<u64>
     ensures { result ≡ time_of author.now }
 {
-    match last_cut(author) {
+    match last_but_one(author) {
         Some(word) => seconds_of(word),
         None => None,
     }

@@ -90,8 +90,8 @@ fn path_fault(rules: &Rules, paths: &[Octets], signers: &KeyIds) -> Result<Optio
     }
 }
 
-/// The fault of a change between two states that differ at exactly these paths, which stand in the order of their bytes:
-/// the reference's name, or else the first of the paths, that is not met by the signers.
+/// The fault of a change between two states that differ at exactly these paths, which stand in the order of their
+/// bytes: the reference's name, or else the first of the paths, that is not met by the signers.
 pub fn rules_fault(
     rules: &Rules,
     name: &RefName,

@@ -7,8 +7,8 @@ use octets::{Copied, Memory, Octets};
 use policy_epochs::PolicyFault;
 use rule_delegations::AssembleFault;
 
-/// Why an entry is not authorised: the first that holds, in this order. `got` counts persons of the rule who signed, and
-/// `need` is its threshold.
+/// Why an entry is not authorised: the first that holds, in this order. `got` counts persons of the rule who signed,
+/// and `need` is its threshold.
 #[derive(Drop)]
 pub enum Fault {
     /// No policy is in force at the entry's number.

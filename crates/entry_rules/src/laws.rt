@@ -23,22 +23,22 @@ pub fn met_where()
         → Meets files name signers ↔ (meets files name signers ≡ true) }
 {}
 
-/// A key may skip entries of a reference exactly where no chain of rules is reached for it, or where some reached chain's
-/// last rule has a person with the key.
+/// A key may skip entries of a reference exactly where no chain of rules is reached for it, or where some reached
+/// chain's last rule has a person with the key.
 pub fn acts_where()
     ensures { (files : List RuleFile) (name key : List ℕ) → IsPolicy files
         → MayAct files (git_name name) key ↔ (may_act files (git_name name) key ≡ true) }
 {}
 
-/// The path that a fault names is the least, in the order of bytes, of those at which the two states differ and which the
-/// signers do not meet.
+/// The path that a fault names is the least, in the order of bytes, of those at which the two states differ and which
+/// the signers do not meet.
 pub fn least_where()
     ensures { (files : List RuleFile) (signers : List (List ℕ)) (s t : Ended) → IsPolicy files
         → IsLeast files signers s t (least_unmet files signers s t) }
 {}
 
-/// A key's id is among the signers of an entry of a reference exactly where the entry names it, a key of the policy has it
-/// and the signature is good by that key over what is signed, or where an approval of the change is found among the
+/// A key's id is among the signers of an entry of a reference exactly where the entry names it, a key of the policy has
+/// it and the signature is good by that key over what is signed, or where an approval of the change is found among the
 /// attestations and a key of this id signed it.
 pub fn signed_where()
     ensures { (r : Repository) (policy : Policy) (entry : Entry) (from : List ℕ) (attested : Option (List ℕ))
@@ -48,8 +48,8 @@ pub fn signed_where()
         ↔ (SignsEntry policy.keys entry id ⊎ SignsApproval r policy.keys name from target attested id) }
 {}
 
-/// An entry of a reference has no fault under a policy exactly where neither the state before nor the one that it takes is
-/// broken, its signers meet the reference, and they meet each path at which the maps of the two states differ.
+/// An entry of a reference has no fault under a policy exactly where neither the state before nor the one that it takes
+/// is broken, its signers meet the reference, and they meet each path at which the maps of the two states differ.
 pub fn lawful_where()
     ensures { (r : Repository) (policy : Policy) (entry : Entry) (from : List ℕ) (attested : Option (List ℕ))
         (name target : List ℕ)
@@ -58,9 +58,10 @@ pub fn lawful_where()
         (entry_signers r policy entry from attested) name from target }
 {}
 
-/// The fault that an entry of a reference has is a broken state, the one before first; else the reference, where its signers
-/// do not meet it; else the least path, in the order of bytes, at which the two states differ and which they do not meet.
-/// Told is the rule that the name reaches first, in pre-order, how many of its persons signed, and its threshold.
+/// The fault that an entry of a reference has is a broken state, the one before first; else the reference, where its
+/// signers do not meet it; else the least path, in the order of bytes, at which the two states differ and which they do
+/// not meet. Told is the rule that the name reaches first, in pre-order, how many of its persons signed, and its
+/// threshold.
 pub fn told_where()
     ensures { (r : Repository) (policy : Policy) (entry : Entry) (from : List ℕ) (attested : Option (List ℕ))
         (name target : List ℕ) (fault : Fault)

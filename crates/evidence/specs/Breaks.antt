@@ -32,8 +32,8 @@ abbrev pub NoneBegins : (List ℕ → Type 0) → List ℕ → Type 0
 NoneBegins IsPart rest = (part more : List ℕ) → IsPart part → rest ≢ part ++ more
 
 -- such a part stands in front, and behind it the text breaks
-pub record BreaksBehind (IsPart : List ℕ → Type 0) (Breaks : ℕ → List ℕ → ℕ → Type 0) (place : ℕ) (rest : List ℕ) (at : ℕ)
-    : Type 0 where
+pub record BreaksBehind (IsPart : List ℕ → Type 0) (Breaks : ℕ → List ℕ → ℕ → Type 0) (place : ℕ)
+    (rest : List ℕ) (at : ℕ) : Type 0 where
   pub part : List ℕ
   pub more : List ℕ
   pub is_part : IsPart part

@@ -1,5 +1,6 @@
 -- Reference names: git-check-ref-format's rules, with this project's own bounds.
-use Rattle.std.specs.Prelude.{◌≡◌, ◌≤◌, ◌↔◌, ◌++◌, ◌==◌, ◌&&◌, ◌||◌, ℕ, Bool, false, not, List, [], ◌∷◌, length, codes}
+use Rattle.std.specs.Prelude.{◌≡◌, ◌≤◌, ◌↔◌, ◌++◌, ◌==◌, ◌&&◌, ◌||◌, ℕ}
+use Rattle.std.specs.Prelude.{Bool, false, not, List, [], ◌∷◌, length, codes}
 use Rattle.std.specs.Prelude.{IsTrue, nat_le}
 use Rattle.std.specs.Bool.{nat_eq}
 use Rattle.std.specs.List.{AllByRecursion, join_with_byte, slice_split, list_all, starts_with, ends_with}

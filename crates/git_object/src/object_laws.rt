@@ -10,8 +10,8 @@ ghost use Rattle.git_object.specs.Repository.{largest_body};
 
 use crate::LARGEST_BODY;
 
-/// A commit has one text and a text at most one commit; each text is a commit's or is refused, never both, and is refused
-/// at one place.
+/// A commit has one text and a text at most one commit; each text is a commit's or is refused, never both, and is
+/// refused at one place.
 pub fn commits()
     ensures { IsGrammar IsCommitText IsCommitFault }
 {}

@@ -20,8 +20,8 @@ struct Stored {
     body: Octets,
 }
 
-/// A kind and a body. The id is computed once, when the object is made; all of it is shared among copies, so that a copy is
-/// one pointer.
+/// A kind and a body. The id is computed once, when the object is made; all of it is shared among copies, so that a
+/// copy is one pointer.
 #[derive(Drop)]
 pub struct Object {
     stored: Arc<Stored>,

@@ -48,8 +48,8 @@ fn add_kept<R: Keeper>(
     Ok(())
 }
 
-/// Each name that the log speaks of, in the order in which it does so first, and behind them the branches and the tags of
-/// the store that it does not speak of, by rising name.
+/// Each name that the log speaks of, in the order in which it does so first, and behind them the branches and the tags
+/// of the store that it does not speak of, by rising name.
 pub(crate) fn all_names<R: Keeper>(
     alloc: Global,
     judged: &JudgedLog,

@@ -4,9 +4,11 @@
 
 #![tactic(auto)]
 
+mod commands;
 mod listing;
 mod policies;
 mod running;
+mod skipping;
 mod words;
 
 use crate::running::inspect;

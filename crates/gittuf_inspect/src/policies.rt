@@ -51,8 +51,8 @@ fn tell_metadata<K: Sink>(alloc: Global, policy: &Policy, sink: &mut K) -> Endin
     }
 }
 
-/// Tells the policy in force behind a judged log as its metadata, a line for each file, the root first and then the top file
-/// of its rules; no line where none is in force.
+/// Tells the policy in force behind a judged log as its metadata, a line for each file, the root first and then the top
+/// file of its rules; no line where none is in force.
 pub(crate) fn tell_policy<K: Sink>(alloc: Global, judged: &JudgedLog, sink: &mut K) -> Ending {
     match judged.policy() {
         Some(policy) => tell_metadata(alloc, policy, sink),

@@ -2,8 +2,11 @@
 
 use crate::listing::all_names;
 use crate::policies::tell_policy;
+use crate::skipping::inspect_skips;
 use crate::words::{Asked, NamedKey};
-use accounts::{JudgedLog, entry_line, fault_line, judge_log, tell_verdict, tell_would};
+use accounts::{
+    JudgedLog, entry_line, fault_line, judge_before, judge_log, tell_verdict, tell_would,
+};
 use edge_io::{Failed, Sink, write_all};
 use endings::{Ending, Part, Refusal, print_break};
 use entry_rules::Fault;
@@ -32,8 +35,8 @@ fn keeper_stopped(fault: KeeperFault) -> Ending {
     }
 }
 
-// How the program ends where the log is refused. A break is told.
-fn stopped<K: Sink>(fault: &LogFault, sink: &mut K) -> Ending {
+/// How the program ends where the log is refused. A break is told.
+pub(crate) fn stopped<K: Sink>(fault: &LogFault, sink: &mut K) -> Ending {
     match fault {
         LogFault::Broken { id } => match print_break(sink, id) {
             Ok(()) => Ending::Broken,
@@ -249,6 +252,19 @@ fn inspect_leaf<K: Sink, R: Keeper>(
     }
 }
 
+// Judges the entries before a number, or with none the whole log.
+fn judge_to<R: Keeper>(
+    alloc: Global,
+    keeper: &mut R,
+    root: Option<KeyIds>,
+    at: Option<u64>,
+) -> Result<JudgedLog, LogFault> {
+    match at {
+        Some(number) => judge_before(alloc, keeper, root, number),
+        None => judge_log(alloc, keeper, root),
+    }
+}
+
 /// Judges the log of the store's repository once, and tells what is asked for.
 pub(crate) fn inspect<K: Sink, R: Keeper>(
     alloc: Global,
@@ -265,10 +281,13 @@ pub(crate) fn inspect<K: Sink, R: Keeper>(
             inspect_names(alloc, root, names.as_slice(), sink, keeper)
         }
         Asked::Would { root, proposed } => propose(alloc, root, &proposed, sink, keeper),
-        Asked::Policy { root } => match judge_log(alloc, keeper, root) {
+        Asked::Policy { root, at } => match judge_to(alloc, keeper, root, at) {
             Ok(judged) => tell_policy(alloc, &judged, sink),
             Err(fault) => stopped(&fault, sink),
         },
+        Asked::Skips { root, key, ids } => {
+            inspect_skips(alloc, root, &key, ids.as_slice(), sink, keeper)
+        }
         Asked::Used { root, key } => inspect_leaf(alloc, root, &key, sink, keeper),
     }
 }

@@ -1,17 +1,22 @@
 //! The words of the program.
 
-use clap::error::ErrorKind;
-use clap::{Arg, ArgAction, ArgMatches, Command};
+use crate::commands::{
+    keyed, log_command, matches_of, policy_command, verdicts_command, would_command,
+};
+use clap::ArgMatches;
 use command_words::{Store, WordsFault, read_count, read_key_ids, read_object_ids, store_at};
 use git_object::{KeyId, LOG_NAME, ObjectId, RefFault, RefName};
 use json_fields::read_hex;
 use octets::{Items, Octets};
 use root_metadata::{KeyIds, id_set};
-use std::alloc::{AllocError, Global};
+use std::alloc::Global;
 use would_be::Proposed;
 
 /// The most ids of keys that are given.
 const MOST_KEYS: usize = 64;
+
+/// The most entries that an annotation lists.
+const MOST_LISTED: usize = 256;
 
 /// The greatest number of an entry.
 const MOST_ENTRIES: u32 = 1_000_000;
@@ -24,8 +29,8 @@ pub(crate) enum Asked {
         root: Option<KeyIds>,
         first: u64,
     },
-    /// The verdicts on references, any but the log's own; with none, on each that the log speaks of and each branch and tag
-    /// that the store has.
+    /// The verdicts on references, any but the log's own; with none, on each that the log speaks of and each branch and
+    /// tag that the store has.
     Verdicts {
         root: Option<KeyIds>,
         names: Items<RefName>,
@@ -35,9 +40,16 @@ pub(crate) enum Asked {
         root: Option<KeyIds>,
         proposed: Proposed,
     },
-    /// The policy in force.
+    /// Which of these entries an annotation would skip, if this key signed it now.
+    Skips {
+        root: Option<KeyIds>,
+        key: KeyId,
+        ids: Items<ObjectId>,
+    },
+    /// The policy in force behind the log, or that by which the entry of a number is judged.
     Policy {
         root: Option<KeyIds>,
+        at: Option<u64>,
     },
     /// The greatest leaf of a key that stands signed.
     Used {
@@ -51,68 +63,6 @@ pub(crate) enum Asked {
 pub(crate) enum NamedKey {
     Id(KeyId),
     Public(Octets),
-}
-
-// A command with the option `--root`, and with no flags for help and version.
-fn rooted<'a>(alloc: Global, name: &'a str) -> Result<Command<'a>, AllocError> {
-    Command::new(alloc, name)
-        .no_binary_name(true)
-        .disable_help_flag(true)
-        .disable_version_flag(true)
-        .disable_help_subcommand(true)
-        .arg(Arg::new(alloc, "root").long("root").action(ArgAction::Set))
-}
-
-fn log_command<'a>(alloc: Global) -> Result<Command<'a>, AllocError> {
-    rooted(alloc, "log")?.arg(Arg::new(alloc, "from").long("from").action(ArgAction::Set))
-}
-
-fn verdicts_command<'a>(alloc: Global) -> Result<Command<'a>, AllocError> {
-    rooted(alloc, "verdicts")?.arg(
-        Arg::new(alloc, "ref")
-            .action(ArgAction::Append)
-            .num_args(0..),
-    )
-}
-
-// A command with the options `--root` and `--key`.
-fn keyed<'a>(alloc: Global, name: &'a str) -> Result<Command<'a>, AllocError> {
-    let key = Arg::new(alloc, "key").long("key").action(ArgAction::Set);
-    rooted(alloc, name)?.arg(key.required(true))
-}
-
-fn would_command<'a>(alloc: Global) -> Result<Command<'a>, AllocError> {
-    keyed(alloc, "would")?
-        .arg(Arg::new(alloc, "ref").action(ArgAction::Set).required(true))?
-        .arg(
-            Arg::new(alloc, "target")
-                .action(ArgAction::Set)
-                .required(true),
-        )
-}
-
-fn policy_command<'a>(alloc: Global) -> Result<Command<'a>, AllocError> {
-    let against = Arg::new(alloc, "against").long("against");
-    rooted(alloc, "policy")?.arg(against.action(ArgAction::Set))
-}
-
-// What a command finds in the words.
-fn matches_of<'a>(
-    command: Result<Command<'a>, AllocError>,
-    words: &'a [String],
-) -> Result<ArgMatches<'a>, WordsFault> {
-    let Ok(command) = command else {
-        return Err(WordsFault::Memory);
-    };
-    match command.try_get_matches_from(words) {
-        Ok(matches) => Ok(matches),
-        Err(error) => {
-            if error.kind() == ErrorKind::OutOfMemory {
-                return Err(WordsFault::Memory);
-            }
-            Err(WordsFault::Outside)
-        }
-    }
 }
 
 // The keys that a text lists, as a set.
@@ -156,15 +106,21 @@ fn id_of(alloc: Global, text: &str) -> Result<ObjectId, WordsFault> {
     }
 }
 
-// The number from which on entries are told, 1 where none is given.
-fn first_in(matches: &ArgMatches) -> Result<u64, WordsFault> {
-    let Some(text) = matches.get_str("from") else {
-        return Ok(1);
+// The number of an entry, if one is given.
+fn number_in(matches: &ArgMatches, name: &str) -> Result<Option<u64>, WordsFault> {
+    let Some(text) = matches.get_str(name) else {
+        return Ok(None);
     };
     match read_count(text.as_bytes(), MOST_ENTRIES) {
-        Some(first) => Ok(u64::from(first)),
+        Some(number) => Ok(Some(u64::from(number))),
         None => Err(WordsFault::Outside),
     }
+}
+
+// The number from which on entries are told, 1 where none is given.
+fn first_in(matches: &ArgMatches) -> Result<u64, WordsFault> {
+    let number = number_in(matches, "from")?;
+    Ok(number.unwrap_or(1))
 }
 
 // The reference of a word, any but the log's own.
@@ -193,6 +149,42 @@ fn names_in(alloc: Global, matches: &ArgMatches) -> Result<Items<RefName>, Words
     Ok(names)
 }
 
+// The one key that a text names by its id.
+fn one_key(text: &str) -> Result<KeyId, WordsFault> {
+    match read_hex::<32>(text.as_bytes()) {
+        Some(bytes) => Ok(KeyId(bytes)),
+        None => Err(WordsFault::Outside),
+    }
+}
+
+// The ids of entries that a text lists.
+fn listed_in(alloc: Global, text: &str) -> Result<Items<ObjectId>, WordsFault> {
+    match read_object_ids(alloc, text, MOST_LISTED) {
+        Ok(Some(ids)) => Ok(ids),
+        Ok(None) => Err(WordsFault::Outside),
+        Err(_) => Err(WordsFault::Memory),
+    }
+}
+
+// What would be found of an entry, or which entries an annotation would skip.
+fn would_asked(alloc: Global, matches: &ArgMatches) -> Result<Asked, WordsFault> {
+    let root = root_in(alloc, matches)?;
+    match matches.get_str("annotate") {
+        None => Ok(Asked::Would {
+            root,
+            proposed: proposed_in(alloc, matches)?,
+        }),
+        Some(word) => {
+            if word != "skip" || matches.get_str("target").is_some() {
+                return Err(WordsFault::Outside);
+            }
+            let key = one_key(value_of(matches, "key")?)?;
+            let ids = listed_in(alloc, value_of(matches, "ref")?)?;
+            Ok(Asked::Skips { root, key, ids })
+        }
+    }
+}
+
 fn proposed_in(alloc: Global, matches: &ArgMatches) -> Result<Proposed, WordsFault> {
     let name = name_of(alloc, value_of(matches, "ref")?)?;
     let target = id_of(alloc, value_of(matches, "target")?)?;
@@ -200,12 +192,16 @@ fn proposed_in(alloc: Global, matches: &ArgMatches) -> Result<Proposed, WordsFau
     Ok(Proposed { name, target, keys })
 }
 
-// The policy in force, or what would be found of an entry that records another one, of which no key of an entry decides.
+// A policy in force, or what would be found of an entry that records another one, of which no key of an entry decides.
 fn policy_asked(alloc: Global, matches: &ArgMatches) -> Result<Asked, WordsFault> {
     let root = root_in(alloc, matches)?;
+    let at = number_in(matches, "at")?;
     let Some(text) = matches.get_str("against") else {
-        return Ok(Asked::Policy { root });
+        return Ok(Asked::Policy { root, at });
     };
+    if at.is_some() {
+        return Err(WordsFault::Outside);
+    }
     let target = id_of(alloc, text)?;
     let Ok(name) = RefName::of_policy(alloc) else {
         return Err(WordsFault::Memory);
@@ -226,20 +222,16 @@ fn public_of(alloc: Global, bytes: &[u8]) -> Result<NamedKey, WordsFault> {
 
 // The key that a word names: an id, or the 56 or 60 bytes of its public part, in hexadecimal.
 fn key_of(alloc: Global, text: &str) -> Result<NamedKey, WordsFault> {
-    let text = text.as_bytes();
     match text.len() {
-        112 => match read_hex::<56>(text) {
+        112 => match read_hex::<56>(text.as_bytes()) {
             Some(bytes) => public_of(alloc, &bytes),
             None => Err(WordsFault::Outside),
         },
-        120 => match read_hex::<60>(text) {
+        120 => match read_hex::<60>(text.as_bytes()) {
             Some(bytes) => public_of(alloc, &bytes),
             None => Err(WordsFault::Outside),
         },
-        _ => match read_hex::<32>(text) {
-            Some(bytes) => Ok(NamedKey::Id(KeyId(bytes))),
-            None => Err(WordsFault::Outside),
-        },
+        _ => Ok(NamedKey::Id(one_key(text)?)),
     }
 }
 
@@ -261,10 +253,7 @@ fn read_asked(alloc: Global, first: &str, words: &[String]) -> Result<Asked, Wor
     }
     if first == "would" {
         let matches = matches_of(would_command(alloc), words)?;
-        return Ok(Asked::Would {
-            root: root_in(alloc, &matches)?,
-            proposed: proposed_in(alloc, &matches)?,
-        });
+        return would_asked(alloc, &matches);
     }
     if first == "policy" {
         let matches = matches_of(policy_command(alloc), words)?;

@@ -3,8 +3,8 @@
 use octets::{Items, Octets};
 use rule_files::Patterns;
 
-/// What a global rule asks: that at least so many persons of the rules that are reached signed, or that a reference never
-/// goes back.
+/// What a global rule asks: that at least so many persons of the rules that are reached signed, or that a reference
+/// never goes back.
 #[derive(Clone, Copy, Debug, PartialEq, Eq, Drop)]
 pub enum GlobalKind {
     Threshold { threshold: u32 },

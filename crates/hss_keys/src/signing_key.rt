@@ -11,8 +11,8 @@ use lms_keys::{LmsType, SecretKey};
 use std::alloc::{AllocError, Global};
 use std::marker::Model;
 
-/// A secret key with all that it needs to sign: its top tree, and with two levels the tree of one key below it. Contracts
-/// see what it is drawn from.
+/// A secret key with all that it needs to sign: its top tree, and with two levels the tree of one key below it.
+/// Contracts see what it is drawn from.
 #[derive(Drop)]
 pub struct SigningKey {
     // Signs messages.
@@ -127,8 +127,8 @@ impl SigningKey {
         }
     }
 
-    /// Signs `message` with leaf `leaf`. With two levels a leaf of another key below makes that key first, in place. The
-    /// caller sees to it that no leaf signs twice.
+    /// Signs `message` with leaf `leaf`. With two levels a leaf of another key below makes that key first, in place.
+    /// The caller sees to it that no leaf signs twice.
     pub fn sign_at(&mut self, leaf: u32, message: &[u8], out: &mut [u8])
         requires leaf { leaf < 2 ^ height_of self.old }
         requires room { length out.old ≡ signature_len self.old }

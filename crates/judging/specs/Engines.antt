@@ -1,5 +1,6 @@
 -- What an engine stands for, and what its steps make of it.
-use Rattle.std.specs.Prelude.{◌≡◌, ◌≢◌, ◌&&◌, ◌↔◌, ◌<◌, ◌≤◌, ◌++◌, ℕ, Bool, true, List, [], ◌∷◌, length, map, Option}
+use Rattle.std.specs.Prelude.{◌≡◌, ◌≢◌, ◌&&◌, ◌↔◌, ◌<◌, ◌≤◌, ◌++◌, ℕ}
+use Rattle.std.specs.Prelude.{Bool, true, List, [], ◌∷◌, length, map, Option}
 use Rattle.std.specs.Prelude.{Some, None, is_some, if◌then◌else◌}
 use Rattle.std.specs.Str.{bytes_eq}
 use Rattle.rsl_chain.specs.Entries.{Taken, target_of}

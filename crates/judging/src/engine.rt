@@ -88,8 +88,8 @@ impl<P, F> Engine<P, F> {
         self.book.target(prior)
     }
 
-    /// Whether an entry of a reference that is neither authorised nor rescued comes after its last one that is not skipped, so
-    /// that the reference's next entry may rescue it.
+    /// Whether an entry of a reference that is neither authorised nor rescued comes after its last one that is not
+    /// skipped, so that the reference's next entry may rescue it.
     pub fn may_rescue(&self, name: &RefName) -> bool
         ensures { (rules : Rules P F) (log : List Taken) → Stands rules log self.now
             → result ≡ may_rescue rules log name.now }

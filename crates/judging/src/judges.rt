@@ -42,8 +42,9 @@ pub struct Finding<F> {
     pub signers: KeyIds,
 }
 
-/// Answers the rules over policies `P` and faults `F` for the repository that a store `S` holds. No call changes what it
-/// holds, nor what a stop may leave of it. A call that the store refuses answers `Failed` and counts one fault, and no other call counts any.
+/// Answers the rules over policies `P` and faults `F` for the repository that a store `S` holds. No call changes what
+/// it holds, nor what a stop may leave of it. A call that the store refuses answers `Failed` and counts one fault, and
+/// no other call counts any.
 pub trait Judge<P, F, S> {
     /// The rules by which it answers.
     ghost rules: { Self → Rules P F };

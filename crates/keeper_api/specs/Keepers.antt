@@ -27,8 +27,11 @@ pub record TellsOn (before after : Option Repository) (told told_now clean clean
 -- what tells the same tells on
 pub same_tells : (content : Option Repository) (told clean : Bool) (count count_now : ℕ)
     → TellsOn content content told told clean clean count count_now
-same_tells content told clean count count_now =
-    record { was_clean = λ now. now; content = λ now before_end same some. some; left = λ now before_end same told. told }
+same_tells content told clean count count_now = record {
+  was_clean = λ now. now;
+  content = λ now before_end same some. some;
+  left = λ now before_end same told. told;
+}
 
 -- what a commit makes of the repository that was held
 abbrev pub Commits : Change → {T : Type 0} → Result T KeeperFault → Repository → Repository → Type 0

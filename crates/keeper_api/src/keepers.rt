@@ -18,19 +18,19 @@ use std::alloc::Global;
 /// A store that holds a repository. A call that the store refuses answers `Failed` and counts one fault, and no
 /// other call counts any; want of memory is `Memory`. No call but `commit` changes what is held.
 pub trait Keeper {
-    /// The repository that is held, where the keeper tells it. Telling ends only where a fault was counted or the medium is
-    /// not clean, and never begins.
+    /// The repository that is held, where the keeper tells it. Telling ends only where a fault was counted or the
+    /// medium is not clean, and never begins.
     ghost content: { Self → Option Repository };
 
-    /// Whether the keeper tells what a stop at this moment may leave. Telling ends only where a fault was counted or the
-    /// medium is not clean, and never begins.
+    /// Whether the keeper tells what a stop at this moment may leave. Telling ends only where a fault was counted or
+    /// the medium is not clean, and never begins.
     ghost tells_left: { Self → Bool };
 
     /// The repositories that a stop at this moment may leave, where the keeper tells it.
     ghost left: { Self → Repository → Type 0 };
 
-    /// Whether the medium that the keeper keeps to has given back so far what was written to it. It may end at any call,
-    /// and never begins; no call can see it.
+    /// Whether the medium that the keeper keeps to has given back so far what was written to it. It may end at any
+    /// call, and never begins; no call can see it.
     ghost is_clean: { Self → Bool };
 
     /// How many faults were counted.

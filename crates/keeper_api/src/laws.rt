@@ -19,8 +19,8 @@ pub fn change_stays()
     ensures { (change : Change) (r : Repository) → AreNew change.objects r → HasAll (changed change r) change.objects }
 {}
 
-/// What a keeper told it tells after calls that make no commit and count no fault, before the count is at its end, where
-/// its medium is clean.
+/// What a keeper told it tells after calls that make no commit and count no fault, before the count is at its end,
+/// where its medium is clean.
 pub fn tells_on<R: Keeper>()
     ensures { (old new : R) (r : Repository) → Undisturbed R.Keeper old new → R.is_clean new ≡ true
         → R.faults old < 2 ^ 64 - 1 → R.faults new ≡ R.faults old → R.content old ≡ Some r → R.content new ≡ Some r }

@@ -126,5 +126,9 @@ impl Keeper for MemKeeper {
 
     ghost comes_self = { λ k. tt };
 
-    ghost comes_tells = { λ k l came. record { was_clean = λ now. now; content = λ now before_end same told. refl; left = λ now before_end same told. told } };
+    ghost comes_tells = { λ k l came. record {
+      was_clean = λ now. now;
+      content = λ now before_end same told. refl;
+      left = λ now before_end same told. told;
+    } };
 }

@@ -29,7 +29,9 @@ pub enum FileFault {
 }
 
 impl From<io::Error> for FileFault {
-    ghost from_gives = { λ error e. ((e ≡ file.Missing) ↔ (error_kind error ≡ kind.NotFound)) × ((e ≡ file.Memory) ↔ (error_kind error ≡ kind.OutOfMemory)) };
+    ghost from_gives = { λ error e.
+        ((e ≡ file.Missing) ↔ (error_kind error ≡ kind.NotFound))
+        × ((e ≡ file.Memory) ↔ (error_kind error ≡ kind.OutOfMemory)) };
 
     fn from(error: io::Error) -> FileFault {
         match error.kind() {

@@ -188,9 +188,9 @@ impl<S: Alter + Drop> SqlKeeper<S> {
     ghost use Rattle.keeper_sqlite.specs.Keepers.{content_of, tells_left_of, left_of};
 
     /// The keeper over a database with the tables of the schema with number 1, which an empty one gets in one
-    /// transaction. `BadSchema` where the row `schema` has another number, 0 where there is no such row; `Failed`
-    /// where there are other tables and no such row can be looked for, where a transaction is open, or where a statement
-    /// was refused. It tells nothing where the tables are others. The rows are gone over twice.
+    /// transaction. `BadSchema` where the row `schema` has another number, 0 where there is no such row; `Failed` where
+    /// there are other tables and no such row can be looked for, where a transaction is open, or where a statement was
+    /// refused. It tells nothing where the tables are others. The rows are gone over twice.
     pub fn adopt(alloc: Global, connection: Connection<S>) -> Result<SqlKeeper<S>, SqlFault>
         ensures counts { IfOk result (λ keeper. (keeper.faults ≡ 0) × (keeper.reads ≡ 0)) }
         ensures left { IfOk result (λ keeper. tells_left_of S.Store keeper ≡ true → (r : Repository)

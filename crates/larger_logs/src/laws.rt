@@ -11,8 +11,8 @@ ghost use Rattle.larger_logs.specs.Gates.{AreEpochs, AreTaken, HasNoViolation, a
 ghost use Rattle.larger_logs.specs.Growing.{AllGrow, Lasting, SameEpochs};
 ghost use Rattle.larger_logs.specs.Changes.{ArePassed, Outcome, added, store_after};
 
-/// With the same epochs, an entry that is authorised is so where each entry is judged in a larger repository, and one that
-/// is rescued is rescued there.
+/// With the same epochs, an entry that is authorised is so where each entry is judged in a larger repository, and one
+/// that is rescued is rescued there.
 pub fn more_objects<P, F>()
     ensures authorised { (rules : Rules P F) (log more : List Taken) (i : ℕ) → Lasting rules → AllGrow log more
         → SameEpochs rules log more → authorised rules log i ≡ true → authorised rules more i ≡ true }
@@ -26,8 +26,8 @@ pub fn epochs_stay<P, F>()
         → SameEpochs rules log more }
 {}
 
-/// Behind a gate that takes only what has no fault, in ever larger repositories, no reference of a log without violations
-/// comes to have one, in the repository as it then is.
+/// Behind a gate that takes only what has no fault, in ever larger repositories, no reference of a log without
+/// violations comes to have one, in the repository as it then is.
 pub fn lawful_stays<P, F>()
     ensures { (rules : Rules P F) (loaded taken : List Taken) (r : Repository) → Lasting rules
         → AllByRecursion (λ t. t.repository ≡ r) loaded → HasNoViolation rules loaded → AreEpochs rules loaded

@@ -33,7 +33,8 @@ pub fn rules_last()
     ensures { (anchor : Option (List (List ℕ))) → Lasting (real_rules anchor) }
 {}
 
-/// An entry that is authorised is so in larger repositories with the same epochs, and one that is rescued is rescued there.
+/// An entry that is authorised is so in larger repositories with the same epochs, and one that is rescued is rescued
+/// there.
 pub fn more_objects()
     ensures authorised { (anchor : Option (List (List ℕ))) (log more : List Taken) (i : ℕ) → AllGrow log more
         → SameEpochs (real_rules anchor) log more → authorised (real_rules anchor) log i ≡ true
@@ -43,9 +44,9 @@ pub fn more_objects()
         → rescued (real_rules anchor) more i ≡ true }
 {}
 
-/// Where no reference has a violation in the loaded repository and every entry for the policy is an epoch, it is so after
-/// every list of changes of which each adds an entry that is not refused, and replaces no object, or adds nothing, in the
-/// repository as it then is.
+/// Where no reference has a violation in the loaded repository and every entry for the policy is an epoch, it is so
+/// after every list of changes of which each adds an entry that is not refused, and replaces no object, or adds
+/// nothing, in the repository as it then is.
 pub fn gate_holds()
     ensures { (anchor : Option (List (List ℕ))) (loaded : List Taken) (r : Repository) (outcomes : List Outcome)
         → AllByRecursion (λ t. t.repository ≡ r) loaded → HasNoViolation (real_rules anchor) loaded

@@ -9,7 +9,8 @@ ghost use Rattle.leaf_journal.specs.Signing.{IsTornImage};
 
 use edge_io::{Disk, Failed};
 
-/// Writes the byte of a leaf that is used, in a file whose leaves begin at `start`, and makes it last. After `Failed` its byte may be any.
+/// Writes the byte of a leaf that is used, in a file whose leaves begin at `start`, and makes it last. After `Failed`
+/// its byte may be any.
 pub fn write_leaf<D: Disk>(disk: &mut D, start: u64, leaf: u32) -> Result<(), Failed>
     requires near { start ≤ 72 }
     requires inside { (file : List ℕ) → D.seen disk.old ≡ Some file → start + leaf < length file }

@@ -72,13 +72,13 @@ fn expect_empty<D: Disk>(disk: &mut D) -> Result<(), CreateFault>
     Ok(())
 }
 
-/// Writes the key file of a new key of one level, of which no leaf is used, to a disk that holds nothing, and answers the
-/// key's public part. The key is drawn from an identifier, which RFC 8554 calls I, and a seed.
+/// Writes the key file of a new key of one level, of which no leaf is used, to a disk that holds nothing, and answers
+/// the key's public part. The key is drawn from an identifier, which RFC 8554 calls I, and a seed.
 ///
-/// `TooTall` comes exactly for more than 15 levels, and `NotEmpty` exactly where the disk holds something; then, and
-/// at `Memory`, the disk is as it was. After `Disk` it is so too, or it held nothing and may hold a part of the file, with
-/// any bytes. After Ok a crash leaves the file and nothing else. A leaf that was used in all that a crash might have left
-/// is used in all that one may leave at any moment of the call.
+/// `TooTall` comes exactly for more than 15 levels, and `NotEmpty` exactly where the disk holds something; then, and at
+/// `Memory`, the disk is as it was. After `Disk` it is so too, or it held nothing and may hold a part of the file, with
+/// any bytes. After Ok a crash leaves the file and nothing else. A leaf that was used in all that a crash might have
+/// left is used in all that one may leave at any moment of the call.
 pub fn create<D: Disk>(
     alloc: Global,
     disk: &mut D,
@@ -151,8 +151,8 @@ fn public_of_two(
     }
 }
 
-/// Writes the key file of a new key of two levels, as `create` does of one: the keys below have `bottom` for their tree,
-/// and all have one-time keys of one type. It answers the 60 bytes of the public key (RFC 8554, section 6.1).
+/// Writes the key file of a new key of two levels, as `create` does of one: the keys below have `bottom` for their
+/// tree, and all have one-time keys of one type. It answers the 60 bytes of the public key (RFC 8554, section 6.1).
 ///
 /// `TooTall` comes exactly where the two heights add up to more than 15; the others come as from `create`.
 pub fn create_two<D: Disk>(

@@ -61,10 +61,10 @@ impl Signer {
 
     /// Reads the key file that a disk holds, and marks exactly the leaves that are used in it.
     ///
-    /// With fewer than 64 bytes `WrongLength` comes; else `BadHeader` where the first bytes are the header of no key, 64
-    /// of one level and 72 of two, and then `WrongLength` where the length is not the header's and one for each leaf.
-    /// `Memory` comes only for a key file. The disk is as it was. With two levels the tree of one key below is made, so that
-    /// signing needs no memory.
+    /// With fewer than 64 bytes `WrongLength` comes; else `BadHeader` where the first bytes are the header of no key,
+    /// 64 of one level and 72 of two, and then `WrongLength` where the length is not the header's and one for each
+    /// leaf. `Memory` comes only for a key file. The disk is as it was. With two levels the tree of one key below is
+    /// made, so that signing needs no memory.
     pub fn load<D: Disk>(alloc: Global, disk: &mut D) -> Result<Signer, LoadFault>
         ensures loaded { IfOk result (λ signer. (file : List ℕ) → D.seen disk.new ≡ Some file → IsLoaded file signer) }
         ensures covers { IfOk result (λ signer. (file : List ℕ) → D.seen disk.new ≡ Some file → Covers signer file) }

@@ -61,9 +61,9 @@ pub fn unread_log(fault: LogFault) -> ReadingFault
     }
 }
 
-/// Opens the key file that a disk holds, and then loads the log of a store, however many entries it has. `KeyFile` comes
-/// exactly where there is no key file, and `LogBroken` where there is one and the log breaks. It reads the commit of each
-/// entry once.
+/// Opens the key file that a disk holds, and then loads the log of a store, however many entries it has. `KeyFile`
+/// comes exactly where there is no key file, and `LogBroken` where there is one and the log breaks. It reads the commit
+/// of each entry once.
 pub fn open_whole_log<R: Keeper, D: Disk>(
     alloc: Global,
     keeper: &mut R,

@@ -39,8 +39,8 @@ fn tell_break<K: Sink>(id: ObjectId, mut line: Vec<u8>, sink: &mut K) -> RecordF
     }
 }
 
-/// Tells why nothing was read, where that is told here: of a broken log with the line of its break, into an empty buffer with
-/// room for it.
+/// Tells why nothing was read, where that is told here: of a broken log with the line of its break, into an empty
+/// buffer with room for it.
 pub fn tell_unread<K: Sink>(fault: ReadingFault, line: Vec<u8>, sink: &mut K) -> RecordFault
     requires empty { line.items ≡ [] }
     requires room { 92 ≤ vec_capacity line }

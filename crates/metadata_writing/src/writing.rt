@@ -16,8 +16,8 @@ use root_metadata::{MetaFault, Root};
 use rule_files::{RuleFault, RuleFile};
 use std::alloc::Global;
 
-/// The text of a root: compact JSON, the fields of each object in the order of their names' bytes. A root of schema 1 says
-/// neither its schema nor persons, and lists the ids of keys. `Unwritable` comes only where a name is not UTF-8.
+/// The text of a root: compact JSON, the fields of each object in the order of their names' bytes. A root of schema 1
+/// says neither its schema nor persons, and lists the ids of keys. `Unwritable` comes only where a name is not UTF-8.
 pub fn root_text(alloc: Global, root: &Root) -> Result<Octets, WriteFault>
     ensures exact { IfOk result (λ text. text ≡ root_text root.now) }
     ensures unwritable { IsErrOf result WriteFault.Unwritable → HasRootTexts root.now → ⊥ }
@@ -47,8 +47,8 @@ pub fn file_text(alloc: Global, file: &RuleFile) -> Result<Octets, WriteFault>
     }
 }
 
-/// The text of a root, which `Root::read` reads as the root. `Unwritable` comes exactly where there is none: where a name
-/// is not UTF-8, or a count, a key, a threshold or a person is one that a root may not have.
+/// The text of a root, which `Root::read` reads as the root. `Unwritable` comes exactly where there is none: where a
+/// name is not UTF-8, or a count, a key, a threshold or a person is one that a root may not have.
 pub fn write_root(alloc: Global, root: &Root) -> Result<Octets, WriteFault>
     ensures exact { IfOk result (λ text. text ≡ root_text root.now) }
     ensures reads_back { IfOk result (λ text. roots.reading text ≡ Ok root.now) }
@@ -69,8 +69,8 @@ pub fn write_root(alloc: Global, root: &Root) -> Result<Octets, WriteFault>
     Ok(text)
 }
 
-/// The text of a rule file, which `RuleFile::read` reads as the file. `Unwritable` comes exactly where there is none: where
-/// a name or a pattern is not UTF-8, or something is what a rule file may not have.
+/// The text of a rule file, which `RuleFile::read` reads as the file. `Unwritable` comes exactly where there is none:
+/// where a name or a pattern is not UTF-8, or something is what a rule file may not have.
 pub fn write_rule_file(alloc: Global, file: &RuleFile) -> Result<Octets, WriteFault>
     ensures exact { IfOk result (λ text. text ≡ file_text file.now) }
     ensures reads_back { IfOk result (λ text. files.reading text ≡ Ok file.now) }

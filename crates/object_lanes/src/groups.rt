@@ -45,8 +45,8 @@ fn one_by_one(group: &[Unnamed]) -> [ObjectId; 8]
     ids
 }
 
-/// The ids of up to eight objects, in their order: of each the SHA-256 of the kind's word, a space, the body's length in
-/// decimal, a zero byte and the body (Git's object names). What follows them is no object's. It takes no memory.
+/// The ids of up to eight objects, in their order: of each the SHA-256 of the kind's word, a space, the body's length
+/// in decimal, a zero byte and the body (Git's object names). What follows them is no object's. It takes no memory.
 pub fn group_ids(group: &[Unnamed]) -> [ObjectId; 8]
     requires { length group.now ≤ 8 }
     ensures { take (length group.now) result ≡ map unnamed_id group.now }

@@ -65,8 +65,8 @@ fn is_past(rows: usize, path: usize, room: usize) -> bool
 }
 
 /// Reads a text as a listing: rows of a mode (`100644`, `100755` or `120000`), a space, a size in decimal, a space, a
-/// path, a line feed, so many bytes, and a line feed. `Refused` comes exactly where the text is not that of rows each of
-/// at most 16 MiB and with a path of at most 4,096 bytes, at most 262,144 of them, whose paths have at most 64 MiB.
+/// path, a line feed, so many bytes, and a line feed. `Refused` comes exactly where the text is not that of rows each
+/// of at most 16 MiB and with a path of at most 4,096 bytes, at most 262,144 of them, whose paths have at most 64 MiB.
 pub fn read_listing(alloc: Global, text: &[u8]) -> Result<Listing, ListingFault>
     ensures read { IfOk result (IsRead text.now) }
     ensures refused { IsErrOf result ListingFault.Refused → IsNoListing text.now }

@@ -40,8 +40,8 @@ impl IndexedChange {
         Ok(IndexedChange { change, places })
     }
 
-    /// The object that a store would keep under an id for this change: the last of its objects that has the id. It takes no
-    /// memory.
+    /// The object that a store would keep under an id for this change: the last of its objects that has the id. It
+    /// takes no memory.
     pub fn object(&self, id: &ObjectId) -> Option<&Object>
         ensures { FindsLast self.now.objects id.now (option_copied result) }
     {

@@ -16,9 +16,9 @@ use keeper_api::{Change, Keeper, KeeperFault, RefValue};
 use octets::Copied;
 use std::alloc::Global;
 
-/// Answers of objects what the store under it would answer after a commit of the change, and counts its own reads. It is to
-/// be asked of objects alone: each other call is answered by `Memory`. Nothing is ever changed, and once it is dropped the
-/// store under it is as it was.
+/// Answers of objects what the store under it would answer after a commit of the change, and counts its own reads. It
+/// is to be asked of objects alone: each other call is answered by `Memory`. Nothing is ever changed, and once it is
+/// dropped the store under it is as it was.
 #[derive(Drop)]
 pub struct Overlay<'a, R: Keeper> {
     pub under: &'a mut R,

@@ -12,8 +12,8 @@ use octets::Memory;
 use root_metadata::KeyIds;
 use std::alloc::Global;
 
-/// The policy in force after the entries of a log that were taken, and the ids of keys that the first policy must have, where
-/// they are given.
+/// The policy in force after the entries of a log that were taken, and the ids of keys that the first policy must have,
+/// where they are given.
 #[derive(Drop)]
 pub struct Epochs {
     anchor: Option<KeyIds>,
@@ -81,9 +81,9 @@ impl Epochs {
         }
     }
 
-    /// Takes the next entry for the policy, of which this was found. It is an epoch where its policy is valid and breaks no
-    /// rule of succession; else the first that it breaks, or its own fault, is told, and the policy stays. The policy is moved,
-    /// and after a want of memory, which only a valid policy leads to, the epochs are as before.
+    /// Takes the next entry for the policy, of which this was found. It is an epoch where its policy is valid and
+    /// breaks no rule of succession; else the first that it breaks, or its own fault, is told, and the policy stays.
+    /// The policy is moved, and after a want of memory, which only a valid policy leads to, the epochs are as before.
     pub fn take(
         &mut self,
         alloc: Global,

@@ -3,9 +3,9 @@
 use octets::Octets;
 use rule_delegations::AssembleFault;
 
-/// Why a policy entry does not take effect: the first that holds, in this order. The text in verdicts stands first. A file is
-/// named without `.json`; files are tried in the order root, top file, then by name. `got` counts persons, and `need` is the
-/// threshold.
+/// Why a policy entry does not take effect: the first that holds, in this order. The text in verdicts stands first. A
+/// file is named without `.json`; files are tried in the order root, top file, then by name. `got` counts persons, and
+/// `need` is the threshold.
 #[derive(Drop)]
 pub enum PolicyFault {
     /// `unreadable`: what the target stands for is not there or broken.
@@ -16,8 +16,8 @@ pub enum PolicyFault {
     BadFile { file: Octets },
     /// `root-threshold <got> of <need>`: too few persons of the root role signed the root.
     RootThreshold { got: usize, need: u32 },
-    /// `duplicate-name <name>`, `unreachable <name>`, `too-deep <name>` or `too-many`: the rule files are no rules of a policy.
-    /// Want of memory never stands here.
+    /// `duplicate-name <name>`, `unreachable <name>`, `too-deep <name>` or `too-many`: the rule files are no rules of a
+    /// policy. Want of memory never stands here.
     Forest { why: AssembleFault },
     /// `file-threshold <file> <got> of <need>`: too few of those who may sign the file did.
     FileThreshold { file: Octets, got: usize, need: u32 },

@@ -1,5 +1,5 @@
-//! What the definitions say, as a reader would say it. No call needs these functions: their contracts are the laws, those
-//! of the epochs over any policies `P`, any faults `F` and any rule of succession.
+//! What the definitions say, as a reader would say it. No call needs these functions: their contracts are the laws,
+//! those of the epochs over any policies `P`, any faults `F` and any rule of succession.
 
 ghost use Rattle.std.specs.Prelude.{◌≡◌, ◌↔◌, ℕ, List, None, Option, Result, Some};
 ghost use Rattle.std.specs.List.{Contains};
@@ -29,7 +29,8 @@ pub fn policy_of_the_last_epoch<P, F>()
         → AreEpochs checked succession n list → policy_in checked list ≡ policy_after checked succession n }
 {}
 
-/// A valid policy takes effect under the one in force exactly where it follows it by the four rules, whatever ids are given.
+/// A valid policy takes effect under the one in force exactly where it follows it by the four rules, whatever ids are
+/// given.
 pub fn follows_where()
     ensures { (anchor : Option (List (List ℕ))) (old new : Policy)
         → (succession anchor (Some old) new ≡ None) ↔ Follows old new }

@@ -131,8 +131,8 @@ fn following_fault(
     dropped_fault(old, new)
 }
 
-/// What keeps a valid policy from taking effect under the one in force, or from being the first where none is: the first rule
-/// that it breaks. Where ids are given, the first policy's root role must have exactly their keys.
+/// What keeps a valid policy from taking effect under the one in force, or from being the first where none is: the
+/// first rule that it breaks. Where ids are given, the first policy's root role must have exactly their keys.
 pub fn succession_fault(
     alloc: Global,
     known: &KnownSigners,

@@ -64,7 +64,8 @@ sealed_of signed = record { name = signed.file.name; version = signed.file.versi
 -- the persons among the signers by these keys are as many as are asked for
 unfoldable pub signing_fault : Sealed → List Key → List Person → ℕ → Option PolicyFault
 signing_fault sealed keys persons threshold =
-    let got = count_in persons (env_signers sealed.envelope keys) in only_if (not (nat_le threshold got)) (FileThreshold sealed.name got threshold)
+    let got = count_in persons (env_signers sealed.envelope keys) in
+    only_if (not (nat_le threshold got)) (FileThreshold sealed.name got threshold)
 
 -- the first rule of the name in a file, and the first file that holds one; in a forest there is one such rule at most
 abbrev pub rule_named : List ℕ → RuleFile → Option Rule

@@ -49,10 +49,10 @@ fn check_entries<R: Keeper>(
 }
 
 /// The policy of a target, where it is valid, and else the first of its faults, of which the numbers are 1 to 6: the
-/// target's state is absent or broken; there is no `metadata/root.json`; a file is missing, longer than 1 MiB or refused;
-/// too few signed the root; the rule files are no rules of a policy; too few signed a rule file. It makes at most 9 reads
-/// to peel the target, one for each tree of its walk, and 3 beside one for each rule file. No signature is checked of a
-/// file whose signers are known.
+/// target's state is absent or broken; there is no `metadata/root.json`; a file is missing, longer than 1 MiB or
+/// refused; too few signed the root; the rule files are no rules of a policy; too few signed a rule file. It makes at
+/// most 9 reads to peel the target, one for each tree of its walk, and 3 beside one for each rule file. No signature is
+/// checked of a file whose signers are known.
 #[tactic(auto, unfolding(crate::specs::Policies::policy_of, crate::specs::Policies::policy_reads))]
 pub fn check_policy<R: Keeper>(
     alloc: Global,

@@ -23,8 +23,8 @@ pub fn entry_by_entry()
         → in_force anchor r entries ≡ fold (next_in anchor r) None entries }
 {}
 
-/// One more entry for the policy behind those of a log is one of the epochs of the longer log exactly where nothing keeps it
-/// from being one behind them.
+/// One more entry for the policy behind those of a log is one of the epochs of the longer log exactly where nothing
+/// keeps it from being one behind them.
 pub fn one_more_epoch()
     ensures { (anchor : Option (List (List ℕ))) (r : Repository) (entries : List Entry) (entry : Entry) (list : List ℕ)
         → is_of entry.body policy_name ≡ true → AreEpochs (found_of r (entries ++ entry ∷ [])) (succession anchor)

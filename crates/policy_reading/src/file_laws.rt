@@ -13,8 +13,8 @@ pub fn readings()
     ensures { (r : Repository) (readings : Readings) → AreReadings r readings → readings ≡ readings_of r }
 {}
 
-/// The rule files of a directory stand in their order: the top file first, where it is there, and then the others by the bytes
-/// of their stems, of which no two are equal.
+/// The rule files of a directory stand in their order: the top file first, where it is there, and then the others by
+/// the bytes of their stems, of which no two are equal.
 pub fn order()
     ensures { (entries : List TreeEntry) → AreInOrder (map (λ at. at.stem) (rule_files entries)) }
 {}

@@ -146,7 +146,8 @@ fn top_file(alloc: Global, entries: &[TreeEntry]) -> Result<FilesAt, Memory>
     }
 }
 
-/// The rule files among the entries of the directory: the top file, where it is there, and then the others by their stems.
+/// The rule files among the entries of the directory: the top file, where it is there, and then the others by their
+/// stems.
 #[tactic(auto, unfolding(crate::specs::Metadata::rule_files))]
 pub fn rule_files(alloc: Global, entries: &[TreeEntry]) -> Result<FilesAt, Memory>
     ensures { IfOk result (λ files. files ≡ rule_files entries.now) }

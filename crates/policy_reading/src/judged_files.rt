@@ -201,8 +201,8 @@ fn judge_forest(
     }
 }
 
-/// The policy of files that are read, or the first of its faults: too few signed the root; the rule files are no forest;
-/// too few signed a rule file. No signature is checked of an envelope whose signers are known.
+/// The policy of files that are read, or the first of its faults: too few signed the root; the rule files are no
+/// forest; too few signed a rule file. No signature is checked of an envelope whose signers are known.
 #[tactic(auto, unfolding(crate::specs::Validity::judged))]
 pub fn judge(
     alloc: Global,

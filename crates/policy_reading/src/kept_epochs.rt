@@ -17,8 +17,8 @@ use known_signers::KnownSigners;
 use policy_epochs::{EpochVerdict, Epochs};
 use std::alloc::Global;
 
-/// Takes the next entry for the policy, of this target: of whatever log the epochs stand for, they stand for that log with it
-/// afterwards. After an error they are as before.
+/// Takes the next entry for the policy, of this target: of whatever log the epochs stand for, they stand for that log
+/// with it afterwards. After an error they are as before.
 pub fn extend<R: Keeper>(
     alloc: Global,
     epochs: &mut Epochs,

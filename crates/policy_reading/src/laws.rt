@@ -18,19 +18,19 @@ pub fn first_fault()
     ensures { (files : List RuleFile) → IsFirstFault files (first_fault files) }
 {}
 
-/// Where the state of a target is whole, its policy takes at most 12 reads beside one for each tree that is visited and one
-/// for each rule file.
+/// Where the state of a target is whole, its policy takes at most 12 reads beside one for each tree that is visited and
+/// one for each rule file.
 pub fn reads()
     ensures { (r : Repository) (target tree : List ℕ) (paths dirs : ℕ) → state_at (walk_of (readings_of r) target)
         ≡ state.Whole tree paths dirs
         → policy_reads r target ≡ 12 + dirs + length (rule_files (metadata_entries (readings_of r).trees tree)) }
 {}
 
-/// The policy of a target is valid exactly where the target's state is whole; there is a root, and it and each rule file are
-/// read; as many persons of the root role as it asks for signed the root, with keys of the root; no two rules have one name,
-/// each file below hangs on a rule of a chain, no chain is longer than eight, and rules and listed keys are few enough; the top
-/// file is signed as the root asks, with keys of the root, and each other as the rule of its name asks, with keys of the file
-/// that holds this rule.
+/// The policy of a target is valid exactly where the target's state is whole; there is a root, and it and each rule
+/// file are read; as many persons of the root role as it asks for signed the root, with keys of the root; no two rules
+/// have one name, each file below hangs on a rule of a chain, no chain is longer than eight, and rules and listed keys
+/// are few enough; the top file is signed as the root asks, with keys of the root, and each other as the rule of its
+/// name asks, with keys of the file that holds this rule.
 pub fn valid_where()
     ensures { (r : Repository) (target : List ℕ) (policy : Policy)
         → (policy_of r target ≡ Ok policy) ↔ IsValid r target policy }

@@ -117,9 +117,9 @@ fn take_ids<R: Keeper>(
     Ok(())
 }
 
-/// The epochs of the entries at these ids, oldest first; where ids of keys are given, the first policy's root role must have
-/// exactly these. `Broken` comes exactly where no entry stands at one of the ids, and names the first such. Each entry is
-/// read once, and the policy of each that is for the policy.
+/// The epochs of the entries at these ids, oldest first; where ids of keys are given, the first policy's root role must
+/// have exactly these. `Broken` comes exactly where no entry stands at one of the ids, and names the first such. Each
+/// entry is read once, and the policy of each that is for the policy.
 pub fn epochs_at<R: Keeper>(
     alloc: Global,
     keeper: &mut R,
@@ -147,8 +147,8 @@ pub fn epochs_at<R: Keeper>(
     }
 }
 
-/// The epochs of a store's log. `Broken` comes exactly where the log breaks. Each entry is read twice, one at a time, and the
-/// policy of each that is for the policy; the log takes 32 bytes for each.
+/// The epochs of a store's log. `Broken` comes exactly where the log breaks. Each entry is read twice, one at a time,
+/// and the policy of each that is for the policy; the log takes 32 bytes for each.
 pub fn load_epochs<R: Keeper>(
     alloc: Global,
     keeper: &mut R,
@@ -173,8 +173,8 @@ pub fn load_epochs<R: Keeper>(
     }
 }
 
-/// What keeps an entry for the policy, of this target, from being an epoch behind the entries at these ids. `Broken` comes
-/// exactly where no entry stands at one of the ids, and names the first such.
+/// What keeps an entry for the policy, of this target, from being an epoch behind the entries at these ids. `Broken`
+/// comes exactly where no entry stands at one of the ids, and names the first such.
 pub fn epoch_fault<R: Keeper>(
     alloc: Global,
     keeper: &mut R,

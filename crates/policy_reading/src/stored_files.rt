@@ -47,7 +47,8 @@ fn load_own_tree<R: Keeper>(
     load_tree(alloc, keeper, id)
 }
 
-/// The entries of the directory `metadata` of a root's tree; none where it has no such directory. It makes at most two reads.
+/// The entries of the directory `metadata` of a root's tree; none where it has no such directory. It makes at most two
+/// reads.
 #[tactic(auto, unfolding(crate::specs::Metadata::metadata_entries))]
 pub fn load_metadata<R: Keeper>(
     alloc: Global,

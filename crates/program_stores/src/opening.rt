@@ -88,8 +88,8 @@ fn is_ended(rt: &HostRuntime, keeper: AnyKeeper) -> bool {
 }
 
 /// Ends the use of a store after a command of this status, and answers the program's. Where a folder stays locked, or
-/// the log of a database file cannot be put into it, that is a fault of the store, which is said on standard error; after
-/// a refusal its own status and line say enough.
+/// the log of a database file cannot be put into it, that is a fault of the store, which is said on standard error;
+/// after a refusal its own status and line say enough.
 pub fn end_store(rt: &HostRuntime, keeper: AnyKeeper, status: u8) -> u8
     ensures refused { 2 ≤ status → result ≡ status }
     ensures ended { (result ≡ status) ⊎ (result ≡ refusal_status (refusal.Fault part.Keeper)) }

@@ -1,6 +1,7 @@
 //! The objects of a push, one after the other.
 
-ghost use Rattle.std.specs.Prelude.{◌≡◌, ◌≢◌, ◌<◌, ◌≤◌, ◌-◌, ◌^◌, ◌++◌, ◌∷◌, ◌⊎◌, ℕ, List, length, decimal, map, min};
+ghost use Rattle.std.specs.Prelude.{◌≡◌, ◌≢◌, ◌<◌, ◌≤◌, ◌-◌, ◌^◌, ◌++◌, ◌∷◌};
+ghost use Rattle.std.specs.Prelude.{◌⊎◌, ℕ, List, length, decimal, map, min};
 ghost use Rattle.std.specs.Prelude.{IfOk, IfErr, IfSome, IfNone, IsErrOf};
 ghost use Rattle.text_reader.specs.Number.{IsNumber, number_of};
 ghost use Rattle.buffered_reader.specs.Lines.{IsLine};

@@ -209,8 +209,8 @@ fn first_bad(known: &Known, persons: &[Person]) -> Option<usize>
     None
 }
 
-/// The place of the first person whose name is none or an earlier person's, who has not 1 to 16 distinct ids, or of whom
-/// an id is that of no key of the file.
+/// The place of the first person whose name is none or an earlier person's, who has not 1 to 16 distinct ids, or of
+/// whom an id is that of no key of the file.
 pub fn bad_person(roster: &Roster, known: &Known) -> Option<usize>
     requires { IsIndex roster.now known.now }
     ensures { result ≡ first_wrong (is_bad_person roster.now.keys) [] roster.now.persons }

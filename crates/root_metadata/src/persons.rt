@@ -6,8 +6,8 @@ ghost use Rattle.root_metadata.specs.Persons.{count_in, has_signed};
 use crate::{KeyIds, Keyed, Rising};
 use octets::{Copied, Memory, Octets};
 
-/// A person: a name, and the ids of the keys that are this person's. Where a file knows no persons, each listed id is one,
-/// named by the id in lower-case hexadecimal.
+/// A person: a name, and the ids of the keys that are this person's. Where a file knows no persons, each listed id is
+/// one, named by the id in lower-case hexadecimal.
 #[derive(Drop)]
 pub struct Person {
     pub name: Octets,
@@ -41,8 +41,8 @@ fn has_signed(person: &Person, signers: &KeyIds) -> bool
     ids.iter().any(|id| signers.has(id.as_bytes()))
 }
 
-/// How many of the persons have a key among the signers: one who signed with two keys counts once. This is what thresholds
-/// are compared with. It takes no memory.
+/// How many of the persons have a key among the signers: one who signed with two keys counts once. This is what
+/// thresholds are compared with. It takes no memory.
 pub fn count_in(persons: &Persons, signers: &KeyIds) -> usize
     ensures { result ≡ count_in persons.now signers.now }
 {

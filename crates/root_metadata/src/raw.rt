@@ -11,8 +11,8 @@ pub struct RawKey {
     pub public: Octets,
 }
 
-/// A role, or what a rule says of its signers, as it is written. Listed are, in schema 1, the texts of ids of keys, and in
-/// schema 2 names of persons.
+/// A role, or what a rule says of its signers, as it is written. Listed are, in schema 1, the texts of ids of keys, and
+/// in schema 2 names of persons.
 #[derive(Drop)]
 pub struct RawRole {
     pub listed: Names,

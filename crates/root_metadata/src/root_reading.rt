@@ -167,9 +167,9 @@ fn read_value(alloc: Global, value: &Value) -> Result<Root, MetaFault>
 }
 
 impl Root {
-    /// The root that a text is (`docs/FORMATS.md`, "Roots"). Persons and listed ids of keys are kept as sets; in schema 1 each
-    /// listed id is a person, named by it in hexadecimal, and in schema 2 listed names that no person of the file has are
-    /// dropped. Other fields are passed over.
+    /// The root that a text is (`docs/FORMATS.md`, "Roots"). Persons and listed ids of keys are kept as sets; in schema
+    /// 1 each listed id is a person, named by it in hexadecimal, and in schema 2 listed names that no person of the
+    /// file has are dropped. Other fields are passed over.
     pub fn read(alloc: Global, text: &[u8]) -> Result<Root, MetaFault>
         ensures ok { IfOk result (λ root. reading text.now ≡ Ok root) }
         ensures refused { IfErr result (λ e. (e ≡ fault.Memory) ⊎ (reading text.now ≡ Err e)) }

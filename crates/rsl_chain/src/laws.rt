@@ -29,8 +29,8 @@ pub fn first_wrong_line()
     ensures { FirstWrong }
 {}
 
-/// The log of a repository with one entry more is the old log and that entry, which counts those before it and goes back to
-/// the last of them, where what the old ids lead to stays. In a larger repository it does.
+/// The log of a repository with one entry more is the old log and that entry, which counts those before it and goes
+/// back to the last of them, where what the old ids lead to stays. In a larger repository it does.
 pub fn log_grows()
     ensures grows { LogGrows }
     ensures larger { LargerKeeps }

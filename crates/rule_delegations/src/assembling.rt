@@ -22,11 +22,13 @@ use std::alloc::Global;
 pub enum AssembleFault {
     /// Two rules, or two files, have this name, the least such by bytes.
     DuplicateName { name: Octets },
-    /// A file other than the top has this name, the least such by bytes, and no rule on a chain from the top file has it.
+    /// A file other than the top has this name, the least such by bytes, and no rule on a chain from the top file has
+    /// it.
     Unreachable { name: Octets },
     /// The name of the first rule in pre-order that is the ninth of a chain.
     TooDeep { name: Octets },
-    /// There are more than 1,024 rules, of which this is the number, or else more than 1,024 listed keys, repeats included.
+    /// There are more than 1,024 rules, of which this is the number, or else more than 1,024 listed keys, repeats
+    /// included.
     TooMany { count: usize },
     Memory,
 }

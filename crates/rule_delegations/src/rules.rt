@@ -43,8 +43,8 @@ impl Model for Rules {
 }
 
 impl Rules {
-    /// The rules of files, of which the first is the top file; no file gives no rules. A refusal tells the first fault that
-    /// holds.
+    /// The rules of files, of which the first is the top file; no file gives no rules. A refusal tells the first fault
+    /// that holds.
     pub fn assemble(alloc: Global, files: RuleFiles) -> Result<Rules, AssembleFault>
         ensures ok { IfOk result (λ rules. rules ≡ files) }
         ensures sound { OnOk result ((fault : AssembleFault) → HasFault files fault → ⊥) }
@@ -72,8 +72,8 @@ impl Rules {
         self.forest.rule(place).unwrap()
     }
 
-    /// The places of the last rules of the chains that a name reaches, in pre-order. It takes no memory for a rule that does
-    /// not match.
+    /// The places of the last rules of the chains that a name reaches, in pre-order. It takes no memory for a rule that
+    /// does not match.
     pub fn search(&self, alloc: Global, space: Space, text: &[u8]) -> Result<Vec<RuleRef>, Memory>
         ensures reached { IfOk result (λ places. AreReached self.now (record { space = space; text = text.now })
             places.items) }
@@ -85,7 +85,8 @@ impl Rules {
         Ok(found)
     }
 
-    /// The place of the last rule of the first chain that a name reaches; None where it reaches none. It takes no memory.
+    /// The place of the last rule of the first chain that a name reaches; None where it reaches none. It takes no
+    /// memory.
     pub fn first_reached(&self, space: Space, text: &[u8]) -> Option<RuleRef>
         ensures first { IsFirstReached self.now (record { space = space; text = text.now }) result }
         ensures place { IfSome result (λ place. IsSome (rule_at self.now place)) }
@@ -101,8 +102,8 @@ impl Rules {
         None
     }
 
-    /// Whether a name is met by a set of signers: it reaches no rule, or some reached rule has at least its threshold of
-    /// persons with a key in the set. It takes no memory.
+    /// Whether a name is met by a set of signers: it reaches no rule, or some reached rule has at least its threshold
+    /// of persons with a key in the set. It takes no memory.
     pub fn meets(&self, space: Space, text: &[u8], signers: &KeyIds) -> bool
         ensures { IsTrue result ↔ Meets self.now (record { space = space; text = text.now }) signers.now }
     {
@@ -119,8 +120,8 @@ impl Rules {
         }
     }
 
-    /// Whether a key may act for a name: the name reaches no rule, or some reached rule has a person with the key. It takes no
-    /// memory.
+    /// Whether a key may act for a name: the name reaches no rule, or some reached rule has a person with the key. It
+    /// takes no memory.
     pub fn lists(&self, space: Space, text: &[u8], key: &KeyId) -> bool
         ensures { IsTrue result ↔ MayAct self.now (record { space = space; text = text.now }) key.now }
     {
@@ -130,8 +131,8 @@ impl Rules {
         }
     }
 
-    /// Of the rule that a name reaches first, how many of its persons have a key among the signers, and how many must; None
-    /// where no rule is reached. It takes no memory.
+    /// Of the rule that a name reaches first, how many of its persons have a key among the signers, and how many must;
+    /// None where no rule is reached. It takes no memory.
     pub fn short(&self, space: Space, text: &[u8], signers: &KeyIds) -> Option<Short>
         ensures { IsShort self.now (record { space = space; text = text.now }) signers.now result }
     {

@@ -43,8 +43,8 @@ fn search_rule(
     Ok(rule.terminating)
 }
 
-/// Adds the places that are reached from a file on, through so many files; whether a terminating rule ended the search. It
-/// takes no memory for a rule that does not match.
+/// Adds the places that are reached from a file on, through so many files; whether a terminating rule ended the search.
+/// It takes no memory for a rule that does not match.
 #[cycle(searching)]
 pub(crate) fn search_file(
     forest: &Forest,

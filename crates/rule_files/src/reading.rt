@@ -105,9 +105,9 @@ fn read_value(alloc: Global, value: &Value) -> Result<RuleFile, RuleFault>
 }
 
 impl RuleFile {
-    /// The rule file that a text is (`docs/FORMATS.md`, "Rule files"). Persons and listed ids of keys are kept as sets; in
-    /// schema 1 each listed id is a person, named by it in hexadecimal, and in schema 2 listed names that no person of the
-    /// file has are dropped. Other fields are passed over.
+    /// The rule file that a text is (`docs/FORMATS.md`, "Rule files"). Persons and listed ids of keys are kept as sets;
+    /// in schema 1 each listed id is a person, named by it in hexadecimal, and in schema 2 listed names that no person
+    /// of the file has are dropped. Other fields are passed over.
     pub fn read(alloc: Global, text: &[u8]) -> Result<RuleFile, RuleFault>
         ensures ok { IfOk result (λ file. reading text.now ≡ Ok file) }
         ensures refused { IfErr result (λ e. (e ≡ fault.Memory) ⊎ (reading text.now ≡ Err e)) }

@@ -7,8 +7,8 @@ use root_metadata::{Keys, Persons};
 /// The patterns of a rule.
 pub type Patterns = Items<Pattern>;
 
-/// A rule: it speaks of the names that one of its patterns matches, for which at least `threshold` of its persons must sign.
-/// Where a terminating rule matches, no rule after it and after those of its own file is looked at.
+/// A rule: it speaks of the names that one of its patterns matches, for which at least `threshold` of its persons must
+/// sign. Where a terminating rule matches, no rule after it and after those of its own file is looked at.
 #[derive(Drop)]
 pub struct Rule {
     pub name: Octets,
@@ -21,8 +21,8 @@ pub struct Rule {
 /// The rules of a file, in the order of the file.
 pub type RuleList = Items<Rule>;
 
-/// A rule file: its name, which is `targets` for the top file and else that of the rule that it stands below; its schema, where
-/// 1 has no persons of its own and each listed key id is one; its version, keys, persons and rules.
+/// A rule file: its name, which is `targets` for the top file and else that of the rule that it stands below; its
+/// schema, where 1 has no persons of its own and each listed key id is one; its version, keys, persons and rules.
 #[derive(Drop)]
 pub struct RuleFile {
     pub name: Octets,

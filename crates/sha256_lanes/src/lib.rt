@@ -1,4 +1,5 @@
-//! SHA-256 of eight texts at once and along eight hash chains at once, by vectors whose lane i works on text or chain i.
+//! SHA-256 of eight texts at once and along eight hash chains at once, by vectors whose lane i works on text or chain
+//! i.
 //!
 //! What it promises, and where to begin: `README.md` in this crate's folder.
 #![tactic(auto)]

@@ -1,6 +1,7 @@
 //! The blocks of eight steps at once, and the words that bytes spell.
 
-ghost use Rattle.std.specs.Prelude.{◌≡◌, ℕ, ◌+◌, ◌*◌, ◌/◌, ◌%◌, ◌^◌, ◌<◌, ◌≤◌, List, [], ◌∷◌, ◌++◌, length, take, drop};
+ghost use Rattle.std.specs.Prelude.{◌≡◌, ℕ, ◌+◌, ◌*◌, ◌/◌, ◌%◌, ◌^◌, ◌<◌};
+ghost use Rattle.std.specs.Prelude.{◌≤◌, List, [], ◌∷◌, ◌++◌, length, take, drop};
 ghost use Rattle.std.specs.Prelude.{slice_index, slice_index_or};
 ghost use Rattle.std.specs.Int.{w32, to_be_bytes};
 ghost use Rattle.sha2.specs.Sha256.{digest_bytes, padded_message, word_at};

@@ -1,27 +1,33 @@
 -- The persons of a policy who hold one of some keys, by their names.
-use Rattle.std.specs.Prelude.{[], ℕ, Bool, List, Option, Some, None, if◌then◌else◌}
-use Rattle.std.specs.List.{fold, list_any}
+use Rattle.std.specs.Prelude.{◌++◌, ◌∷◌, [], ℕ, Bool, List, Option, Some, None, map, not}
+use Rattle.std.specs.List.{filter, flat_map, list_any}
 use Rattle.std.specs.Str.{bytes_eq}
 use Rattle.root_metadata.specs.declared.persons.Person.{Person}
 use Rattle.rule_files.specs.declared.rules.RuleFile.{RuleFile}
-use Rattle.log_names.specs.Names.{with_name}
 use Rattle.policy_epochs.specs.declared.policies.Policy.{Policy}
 
 -- the person has one of these keys
 abbrev pub holds : List (List ℕ) → Person → Bool
 holds keys person = list_any (λ id. list_any (λ key. bytes_eq key id) keys) person.keyids
 
--- the names with that of the person, where the person has one of the keys
-abbrev pub with_person : List (List ℕ) → List (List ℕ) → Person → List (List ℕ)
-with_person keys names person = if holds keys person then with_name names person.name else names
+-- the names of those of some persons who have one
+abbrev pub holders : List (List ℕ) → List Person → List (List ℕ)
+holders keys persons = map (λ person. person.name) (filter (holds keys) persons)
 
-abbrev pub with_file : List (List ℕ) → List (List ℕ) → RuleFile → List (List ℕ)
-with_file keys names file = fold (with_person keys) names file.persons
+-- of several rule files, one behind the other
+abbrev pub file_holders : List (List ℕ) → List RuleFile → List (List ℕ)
+file_holders keys files = flat_map (λ file. holders keys file.persons) files
 
--- of the policy's root and of its rule files, each name once
-abbrev pub persons_in : List (List ℕ) → Policy → List (List ℕ)
-persons_in keys policy = fold (with_file keys) (fold (with_person keys) [] policy.root.persons) policy.rules
+-- the names but this one
+abbrev pub others : List ℕ → List (List ℕ) → List (List ℕ)
+others name names = filter (λ other. not (bytes_eq name other)) names
 
+-- each name once, where it stands first
+abbrev pub each_once : List (List ℕ) → List (List ℕ)
+each_once [] = []
+each_once (name ∷ names) = name ∷ others name (each_once names)
+
+-- of the policy's root and then of its rule files, each name once
 abbrev pub persons_of : Option Policy → List (List ℕ) → List (List ℕ)
 persons_of None keys = []
-persons_of (Some policy) keys = persons_in keys policy
+persons_of (Some policy) keys = each_once (holders keys policy.root.persons ++ file_holders keys policy.rules)

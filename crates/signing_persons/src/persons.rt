@@ -1,10 +1,10 @@
 //! The names of the persons who hold one of some keys.
 
-ghost use Rattle.std.specs.Prelude.{◌≡◌, IfOk, OnOk};
+ghost use Rattle.std.specs.Prelude.{◌≡◌, ◌∷◌, [], Some, IfOk, OnOk};
 ghost use Rattle.std.specs.List.{fold, list_any};
 ghost use Rattle.std.specs.Option.{option_copied};
 ghost use Rattle.std.specs.Str.{bytes_eq};
-ghost use Rattle.signing_persons.specs.Persons.{holds, persons_in, persons_of, with_file, with_person};
+ghost use Rattle.signing_persons.specs.Persons.{file_holders, holders, holds, persons_of};
 ghost use Rattle.log_names.specs.Names.{has_name, with_name};
 
 use git_object::KeyId;
@@ -49,7 +49,7 @@ fn add_name(names: &mut Items<Octets>, name: &Octets) -> Result<(), Memory>
 
 // Adds the name of a person who has one of the keys, unless it is there.
 fn add_person(names: &mut Items<Octets>, person: &Person, keys: &[KeyId]) -> Result<(), Memory>
-    ensures { OnOk result (names.new ≡ with_person keys.now names.old person.now) }
+    ensures { OnOk result (names.new ≡ fold with_name names.old (holders keys.now (person.now ∷ []))) }
 {
     if !holds(person, keys) {
         return Ok(());
@@ -58,7 +58,7 @@ fn add_person(names: &mut Items<Octets>, person: &Person, keys: &[KeyId]) -> Res
 }
 
 fn add_persons(names: &mut Items<Octets>, persons: &Persons, keys: &[KeyId]) -> Result<(), Memory>
-    ensures { OnOk result (names.new ≡ fold (with_person keys.now) names.old persons.now) }
+    ensures { OnOk result (names.new ≡ fold with_name names.old (holders keys.now persons.now)) }
 {
     let persons = persons.as_slice();
     'persons: for person in persons {
@@ -68,7 +68,7 @@ fn add_persons(names: &mut Items<Octets>, persons: &Persons, keys: &[KeyId]) -> 
 }
 
 fn add_files(names: &mut Items<Octets>, files: &[RuleFile], keys: &[KeyId]) -> Result<(), Memory>
-    ensures { OnOk result (names.new ≡ fold (with_file keys.now) names.old files.now) }
+    ensures { OnOk result (names.new ≡ fold with_name names.old (file_holders keys.now files.now)) }
 {
     'files: for file in files {
         add_persons(names, &file.persons, keys)?;
@@ -77,7 +77,7 @@ fn add_files(names: &mut Items<Octets>, files: &[RuleFile], keys: &[KeyId]) -> R
 }
 
 fn persons_in(alloc: Global, policy: &Policy, keys: &[KeyId]) -> Result<Items<Octets>, Memory>
-    ensures { IfOk result (λ names. names ≡ persons_in keys.now policy.now) }
+    ensures { IfOk result (λ names. names ≡ persons_of (Some policy.now) keys.now) }
 {
     let mut names = Items::new(alloc);
     add_persons(&mut names, &policy.root.persons, keys)?;

@@ -10,8 +10,8 @@ use std::alloc::Global;
 /// The most bytes that a text may have: 256 MiB.
 pub const LARGEST_TEXT: u64 = 268435456;
 
-/// What was written. The piece that passes the limit is kept still, and the next one fails; so does one for which there is no
-/// memory.
+/// What was written. The piece that passes the limit is kept still, and the next one fails; so does one for which there
+/// is no memory.
 #[derive(Drop)]
 pub struct ShortText {
     text: Octets,

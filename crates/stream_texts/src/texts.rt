@@ -33,8 +33,9 @@ fn fault_as(is_past: bool, fault: ExportFault) -> TextFault
     }
 }
 
-/// The stream of a keeper's repository as one text, of 256 MiB at most. `TooLarge` comes exactly where the text passes that
-/// before the first object that is kept damaged, and `Damaged` exactly where that object comes first. The keeper is as before.
+/// The stream of a keeper's repository as one text, of 256 MiB at most. `TooLarge` comes exactly where the text passes
+/// that before the first object that is kept damaged, and `Damaged` exactly where that object comes first. The keeper
+/// is as before.
 pub fn stream_text<R: Keeper>(alloc: Global, keeper: &mut R) -> Result<Octets, TextFault>
     ensures told { (r : Repository) → R.content keeper.new ≡ Some r → IsTextOf r result }
     ensures same { Undisturbed R.Keeper keeper.old keeper.new }

@@ -1,4 +1,5 @@
-//! Reads and writes pushes, keeps things under ids, and pushes to a desk, row by row, and prints a line for each answer.
+//! Reads and writes pushes, keeps things under ids, and pushes to a desk, row by row, and prints a line for each
+//! answer.
 //!
 //! What it promises, and where to begin: `README.md` in this crate's folder.
 

@@ -1,21 +1,17 @@
 //! The records that rows are written in.
 //!
-//!     row <name> LF                         begins a row: an empty store, no bytes, an empty key file
-//!     bytes <size> LF <bytes> LF            adds to what the source gives to each command of the row from here on
-//!     piece <name> <size> LF <bytes> LF     keeps bytes under a name for all rows
-//!     take <name> LF                        adds the bytes that are kept under a name
-//!     times <count> <name> LF               adds them so many times
-//!     source <size> LF <bytes> LF           what the source gives to each command of the row from here on
-//!     key <size> LF <bytes> LF              what the key file holds for the next command of the row; what is signed over
-//!                                           the row's store changes it for those after
-//!     room <object> <bytes> LF              the room of an object for the next command
-//!     failing <object> <call> <call> .. LF  the calls of an object that fail in the next command
-//!     random <size> LF <bytes> LF           the random bytes for the next command
-//!     moments <moment> <moment> .. LF       what the clock gives to the next command
-//!     <way> <word> <word> .. LF             runs the command of these words in one of the ways
-//!     held LF                               tells what the key file holds
-//!     endless <size> LF                     exports a store without an end, of blobs of so many bytes
-//!     <question> ..                         tells what a call below the commands answers (`questions.rt`)
+//! row <name> LF                         begins a row: an empty store, no bytes, an empty key file bytes <size> LF
+//! <bytes> LF            adds to what the source gives to each command of the row from here on piece <name> <size> LF
+//! <bytes> LF     keeps bytes under a name for all rows take <name> LF                        adds the bytes that are
+//! kept under a name times <count> <name> LF               adds them so many times source <size> LF <bytes> LF
+//! what the source gives to each command of the row from here on key <size> LF <bytes> LF              what the key
+//! file holds for the next command of the row; what is signed over the row's store changes it for those after room
+//! <object> <bytes> LF              the room of an object for the next command failing <object> <call> <call> .. LF
+//! the calls of an object that fail in the next command random <size> LF <bytes> LF           the random bytes for the
+//! next command moments <moment> <moment> .. LF       what the clock gives to the next command <way> <word> <word> ..
+//! LF             runs the command of these words in one of the ways held LF                               tells what
+//! the key file holds endless <size> LF                     exports a store without an end, of blobs of so many bytes
+//! <question> ..                         tells what a call below the commands answers (`questions.rt`)
 
 use crate::conditions::Part;
 use crate::questions::{Question, question_of};

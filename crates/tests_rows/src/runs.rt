@@ -20,8 +20,8 @@ fn status_of(alloc: Global, words: &[String], outside: &mut InMemory) -> u8 {
     run(alloc, words, outside)
 }
 
-/// Runs the command of these words over standard input, a store and a key file of these bytes. Answered is what is seen,
-/// the store, and the bytes of the key file afterwards.
+/// Runs the command of these words over standard input, a store and a key file of these bytes. Answered is what is
+/// seen, the store, and the bytes of the key file afterwards.
 pub fn run_over(
     alloc: Global,
     words: &[String],

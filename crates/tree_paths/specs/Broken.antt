@@ -1,5 +1,6 @@
 -- Where a target is broken, read aloud: at the first bad object of its walk.
-use Rattle.std.specs.Prelude.{◌≡◌, ◌≢◌, ◌≤◌, ◌<◌, ◌+◌, ◌++◌, ◌∷◌, ◌⊎◌, [], ℕ, suc, List, length, sum_by, Option, Some}
+use Rattle.std.specs.Prelude.{◌≡◌, ◌≢◌, ◌≤◌, ◌<◌, ◌+◌, ◌++◌, ◌∷◌, ◌⊎◌}
+use Rattle.std.specs.Prelude.{[], ℕ, suc, List, length, sum_by, Option, Some}
 use Rattle.std.specs.Prelude.{None}
 use Rattle.git_object.specs.Ids.{zeros}
 use Rattle.git_object.specs.declared.kinds.Kind.{Kind}

@@ -1,5 +1,6 @@
 -- The walk of a tree: its steps in pre-order, what they count, and the first bad one.
-use Rattle.std.specs.Prelude.{◌≤◌, ◌+◌, ◌*◌, ◌<◌, ◌==◌, ◌&&◌, ◌||◌, ◌++◌, ◌∷◌, [], ℕ, suc, Bool, true, false, not, cond}
+use Rattle.std.specs.Prelude.{◌≤◌, ◌+◌, ◌*◌, ◌<◌, ◌==◌, ◌&&◌, ◌||◌, ◌++◌, ◌∷◌}
+use Rattle.std.specs.Prelude.{[], ℕ, suc, Bool, true, false, not, cond}
 use Rattle.std.specs.Prelude.{nat_le, List, length, Option, Some, None}
 use Rattle.git_object.specs.Trees.{sort_key}
 use Rattle.git_object.specs.declared.modes.Mode.{Mode}

@@ -62,8 +62,8 @@ fn learn_entry<R: Keeper>(
     }
 }
 
-/// What the walk of the tree at an id adds, with so many levels left, at a place of so many bytes (of 8,192, where it has
-/// more), if it has no bad step; that is kept, and what the trees below it add. A tree that is known is not read.
+/// What the walk of the tree at an id adds, with so many levels left, at a place of so many bytes (of 8,192, where it
+/// has more), if it has no bad step; that is kept, and what the trees below it add. A tree that is known is not read.
 #[cycle(learning)]
 fn learn_tree<R: Keeper>(
     alloc: Global,
@@ -112,8 +112,8 @@ fn learn_tree<R: Keeper>(
 }
 
 /// Learns what the tree of a target and those below it add, for comparisons of the target with others. Trees that are
-/// known already are not read, and of the others no more than the target's walk visits, beside at most 9 reads. Before that
-/// all is let go that was known, where that is much, and never while at most 4,096 trees are known.
+/// known already are not read, and of the others no more than the target's walk visits, beside at most 9 reads. Before
+/// that all is let go that was known, where that is much, and never while at most 4,096 trees are known.
 pub fn learn<R: Keeper>(
     alloc: Global,
     keeper: &mut R,

@@ -24,8 +24,8 @@ fn is_small_blob(object: &Object) -> bool
     }
 }
 
-/// The blob that an id names; None where it names nothing, another object, or a blob of more than 1 MiB. It makes at most
-/// one read.
+/// The blob that an id names; None where it names nothing, another object, or a blob of more than 1 MiB. It makes at
+/// most one read.
 pub fn load_blob<R: Keeper>(
     alloc: Global,
     keeper: &mut R,

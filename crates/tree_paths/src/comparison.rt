@@ -121,8 +121,8 @@ fn compare_with<R: Keeper>(
     }
 }
 
-/// What changed from one target to another, as `compare` says it, where something is known of the trees of the repository:
-/// a known tree that stands at the same place in both is not read.
+/// What changed from one target to another, as `compare` says it, where something is known of the trees of the
+/// repository: a known tree that stands at the same place in both is not read.
 pub fn compare_known<R: Keeper>(
     alloc: Global,
     keeper: &mut R,

@@ -72,8 +72,8 @@ fn twice_entry<R: Keeper>(
     }
 }
 
-/// Walks the tree at an id with so many levels left, at a place of so many bytes (of 8,192, where it has more), once for
-/// both walks, after these counts.
+/// Walks the tree at an id with so many levels left, at a place of so many bytes (of 8,192, where it has more), once
+/// for both walks, after these counts.
 #[cycle(twice)]
 pub fn twice_tree<R: Keeper>(
     alloc: Global,

@@ -32,10 +32,10 @@ pub fn paths()
         → IsMapOfTrees readings.trees root }
 {}
 
-/// A target is broken at an object exactly where tags lead to that object and it is no commit where one must stand, or where
-/// they lead to a commit and the first bad step of the walk of its tree names the object: a tree that is missing, too deep or
-/// empty below the root, or the tree that holds a path past a limit. A comparison names the first bad object of the first
-/// target that has one.
+/// A target is broken at an object exactly where tags lead to that object and it is no commit where one must stand, or
+/// where they lead to a commit and the first bad step of the walk of its tree names the object: a tree that is missing,
+/// too deep or empty below the root, or the tree that holds a path past a limit. A comparison names the first bad
+/// object of the first target that has one.
 pub fn broken_where()
     ensures state { (readings : Readings) (target id : List ℕ)
         → (state_at (walk_of readings target) ≡ state.Broken id) ↔ IsBrokenAt readings target id }

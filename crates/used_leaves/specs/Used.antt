@@ -1,5 +1,6 @@
 -- The greatest leaf of a key by which an entry of a log is signed.
-use Rattle.std.specs.Prelude.{◌≡◌, ◌&&◌, [], ℕ, Bool, false, List, map, nat_lt, Option, Some, None, codes, if◌then◌else◌}
+use Rattle.std.specs.Prelude.{◌≡◌, ◌&&◌, [], ℕ, Bool, false, List}
+use Rattle.std.specs.Prelude.{map, nat_lt, Option, Some, None, codes, if◌then◌else◌}
 use Rattle.std.specs.List.{fold}
 use Rattle.std.specs.Str.{bytes_eq}
 use Rattle.git_object.specs.Repository.{Repository}

@@ -4,7 +4,8 @@ ghost use Rattle.std.specs.Prelude.{ℕ, List};
 ghost use Rattle.rsl_chain.specs.declared.entries.Entry.{Entry};
 ghost use Rattle.used_leaves.specs.Laws.{IsGreatest};
 
-/// Some entry is signed by the leaf that is told, and none by a greater one; where none is told none is signed by the key.
+/// Some entry is signed by the leaf that is told, and none by a greater one; where none is told none is signed by the
+/// key.
 pub fn greatest()
     ensures { (id public : List ℕ) (entries : List Entry) → IsGreatest id public entries }
 {}

@@ -78,9 +78,9 @@ fn last_leaf(public: &[u8], signature: &[u8]) -> Option<u64>
     leaf_below(signature, len_of(key)?)
 }
 
-/// The leaf that a signature names, as key files number them: of a public key of 56 bytes that of its one tree, and of one of
-/// 60 bytes and two levels that of both; None of another key, and where the signature is too short. Whether it is good is not
-/// looked at.
+/// The leaf that a signature names, as key files number them: of a public key of 56 bytes that of its one tree, and of
+/// one of 60 bytes and two levels that of both; None of another key, and where the signature is too short. Whether it
+/// is good is not looked at.
 pub fn leaf_of(public: &[u8], signature: &[u8]) -> Option<u64>
     ensures { result ≡ leaf_of public.now signature.now }
 {

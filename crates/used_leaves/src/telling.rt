@@ -15,8 +15,9 @@ use octets::Octets;
 use rsl_chain::{Log, LogFault};
 use std::alloc::Global;
 
-/// The line of JSON that tells the greatest leaf by which the key of this id and these public bytes signed an entry of the
-/// log of the store's repository, with its line feed. It judges nothing, and reads each entry twice, once to find the log.
+/// The line of JSON that tells the greatest leaf by which the key of this id and these public bytes signed an entry of
+/// the log of the store's repository, with its line feed. It judges nothing, and reads each entry twice, once to find
+/// the log.
 pub fn tell_used<R: Keeper>(
     alloc: Global,
     keeper: &mut R,

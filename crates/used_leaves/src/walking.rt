@@ -48,8 +48,9 @@ fn greater(most: Option<u64>, leaf: Option<u64>) -> Option<u64>
     if greatest < leaf { Some(leaf) } else { most }
 }
 
-/// The greatest leaf by which the key of this id and these bytes signed one of the entries at these ids, and its signature is
-/// good; None where none is signed so. `Broken` names an id at which no entry stands. It reads each of them once.
+/// The greatest leaf by which the key of this id and these bytes signed one of the entries at these ids, and its
+/// signature is good; None where none is signed so. `Broken` names an id at which no entry stands. It reads each of
+/// them once.
 pub fn greatest_used<R: Keeper>(
     alloc: Global,
     keeper: &mut R,

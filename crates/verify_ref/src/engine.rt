@@ -61,8 +61,8 @@ impl Engine {
         self.entries.len()
     }
 
-    /// Whether an entry is the next that may be taken: its number is one more than those taken, and none of these has its
-    /// id.
+    /// Whether an entry is the next that may be taken: its number is one more than those taken, and none of these has
+    /// its id.
     pub fn comes_next(&self, entry: &Entry) -> bool
         ensures { result ≡ comes_next self.now.entries entry.now }
     {
@@ -77,9 +77,10 @@ impl Engine {
         self.entries.prior_target(name)
     }
 
-    /// Takes the next entry, and answers whether it is authorised, refused for a fault, or an annotation. After a refusal the
-    /// engine followed what it followed before. Where neither the reference's target before nor the entry's is broken, it
-    /// makes at most 64 reads, two for each tree of both, and one for each rule file of a policy (`laws::few_reads`).
+    /// Takes the next entry, and answers whether it is authorised, refused for a fault, or an annotation. After a
+    /// refusal the engine followed what it followed before. Where neither the reference's target before nor the entry's
+    /// is broken, it makes at most 64 reads, two for each tree of both, and one for each rule file of a policy
+    /// (`laws::few_reads`).
     pub fn extend<R: Keeper>(
         &mut self,
         alloc: Global,
@@ -140,15 +141,16 @@ impl Engine {
         self.entries.signers()
     }
 
-    /// The engine of judging that took the entries, lent: it answers what is asked of them under the rules of the anchor. It
-    /// takes no memory.
+    /// The engine of judging that took the entries, lent: it answers what is asked of them under the rules of the
+    /// anchor. It takes no memory.
     pub fn entries(&self) -> &LogEngine
         ensures { result.now ≡ self.now.entries }
     {
         &self.entries
     }
 
-    /// Lets go what is known of the trees of a store, so that the next one may hold others in their place. It takes no memory.
+    /// Lets go what is known of the trees of a store, so that the next one may hold others in their place. It takes no
+    /// memory.
     pub fn forget(&mut self, alloc: Global)
         ensures known { (r : Repository) → AreKnownIn r self.new.known }
         ensures rules { self.new.rules ≡ self.old.rules }

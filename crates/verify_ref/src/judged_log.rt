@@ -75,8 +75,8 @@ fn learn_before<R: Keeper>(
     }
 }
 
-/// Takes the next entry by the rules, with what is known of the trees then. After a refusal the engine stands for the list
-/// that it stood for.
+/// Takes the next entry by the rules, with what is known of the trees then. After a refusal the engine stands for the
+/// list that it stood for.
 pub(crate) fn extend_by<R: Keeper>(
     alloc: Global,
     keeper: &mut R,
@@ -211,9 +211,10 @@ fn take_all<R: Keeper>(
     Ok(())
 }
 
-/// The engine that took the entries at these ids, one after the other. `Broken` names the first of the ids at which no entry
-/// stands that comes next, by its number and with an id of its own. Where the ids are the store's log, it does not come. Each
-/// entry is read once; where no target of one is broken, nothing more is read than what takes and judges them.
+/// The engine that took the entries at these ids, one after the other. `Broken` names the first of the ids at which no
+/// entry stands that comes next, by its number and with an id of its own. Where the ids are the store's log, it does
+/// not come. Each entry is read once; where no target of one is broken, nothing more is read than what takes and judges
+/// them.
 pub fn judge_entries<R: Keeper>(
     alloc: Global,
     keeper: &mut R,

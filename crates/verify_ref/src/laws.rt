@@ -20,8 +20,8 @@ pub fn one_verdict()
         (id : List ℕ) → IsVerdict r name anchor verdict → IsBreakOf r id → ⊥ }
 {}
 
-/// Where neither where its reference stood nor its target is broken, an entry is worth at most 64 reads, two for each tree of
-/// the two, and one for each rule file below the top one of a policy.
+/// Where neither where its reference stood nor its target is broken, an entry is worth at most 64 reads, two for each
+/// tree of the two, and one for each rule file below the top one of a policy.
 pub fn few_reads()
     ensures { (anchor : Option (List (List ℕ))) (log : List Taken) (t : Taken) (name target : List ℕ)
         → t.entry.body ≡ Reference name target → is_bounded (real_rules anchor) log t ≡ true

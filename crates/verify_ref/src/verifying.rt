@@ -89,10 +89,10 @@ fn judge_ids<R: Keeper>(
 }
 
 /// The verdict on a reference of the repository that the store holds: each entry of the log is judged in it, under the
-/// policy in force at its number, and the verdict is that of the reference's entries and of its value. Where ids are given,
-/// the first policy must have exactly their keys. `Broken` comes exactly where the log is no chain, and names the commit at
-/// which it breaks. The store is as before. Each entry is read twice, once to find the log and once to take it; where no target
-/// of an entry is broken, nothing more is read than what takes and judges them.
+/// policy in force at its number, and the verdict is that of the reference's entries and of its value. Where ids are
+/// given, the first policy must have exactly their keys. `Broken` comes exactly where the log is no chain, and names
+/// the commit at which it breaks. The store is as before. Each entry is read twice, once to find the log and once to
+/// take it; where no target of an entry is broken, nothing more is read than what takes and judges them.
 pub fn verify<R: Keeper>(
     alloc: Global,
     keeper: &mut R,

@@ -12,9 +12,8 @@ module _ {types : Types} (ways : Ways types) where
   abbrev pub CountsFaults : World types → World types → Ending → Type 0
   CountsFaults before after ending = IsCounted ending (faults_of ways before) (faults_of ways after)
 
-  -- a command ran to this ending: in an outcome that means this, it touched no other objects, and the counts are those
-  -- of
-  -- the ending
+  -- a command ran to this ending: in an outcome that means this, it touched no other objects, and the counts are
+  -- those of the ending
   pub record Runs {T : Type 0} (ending_of : T → Ending) (Means : T → Type 0) (touched : Touched)
       (before after : World types) (ending : Ending) : Type 0 where
     pub ended : Ended ending_of Means ending

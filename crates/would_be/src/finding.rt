@@ -79,10 +79,11 @@ fn find_ordinary<R: Keeper>(
     }
 }
 
-/// What would be found of an entry, if these keys signed it now, under the policy in force, by what stands: the first of
-/// its faults is the one that it would have. Where no policy is in force, where a state is broken and of the policy's own
-/// reference there is one at most; else there is one for the reference, where its signers do not meet it, and one for each
-/// path that changes and that they do not meet. Where ids are given, the first policy must have exactly their keys.
+/// What would be found of an entry, if these keys signed it now, under the policy in force, by what stands: the first
+/// of its faults is the one that it would have. Where no policy is in force, where a state is broken and of the
+/// policy's own reference there is one at most; else there is one for the reference, where its signers do not meet it,
+/// and one for each path that changes and that they do not meet. Where ids are given, the first policy must have
+/// exactly their keys.
 pub fn would<R: Keeper>(
     alloc: Global,
     keeper: &mut R,

@@ -7,8 +7,8 @@ pub fn first_told()
     ensures { FirstTold }
 {}
 
-/// The fault that an entry would have, if a key signed it now, is the one that it has once it is recorded behind the log,
-/// signed by that key.
+/// The fault that an entry would have, if a key signed it now, is the one that it has once it is recorded behind the
+/// log, signed by that key.
 pub fn as_recorded()
     ensures { AsRecorded }
 {}

@@ -95,8 +95,8 @@ fn approved<R: Keeper>(
     }
 }
 
-/// The keys of the policy that would have signed for the change to a tree: those of the ones that would sign it that are
-/// keys of the policy, and those that approved it.
+/// The keys of the policy that would have signed for the change to a tree: those of the ones that would sign it that
+/// are keys of the policy, and those that approved it.
 pub(crate) fn signers_to<R: Keeper>(
     alloc: Global,
     keeper: &mut R,

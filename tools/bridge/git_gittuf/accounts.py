@@ -6,7 +6,7 @@ person's key under the policy in force at the entry.
 
 import functools
 
-from git_gittuf import history, listing, looking, signers
+from git_gittuf import listing, looking, policies, signers, skipping
 from git_gittuf.repository import ATTESTATIONS, ZEROS
 from git_gittuf.shown import plain
 
@@ -16,24 +16,14 @@ class Accounts:
 
     def __init__(self, work, found=None):
         self.work, self.found = work, found or listing.Listing(work, work.asked("log"))
-        self.skips = self.skips_by_entry()
-
-    def skips_by_entry(self):
-        """The annotations that skip each entry and are signed by a person of the policy then in force, oldest first."""
-        found = {}
-        for entry in self.found.entries:
-            if entry[2] != b"skip" or self.found.keys[entry[1]] not in self.found.people_at(entry[0]).persons:
-                continue
-            for it in history.ANNOTATED.findall(self.found.bodies[entry[1]].partition(b"\n\n")[2]):
-                found.setdefault(it, []).append(entry[0])
-        return found
+        self.skips = skipping.skips(work, self.found.entries)
 
     def skipped_by(self, entry):
         """The number of the first annotation that skips an entry, or nothing."""
-        return next(iter(self.skips.get(entry[1], ())), None)
+        return self.skips.get(entry[1])
 
     def is_skipped(self, entry, before):
-        return any(it < before for it in self.skips.get(entry[1], ()))
+        return entry[1] in self.skips and self.skips[entry[1]] < before
 
     @functools.cached_property
     def changes(self):
@@ -101,7 +91,7 @@ class Accounts:
             return {"fault": " ".join(filter(None, fault.group(3, 4)))}
         persons, _ = looking.who_is_missing(policy, counts[2], [])
         missing = [it for it in persons if it not in [told["person"], *told["approved"]]]
-        rule, path = (it and looking.unescaped(it) for it in counts.group(2, 1))
+        rule, path = (it and policies.unescaped(it) for it in counts.group(2, 1))
         return {"rule": rule, "path": path, "wanted": int(counts[4]), "persons": persons, "missing": missing}
 
 

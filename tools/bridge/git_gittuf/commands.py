@@ -2,7 +2,7 @@
 
 import os
 
-from git_gittuf import consents, copying, following, history, keys, leaves, looking, names, remotes, sentences, settings
+from git_gittuf import consents, copying, following, history, keys, leaves, looking, names, remotes, sentences, settings, skipping
 from git_gittuf.program import Ended
 from git_gittuf.remotes import is_before
 from git_gittuf.repository import ATTESTATIONS, LOG, REMOTES, ZEROS, Stopped
@@ -69,7 +69,7 @@ def expect_no_step_back(work, name, value):
     repository, last = work.repository, history.last_recorded(work.repository, name)[1]
     if value is None or last in (None, ZEROS, value) or not repository.are_commits([last, value]) or not is_before(repository, value, last):
         return
-    if history.is_skipped(repository, history.last_recorded(repository, name)[0]):
+    if history.last_recorded(repository, name)[0] in skipping.skips(work, looking.entries_of(work)):
         return
     meant = names.Meant(name)
     line = ["tip-differs", os.fsdecode(name), "kept", value.decode(), "recorded", last.decode()]
@@ -86,7 +86,7 @@ def expect_own(name):
 def recorded_by(work, name, value, path, anyway=False):
     """Records where a reference stands, where that is lawful, and returns the program's line."""
     work.bring(maybe=[value] if value else [])
-    kept = history.kept_targets(work.repository, name, value)
+    kept = history.kept_targets(work.repository, name, value, skipping.skips(work, looking.entries_of(work)))
     key = looking.key_id(path)
     if not anyway:
         looking.expect_lawful(work, name, value, key)

@@ -7,7 +7,7 @@ its reference ask, as the program names these rules.
 
 import os
 
-from git_gittuf import history, looking, policies, signers
+from git_gittuf import looking, policies, skipping
 from git_gittuf.looking import ANYWAY, COUNTS, FAULT
 from git_gittuf.names import short
 from git_gittuf.repository import Stopped
@@ -47,7 +47,7 @@ def expect_asked(work, name, key, which):
     """Refuses an approval by somebody whom no rule for a reference asks, nor one for paths."""
     policy = policies.in_force(work)
     rules = [*looking.rules_for(work, f"git:{os.fsdecode(name)}"), *asked_by_paths(policy)]
-    if rules and key not in looking.keys_in(policy, rules):
+    if rules and key not in policy.keys_in(rules):
         asked = dict.fromkeys(person for it in rules for person in it.get("persons", []))
         refuse("approved", f"{which} and for paths ask {looking.listing(asked)}, and not you")
 
@@ -56,7 +56,7 @@ def expect_counts(work, name, value, key, counts):
     """Refuses an approval by somebody whom no rule asks, or who gave it already."""
     policy = policies.in_force(work)
     persons, _ = looking.who_is_missing(policy, counts[2], [])
-    rule = f"rule {plain(looking.unescaped(counts[2]))} wants {counts[4]} of {looking.listing(persons)}"
+    rule = f"rule {plain(policies.unescaped(counts[2]))} wants {counts[4]} of {looking.listing(persons)}"
     expect_asked(work, name, key, f"{rule}, and the rules for {plain(short(name))}")
     given = looking.approvers(work, policy, name, value)
     if key in given:
@@ -73,25 +73,16 @@ def expect_skips(work, ids, key):
     """Refuses to skip entries of which none, or not each, would be skipped by this key."""
     looking.expect_person(work, key, "a skip by it")
     listed = looking.entries_of(work)
-    gone, policy = history.skipped(work.repository, listed), policies.in_force(work)
+    gone, policy = skipping.skips(work, listed), policies.in_force(work)
     for number, entry_id, kind, rest in listed:
         if entry_id.decode() not in ids:
             continue
         if kind != b"ref":
             refuse("skipped", f"entry {number} is a {plain(os.fsdecode(kind))}, and a skip counts for what entries recorded alone")
-        if entry_id in gone and is_skipped(work, entry_id, rest[0]):
+        if entry_id in gone:
             refuse("skipped", f"entry {number} is skipped already")
         rules = looking.rules_for(work, f"git:{os.fsdecode(rest[0])}")
-        if rules and key not in looking.keys_in(policy, rules):
+        if rules and key not in policy.keys_in(rules):
             asked = sorted({name for it in rules for name in it.get("persons", [])})
             said = f"entry {number} is of {plain(short(rest[0]))}, which {looking.listing(asked)} may change, and not you"
             refuse("skipped", f"{said}: git gittuf recover {quoted(short(rest[0]))} by one of them")
-
-
-def is_skipped(work, entry_id, name):
-    """Whether one of those who may skip an entry of a reference signed that it is, as far as who may is known by the policy in force."""
-    policy = policies.in_force(work)
-    rules = looking.rules_for(work, f"git:{os.fsdecode(name)}")
-    may = looking.keys_in(policy, rules) if rules else set(policy.publics())
-    skips = history.skips_of(work.repository, looking.entries_of(work), entry_id)
-    return bool(may & set(signers.of_entries(work.repository, skips, policy.publics()).values()))

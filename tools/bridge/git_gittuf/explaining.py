@@ -45,8 +45,8 @@ def told(name, line, policy):
     found = {"kind": words[0], "line": line, "name": name}
     if words[0] == "rule":
         rule = looking.rule_of(policy, words[1]) or {}
-        found.update(rule=looking.unescaped(words[1]), threshold=int(words[2]), terminating=words[3] == "terminating")
-        found.update(persons=rule.get("persons"), keys=sorted(looking.keys_in(policy, [rule])))
+        found.update(rule=policies.unescaped(words[1]), threshold=int(words[2]), terminating=words[3] == "terminating")
+        found.update(persons=rule.get("persons"), keys=sorted(policy.keys_in([rule])))
     return found
 
 

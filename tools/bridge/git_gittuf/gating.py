@@ -6,7 +6,7 @@ speaks of it. The program judges, over the store as it would be after the push.
 
 import os
 
-from git_gittuf import damage, epochs, following, gate_sentences, history, looking, settings, verifying
+from git_gittuf import damage, epochs, following, gate_sentences, history, looking, settings, skipping, verifying
 from git_gittuf.program import Ended
 from git_gittuf.remotes import is_before
 from git_gittuf.repository import ATTESTATIONS, LOG, OWN, POLICY, TARGETS, ZEROS, Stopped
@@ -143,7 +143,7 @@ class Gate:
         found = looking.FAULT.fullmatch(line)
         if int(found[2]) > self.count:
             return line, gate_sentences.of_violation(line)
-        new, last = [it for it in self.new if it[3][0] == name], looking.last_of(self.work.repository, self.entries, name)
+        new, last = [it for it in self.new if it[3][0] == name], skipping.last_of(self.work, self.entries, name)
         stays = self.push.after().get(name, last) or ZEROS
         if name == POLICY:
             # One that somebody recorded in vain says nothing of those that come later.

@@ -28,22 +28,18 @@ def last_recorded(repository, name):
     return entry, found[1] if found else None
 
 
-def is_skipped(repository, entry):
-    return b"\nskip: true\n" in last_with(repository, b"entryID: " + entry)[1]
-
-
-def kept_targets(repository, name, value):
+def kept_targets(repository, name, value, skipped):
     """The references that keep what is recorded, and what was recorded last where no reference reaches that any more.
 
     Whoever judges the next entry compares with what was recorded last, also in a clone that never had it.
     """
-    kept = last_target(repository, name, value)
+    kept = last_target(repository, name, value, skipped)
     if value is not None and not name.startswith(OWN):
         kept[TARGETS + value] = value
     return kept
 
 
-def last_target(repository, name, value):
+def last_target(repository, name, value, skipped):
     """The reference that keeps what was recorded last, where no branch will reach it once this value is recorded.
 
     What no remote has was kept by who recorded it, or is nobody else's.
@@ -51,7 +47,7 @@ def last_target(repository, name, value):
     entry, last = last_recorded(repository, name)
     if last in (None, ZEROS) or not repository.there([last]):
         return {}
-    if value is not None and is_before(repository, last, value) or is_skipped(repository, entry):
+    if value is not None and is_before(repository, last, value) or entry in skipped:
         return {}
     return {TARGETS + last: last} if last in fetched(repository, repository.references(), [last]) else {}
 
@@ -65,14 +61,6 @@ def entries(lines):
 
 ANNOTATED = re.compile(rb"^entryID: ([0-9a-f]{64})$", re.MULTILINE)
 MESSAGE = re.compile(rb"\n-----BEGIN MESSAGE-----\n([A-Za-z0-9+/=\n]*)\n-----END MESSAGE-----\n")
-
-
-def skipped(repository, listed):
-    """The ids of the entries that annotations among these skip."""
-    found = set()
-    for _, _, body in repository.bodies([it[1] for it in listed if it[2] == b"skip"]):
-        found.update(ANNOTATED.findall(body.partition(b"\n\n")[2]))
-    return found
 
 
 def skips_of(repository, listed, entry_id):

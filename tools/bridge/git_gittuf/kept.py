@@ -7,7 +7,6 @@ in is first written beside the folder and then renamed into it, so no file in it
 import contextlib
 import os
 import re
-import shutil
 import subprocess
 
 import stream_format
@@ -16,6 +15,15 @@ from git_gittuf.repository import Stopped
 VALUE = re.compile(rb"[0-9a-f]{64}\n")
 # More new files than these are written out by one call for the whole file system, and not one by one.
 FEW = 64
+
+
+def remove_tree(path):
+    """Removes a folder with all that is in it, where it is there."""
+    if os.path.lexists(path):
+        # It takes long to load.
+        import shutil
+
+        shutil.rmtree(path, ignore_errors=True)
 
 
 def write_out(path):
@@ -39,7 +47,7 @@ class Kept:
 
     def make(self):
         self.changes += 1
-        shutil.rmtree(os.path.join(self.beside, "removed"), ignore_errors=True)
+        remove_tree(os.path.join(self.beside, "removed"))
         if not self.is_there():
             with open(self.small, "wb"):
                 # That it is there is all that it says.
@@ -65,10 +73,10 @@ class Kept:
         """Takes the whole store away, and at once, so that no half of one is found."""
         self.changes += 1
         aside = os.path.join(self.beside, "removed")
-        shutil.rmtree(aside, ignore_errors=True)
+        remove_tree(aside)
         if os.path.lexists(self.folder):
             os.rename(self.folder, aside)
-        shutil.rmtree(aside, ignore_errors=True)
+        remove_tree(aside)
 
     def references(self):
         """The names with their values, and None for a value that is none."""

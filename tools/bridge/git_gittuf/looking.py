@@ -9,7 +9,7 @@ more once it can tell what a key's entry would be.
 import os
 import re
 
-from git_gittuf import epochs, history, keys, policies, sentences, settings, signers
+from git_gittuf import epochs, history, keys, policies, sentences, settings, signers, skipping
 from git_gittuf.names import HEADS, short
 from git_gittuf.program import Ended
 from git_gittuf.remotes import fetched
@@ -18,7 +18,6 @@ from git_gittuf.shown import plain, quoted
 
 FAULT = re.compile(r"violation (\S+) (\d+) (\S+)(?: (.*))?")
 COUNTS = re.compile(r"(?:(\S+) )?(\S+) (\d+) of (\d+)")
-ESCAPED = re.compile(rb"%([0-9A-Fa-f]{2})")
 ANYWAY = "--anyway signs it all the same"
 
 
@@ -58,26 +57,14 @@ def approvers(work, policy, name, value):
     return [] if status else signers.of_approval(text, name, last, tree, policy.publics())
 
 
-def last_of(repository, listed, name):
-    """The target of the last entry of a reference among these that is not skipped, or nothing."""
-    gone = history.skipped(repository, listed)
-    targets = [rest[1] for _, it, kind, rest in listed if kind == b"ref" and rest[0] == name and it not in gone]
-    return targets[-1] if targets else None
-
-
 def last_counted(work, name):
-    """The same of the whole log."""
-    return last_of(work.repository, entries_of(work), name)
-
-
-def unescaped(word):
-    """A name as a policy has it, of which the program escapes what is no sign of a word."""
-    return os.fsdecode(ESCAPED.sub(lambda it: bytes.fromhex(it[1].decode()), os.fsencode(word)))
+    """The target of the last entry of a reference that is not skipped, or nothing."""
+    return skipping.last_of(work, entries_of(work), name)
 
 
 def rule_of(policy, word):
     """The rule of the policy that the program names so, from whichever of its files."""
-    name = unescaped(word)
+    name = policies.unescaped(word)
     files = [policy.files["targets"].says] if "targets" in policy.files else []
     files += [it.says for it in policy.delegated().values()]
     return next((it for says in files for it in says["rules"] if it["name"] == name), None)
@@ -105,8 +92,8 @@ def reason(work, name, value, line, key):
         return f"it would be a violation: {plain(sentences.of_line(line))}"
     policy = policies.in_force(work)
     wanted, missing = who_is_missing(policy, counts[2], [*approvers(work, policy, name, value), key])
-    what = f"a change of {plain(unescaped(counts[1]))}" if fault == "path-rule" else "it"
-    said = f"it would be a violation: rule {plain(unescaped(counts[2]))} wants {counts[4]} of {listing(wanted)} for {what}"
+    what = f"a change of {plain(policies.unescaped(counts[1]))}" if fault == "path-rule" else "it"
+    said = f"it would be a violation: rule {plain(policies.unescaped(counts[2]))} wants {counts[4]} of {listing(wanted)} for {what}"
     if key not in policy.publics():
         return f"{said}, and your key is that of none of the policy's persons"
     who = ' or '.join(map(plain, missing)) or 'one more'
@@ -130,21 +117,12 @@ def approval_of(name, value):
 
 def rules_for(work, what):
     """The rules that a branch or a path reaches, as the program names them."""
-    lines = os.fsdecode(work.asked("explain", what)).splitlines()
-    named = {unescaped(it.split(" ")[1]) for it in lines if it.startswith("rule ")}
-    return [it for _, it in policies.in_force(work).rules() if it["name"] in named]
-
-
-def keys_in(policy, rules):
-    """The keys of those whom these rules ask."""
-    asked = {name for it in rules for name in it.get("persons", [])}
-    persons = [it for file in policy.all_files().values() for it in file.says.get("persons", []) if it["name"] in asked]
-    return {key for it in (*rules, *persons) for key in it.get("keyids", [])}
+    return policies.in_force(work).rules_named(os.fsdecode(work.asked("explain", what)))
 
 
 def keys_for(work, what):
     """The keys of those whom the rules of a branch or a path ask."""
-    return keys_in(policies.in_force(work), rules_for(work, what))
+    return policies.in_force(work).keys_in(rules_for(work, what))
 
 
 def is_sure(line, number, listed, work, name, key):
@@ -155,11 +133,11 @@ def is_sure(line, number, listed, work, name, key):
     if int(found[2]) < number:
         entry = next((it[1] for it in listed if it[0] == int(found[2])), None)
         # A recovery takes in only what is skipped.
-        return entry not in history.skipped(work.repository, listed)
+        return entry not in skipping.skips(work, listed)
     counts = COUNTS.fullmatch(found[4] or "")
     if found[3] not in ("ref-rule", "path-rule") or not counts:
         return True
-    what = f"file:{unescaped(counts[1])}" if found[3] == "path-rule" else f"git:{os.fsdecode(name)}"
+    what = f"file:{policies.unescaped(counts[1])}" if found[3] == "path-rule" else f"git:{os.fsdecode(name)}"
     return int(counts[4]) - int(counts[3]) > 1 or key not in keys_for(work, what)
 
 

@@ -8,6 +8,7 @@ those of some persons. Rule files of other names are carried along as they are.
 import base64
 import hashlib
 import json
+import os
 import re
 
 from git_gittuf import epochs, forms, history, settings, signatures
@@ -18,6 +19,7 @@ TYPE = "application/vnd.gittuf+json"
 FILES = ("root", "targets")
 ROLES = FILES
 HEXADECIMAL = re.compile("(?:[0-9a-f]{2})+")
+ESCAPED = re.compile(rb"%([0-9A-Fa-f]{2})")
 # Of LMS keys, and of keys of several levels.
 KEY_TYPES = {112: "lms", 120: "hss"}
 
@@ -98,6 +100,17 @@ class Policy:
         files = {name: file for name, file in self.all_files().items() if name != "root"}
         return [(name, it) for name, file in files.items() for it in file.says["rules"]]
 
+    def rules_named(self, lines):
+        """The rules that the program's lines on what protects a name or a path tell."""
+        named = {unescaped(it.split(" ")[1]) for it in lines.splitlines() if it.startswith("rule ")}
+        return [it for _, it in self.rules() if it["name"] in named]
+
+    def keys_in(self, rules):
+        """The keys of those whom these rules ask."""
+        asked = {name for it in rules for name in it.get("persons", [])}
+        persons = [it for file in self.all_files().values() for it in file.says.get("persons", []) if it["name"] in asked]
+        return {key for it in (*rules, *persons) for key in it.get("keyids", [])}
+
     def rule(self, name):
         return next((it for _, it in self.rules() if it["name"] == name), None)
 
@@ -130,6 +143,11 @@ class Policy:
         """The ids of the keys of these persons."""
         persons = self.persons()
         return [key for name in names for key in persons.get(name, [])]
+
+
+def unescaped(word):
+    """A name as a policy has it, of which the program escapes what is no sign of a word."""
+    return os.fsdecode(ESCAPED.sub(lambda it: bytes.fromhex(it[1].decode()), os.fsencode(word)))
 
 
 def payload_of(text):

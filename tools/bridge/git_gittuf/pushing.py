@@ -1,9 +1,10 @@
 """`git gittuf push` and `git gittuf sync`: branches go with the log that records them, or not at all."""
 
 import os
+import re
 import sys
 
-from git_gittuf import following, history, looking, names, remotes, seen, syncing, verifying
+from git_gittuf import following, history, names, remotes, seen, skipping, syncing, verifying
 from git_gittuf.hook_calls import ANYWAY
 from git_gittuf.remotes import is_before
 from git_gittuf.repository import ATTESTATIONS, LOG, POLICY, STAGED, TARGETS, ZEROS, Stopped
@@ -16,6 +17,9 @@ TRIES = 8
 # How the lines begin that hooks of git gittuf say, here and at the remote.
 HOOKS_SAY = ("git-gittuf: ", "remote: git-gittuf: ")
 OWN_NAMES = (LOG, POLICY, ATTESTATIONS, STAGED)
+# What Git says of a file by which it holds a reference while it moves it, and which stands there already.
+LOCKED = re.compile(r"Unable to create '(.*\.lock)': File exists")
+HELD = "another git is at work there, and then git gittuf push tries again; or one was killed and left it, and who keeps it removes the file"
 
 
 def remote_of(work, words):
@@ -69,7 +73,7 @@ def recorded_since(work, remote):
     found = {}
     for name in dict.fromkeys(rest[0] for _, _, kind, rest in listed[count:] if kind == b"ref"):
         value = references.get(name)
-        if (value or ZEROS) == looking.last_of(repository, listed, name) and goes_on_there(repository, remote, name, value, known):
+        if (value or ZEROS) == skipping.last_of(work, listed, name) and goes_on_there(repository, remote, name, value, known):
             found[name] = value
     return found
 
@@ -82,8 +86,7 @@ def is_there_already(repository, remote, name, value):
 def expect_recorded(work, remote, found):
     """Refuses to push what a rule protects or the log speaks of where that has it elsewhere."""
     listed = history.entries(work.asked("log")) if LOG in work.repository.references() else []
-    gone = history.skipped(work.repository, listed)
-    last = {rest[0]: rest[1] for _, it, kind, rest in listed if kind == b"ref" and it not in gone}
+    last = skipping.targets_of(work, listed)
     for name, value in found.items():
         if name in last and last[name] == (value or ZEROS) or name not in last and not (listed and verifying.is_protected(work, name)):
             continue
@@ -126,6 +129,8 @@ def pushed(work, remote, found, anyway):
     judged = [it.strip() for it in ran.lines if it.startswith(HOOKS_SAY)]
     if not refused and not judged:
         raise Stopped(f"git does not push to {plain(remote)}: {plain(said)}")
+    if locks := LOCKED.findall("\n".join(ran.lines)):
+        return False, f"{locks[0]} stands there"
     # The others are refused for these alone.
     refused = [it for it in refused if "(atomic push failed)" not in it] or refused
     why = "; ".join(it.rpartition("\t")[2] + " " + it.split("\t")[1].rpartition(":")[2] for it in refused)
@@ -156,7 +161,7 @@ def push(work, words):
             if why.startswith(HOOKS_SAY):
                 print(plain_lines(os.fsencode(why)), end="", file=sys.stderr, flush=True)
                 raise Stopped(f"{plain(remote)} gets nothing of it, for what is said above", 3)
-            way = "git gittuf doctor says more" if "refs/gittuf/" in why else "git pull brings what is there"
+            way = HELD if why.endswith(" stands there") else "git gittuf doctor says more" if "refs/gittuf/" in why else "git pull brings what is there"
             raise Stopped(f"{plain(remote)} does not take it: {plain(why)}; {way}", 3)
         say("Another was faster: what is here was recorded anew after that, and is pushed again.")
     raise Stopped(f"others were faster {TRIES} times: git gittuf push tries again", 3)

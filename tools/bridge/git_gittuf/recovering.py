@@ -2,7 +2,7 @@
 
 import os
 
-from git_gittuf import commands, history, leaves, looking, names
+from git_gittuf import commands, consents, history, leaves, looking, names, skipping
 from git_gittuf.repository import ZEROS, Stopped
 from git_gittuf.shown import plain, quoted
 from git_gittuf.telling import show, tell
@@ -25,7 +25,7 @@ def of_name(entries, name):
 def plan(work, name, number):
     """The entries that are still to be skipped, and the target whose files are wanted, or zeros for none."""
     entries = history.entries(work.asked("log"))
-    gone, own = history.skipped(work.repository, entries), of_name(entries, name)
+    gone, own = skipping.skips(work, entries), of_name(entries, name)
     before = [target for at, it, target in own if at < number and it not in gone]
     to_skip = [it for at, it, _ in own if at >= number and it not in gone]
     return to_skip, before[-1] if before else ZEROS
@@ -69,6 +69,8 @@ def recover(work, words):
     if not words.anyway:
         looking.expect_person(work, looking.key_id(path), "a recovery by it")
     to_skip, wanted = plan(work, name, number)
+    if to_skip and not words.anyway:
+        consents.expect_skips(work, [it.decode() for it in to_skip], looking.key_id(path))
     if to_skip:
         numbers = {it[1]: str(it[0]) for it in history.entries(work.asked("log"))}
         tell(f"{shown} stands in violation since entry {number}, and these entries of it are skipped: {', '.join(numbers[it] for it in to_skip)}")

@@ -1,6 +1,5 @@
 """The Git repository that a call works in: where it is, its references, and which objects it has."""
 
-import functools
 import os
 import re
 import subprocess
@@ -206,9 +205,10 @@ class Repository:
         self.settings = None
         self.asked("write the settings", "config", *words)
 
-    @functools.cache
     def remotes(self):
-        return [os.fsdecode(it) for it in self.asked("list the remotes", "remote").splitlines()]
+        """The remotes, by their names: those of which a setting says something."""
+        named = (it.removeprefix("remote.").rpartition(".") for it in self.all_settings() if it.startswith("remote."))
+        return sorted({name for name, dot, _ in named if dot})
 
     def head(self):
         """The reference that HEAD names, or nothing where it names a commit alone."""

@@ -74,7 +74,8 @@ def of_unlawful(name, words):
             " of gittuf.root or of gittuf.firstRoot. The first policy comes before what it is to protect: git gittuf policy apply."
         )
     if fault == "broken":
-        return f"What entry {number} recorded, or what stood before, lacks the object {words[4][:12]}: git fetch may bring it."
+        way = "git fetch may bring it, and else a git gittuf push by who recorded it"
+        return f"What entry {number} recorded, or what stood before, lacks the object {words[4][:12]}: {way}."
     if fault == "ref-rule":
         return f"Entry {number} moved {name.shown}, and of the {of_persons(words[7])} rule {words[4]} wants {words[5]} signed that."
     if fault == "path-rule":

@@ -3,7 +3,7 @@
 import os
 import re
 
-from git_gittuf import checked, commands, following, forms, history, keys, leaves, looking, names, policies, seen, signers
+from git_gittuf import checked, commands, following, forms, history, keys, leaves, looking, names, policies, seen, signers, skipping
 from git_gittuf.program import Ended
 from git_gittuf.remotes import beside, is_before
 from git_gittuf.repository import ATTESTATIONS, LOG, POLICY, STAGED, ZEROS, Stopped
@@ -126,8 +126,7 @@ def how_log_stands(work, remote):
 def targets_at(work, tip):
     """Where a log has each reference."""
     listed = history.entries(work.log_at(tip) or b"") if tip else []
-    gone = history.skipped(work.repository, listed)
-    return {rest[0]: rest[1] for _, it, kind, rest in listed if kind == b"ref" and it not in gone}
+    return skipping.targets_of(work, listed)
 
 
 def expect_no_rewriting(work, remote, value):

@@ -41,6 +41,8 @@ class Work:
         self.journal = giving.Journal(self.repository.folder)
         # Whether the store has something that Git has not, and is not made again.
         self.is_ahead = False
+        # Which entries of a log were found to be skipped.
+        self.skips = None, {}
         # What remotes have that does not fit what is here, once that was looked at: remote, name, how it stands.
         self.unfit = None
         if not reads or not self.kept.is_there() or self.kept.marks() or self.kept.is_tried() or self.journal.is_there():

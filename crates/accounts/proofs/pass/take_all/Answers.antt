@@ -7,8 +7,7 @@ use Rattle.keeper_api.proofs.Coming.{as_before_then}
 use Rattle.verify_ref.specs.Logs.{AreEntries}
 use Rattle.verify_ref.specs.Reading.{extending_reads}
 use Rattle.verify_ref.proofs.Growing.{reads_more}
-use Rattle.verify_ref.proofs.Walking.{unbroken}
-use Rattle.accounts.proofs.Walked.{judged_next}
+use Rattle.accounts.proofs.Walked.{judged_next, unbroken_front}
 use Rattle.accounts.proofs.pass.take_all.Goals as goal
 
 pub ids-init : goal.ids-init
@@ -43,9 +42,9 @@ ids-preserved g c = record {
 }
 
 pub returns-in-Err-clause-unbroken : goal.returns-in-Err-clause-unbroken
-returns-in-Err-clause-unbroken g c = λ r told is_log.
+returns-in-Err-clause-unbroken g c = λ r told rest is_log.
     let was = c.ids.invariant.so r (c.take.ensures.same.content r told) in
-    unbroken (real_rules c.ids.judged.engine.rules.anchor) r c.args.ids.now c.ids.id-index c.id-item.result c.ids-test.true c.id-item.is c.ids.judged.engine.entries was.0 was.1 was.3.follows c.in-Err.fault (c.in-Err.ensures.broken r told) is_log
+    unbroken_front (real_rules c.ids.judged.engine.rules.anchor) r c.args.ids.now rest c.ids.id-index c.id-item.result c.ids-test.true c.id-item.is c.ids.judged.engine.entries was.0 was.1 was.3.follows c.in-Err.fault (c.in-Err.ensures.broken r told) is_log
 
 pub returns-clause-stands : goal.returns-clause-stands
 returns-clause-stands g c = λ r told.

@@ -1,7 +1,8 @@
 use Rattle.std.proofs.Common.{◌≡◌, take}
 use Rattle.std.specs.List.{fold}
-use Rattle.signing_persons.specs.Persons.{with_file}
+use Rattle.log_names.specs.Names.{with_name}
+use Rattle.signing_persons.specs.Persons.{file_holders}
 use Rattle.signing_persons.proofs.persons.add_files.Given as goal
 
 abbrev pub invariant-files : goal.invariant-files
-invariant-files l = l.names ≡ fold (with_file l.keys) l.fn.names (take l.file-index l.files)
+invariant-files l = l.names ≡ fold with_name l.fn.names (file_holders l.keys (take l.file-index l.files))

@@ -1,0 +1,5 @@
+mod Walked
+mod Maxima
+mod Paths
+pub mod Kept
+pub mod Same

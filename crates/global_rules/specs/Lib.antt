@@ -1,0 +1,10 @@
+-- the file of global rules of a policy
+pub mod Found
+-- the most persons of a reached rule who signed
+pub mod Greatest
+-- names for which too few signed
+pub mod Thresholds
+-- why a change breaks global rules
+pub mod Whys
+-- the same, read aloud
+pub mod Readings
