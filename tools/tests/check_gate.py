@@ -177,6 +177,40 @@ def goes_on_after_a_vain_policy(repositories):
     want(b"rule docs" in clones.gittuf("bob", "policy", "show"), True, "whether the later policy is in force")
 
 
+def keeps_approvals_recorded(repositories):
+    """approvals that no entry recorded are refused, and so is a skip by which they or a branch would stand where no entry says"""
+    clones = gated(repositories, "gated skips")
+    clones.gittuf("bob", "approve", "main", "--anyway")
+    at = clones.tip("bob", ATTESTATIONS)
+    denied(clones, "bob", "--quiet", "origin", f"{ATTESTATIONS}:{ATTESTATIONS}", part=f"tip-differs {ATTESTATIONS} kept {at} recorded 000")
+    clones.git("push", "--quiet", who="bob")
+    want(clones.tip("server.git", ATTESTATIONS), at, "where the server has the approvals")
+    clones.commit("bob")
+    clones.gittuf("bob", "record", "main")
+    clones.gittuf("bob", "push")
+    clones.git("pull", "--quiet", who="alice")
+    clones.gittuf("alice", "skip", "3")
+    denied(clones, "alice", part=f"entry 5 skips entry 3, by which {ATTESTATIONS} stands where it is: git gittuf record {ATTESTATIONS}")
+    clones.gittuf("alice", "record", ATTESTATIONS)
+    clones.git("push", "--quiet", who="alice")
+    clones.verdict("server.git", f"accepted {ATTESTATIONS} 2 entries", name=ATTESTATIONS)
+    # Of a branch too, also where its own clone refuses it, and a stranger's skip counts for nothing.
+    clones.git("fetch", "--quiet", who="mallory")
+    clones.gittuf("mallory", "skip", "4", "--anyway")
+    clones.git("push", "--quiet", "origin", f"{LOG}:{LOG}", who="mallory")
+    clones.git("fetch", "--quiet", who="bob")
+    clones.gittuf("bob", "skip", "4")
+    skipped = "entry 8 skips entry 4, by which main stands where it is: git gittuf record main"
+    denied(clones, "bob", "origin", f"{LOG}:{LOG}", part=skipped)
+    clones.gittuf("bob", "hook", "install")
+    denied(clones, "bob", "origin", f"{LOG}:{LOG}", part=skipped)
+    clones.git("revert", "--no-edit", "HEAD", who="bob")
+    clones.gittuf("bob", "record", "main")
+    clones.gittuf("bob", "push")
+    clones.verdict("server.git", f"accepted {MAIN} 3 entries")
+    clones.sound("alice", "bob")
+
+
 def takes_many_at_once(repositories):
     """64 references in one push are judged at once: branches that are recorded are taken, and with one that is not none of them is"""
     clones = gated(repositories, "gated many")
@@ -223,6 +257,7 @@ CHECKS = (
     refuses_what_is_not,
     leads_out_where_it_stood,
     goes_on_after_a_vain_policy,
+    keeps_approvals_recorded,
     takes_many_at_once,
     takes_one_of_two,
 )

@@ -30,6 +30,13 @@ def of_tip(line, numbers):
     return f"{name.shown} would {stands}, and the log has it at {recorded[:12]}: {records}"
 
 
+def of_skipped(whole, entry, annotation):
+    """Of a reference that stands where an entry put it which the push skips."""
+    name = sentences.Name(whole)
+    says = f"git gittuf record {name.word} says where it is to stand, there or elsewhere, and git gittuf push takes both along"
+    return f"entry {annotation} skips entry {entry}, by which {name.shown} stands where it is: {says}. {GIVE_UP}."
+
+
 def of_violation(line):
     """Of an entry of the push that is not lawful."""
     return f"{sentences.of_fault(line)} {GIVE_UP}."

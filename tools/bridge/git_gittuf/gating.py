@@ -1,7 +1,7 @@
 """What a push would leave, judged before it is taken: nothing of it is, where it would leave something unlawful.
 
-Each reference that a push moves is judged, and each of which its entries speak, as far as a rule protects it or the log
-speaks of it. The program judges, over the store as it would be after the push.
+Each reference that a push moves is judged, and each of which its entries speak or which they skip, as far as a rule
+protects it or the log speaks of it. The program judges, over the store as it would be after the push.
 """
 
 import os
@@ -60,13 +60,15 @@ def of_log(work, push):
 
 
 def spoken_of(work, log):
-    """The references of which the entries speak that a log has more than before."""
+    """The references of which the entries speak that a log has more than before, or say that an entry of them is skipped."""
     old, new = log
     printed = work.log_at(new) if new and old != new and work.repository.are_commits([new]) else None
     if printed is None:
         return []
     count = following.count_of(work.repository, old) if old and work.repository.are_commits([old]) else 0
-    listed = [rest[0] for _, _, kind, rest in history.entries(printed)[count:] if kind == b"ref"]
+    entries = history.entries(printed)
+    skipped = history.skipped_by(work.repository, entries[count:])
+    listed = [rest[0] for number, it, kind, rest in entries if kind == b"ref" and (number > count or it in skipped)]
     return [it for it in dict.fromkeys(listed) if it != LOG]
 
 
@@ -83,6 +85,7 @@ class Gate:
         self.count = 0 if old is None else len(self.entries) if old == new else following.count_of(work.repository, old)
         self.new = [it for it in self.entries[self.count :] if it[2] == b"ref"]
         self.recorded = {rest[0] for _, _, kind, rest in self.entries if kind == b"ref"}
+        self.skipped = self.newly_skipped()
 
     def asked(self, *words):
         status, printed = self.work.read(*words)
@@ -92,10 +95,25 @@ class Gate:
             raise Ended(words, status, printed)
         return status, printed
 
+    def newly_skipped(self):
+        """The entries that the push skips and that were not skipped before, by their references, each with who skips it."""
+        found = {}
+        if any(kind == b"skip" for _, _, kind, _ in self.entries[self.count :]):
+            skips = skipping.skips(self.work, self.entries)
+            for number, it, kind, rest in self.entries:
+                if kind == b"ref" and skips.get(it, 0) > self.count:
+                    found.setdefault(rest[0], []).append((number, rest[1], skips[it]))
+        return found
+
     def names(self):
-        """The references that are judged: those that move, and those of which new entries speak."""
-        found = dict.fromkeys([*self.push.moves, *(rest[0] for *_, rest in self.new)])
+        """The references that are judged: those that move, and those of which new entries speak or which these skip."""
+        found = dict.fromkeys([*self.push.moves, *(rest[0] for *_, rest in self.new), *self.skipped])
         return [it for it in found if it != LOG]
+
+    def stays(self, name):
+        """Whether the push leaves a reference where it is, and records nothing of it."""
+        old, new = self.push.moves.get(name, (None, None))
+        return old == new and name not in {rest[0] for *_, rest in self.new}
 
     def is_guarded(self, name):
         if name in self.recorded or name in (POLICY, ATTESTATIONS):
@@ -121,9 +139,17 @@ class Gate:
         line = os.fsdecode(printed).strip()
         if not status:
             return None
+        if name in self.skipped and self.stays(name):
+            return self.of_skipped(name, line)
         if line.startswith("tip-differs "):
             return line, gate_sentences.of_tip(line, [it[0] for it in self.new if it[3][0] == name])
         return self.of_violation(name, line)
+
+    def of_skipped(self, name, line):
+        """What stands where the push skips that it does is not to stay there; a recovery begins with skips, and goes on later."""
+        words = line.split(" ")
+        found = [it for it in self.skipped[name] if words[0] == "tip-differs" and it[1] == os.fsencode(words[3])]
+        return (line, gate_sentences.of_skipped(words[1], *found[-1][::2])) if found else None
 
     def of_odd(self, name):
         """What no log can speak of may stand where no rule protects it."""

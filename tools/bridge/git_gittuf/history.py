@@ -69,6 +69,12 @@ def skips_of(repository, listed, entry_id):
     return [found for found, _, body in bodies if entry_id in ANNOTATED.findall(body.partition(b"\n\n")[2])]
 
 
+def skipped_by(repository, listed):
+    """The ids of the entries that annotations among these say are skipped, whoever says so."""
+    bodies = repository.bodies([it[1] for it in listed if it[2] == b"skip"])
+    return {entry for _, _, body in bodies for entry in ANNOTATED.findall((body or b"").partition(b"\n\n")[2])}
+
+
 def message_of(body):
     """What an annotation says, or nothing."""
     found = MESSAGE.search(body)
