@@ -1,41 +1,23 @@
-#!/usr/bin/env python3
-"""The checks of tools/test on stores in database files, which the C library reads and writes beside the program.
+"""The checks of tools/test on stores in database files, which the C library reads and writes beside the program."""
 
-`python3 tools/tests/check_databases.py KILLS` stops so many imports and records at random, which takes longer.
-"""
-
-import contextlib
 import os
 import random
 import shutil
-import signal
-import sqlite3
 import subprocess
-import sys
 import tempfile
-import time
 
 import rows_of_entries
 from check_locks import wait_for
-from check_repositories import Repositories
-from checking import PROGRAM, Failure, in_this_run, run, want, want_run
-from made_databases import ASKED, FAULT, SCHEMA, TABLES, bytes_of, change, command, is_refused, is_sound, rows_of
+from checking import PROGRAM, run, want, want_run
+from made_databases import ASKED, FAULT, SCHEMA, TABLES, big_stream, bytes_of, change, command, is_refused, is_sound, locked, rows_of
 from made_databases import small_database, small_objects
-from made_folders import END, HEADER, IMPORTED, object_file, stream_of
+from made_folders import END, HEADER, IMPORTED
 from made_folders import command as folder_command
 
-# So many stops in the shorter run, and in the longer one.
-KILLS, MORE, BIG = 24, 60, 400
 JUDGED = rows_of_entries.ROWS[:8]
 KINDS = {b"blob": 1, b"tree": 2, b"commit": 3, b"tag": 4}
 # Who is nobody on every system, for what the owner of all files may do anyway.
 NOBODY = 65534
-
-
-def big_stream(count, size=300):
-    """A stream of so many blobs with a reference to the first."""
-    objects = sorted(object_file(b"blob", b"%d " % it * (size // 4))[::-1] for it in range(count))
-    return stream_of(objects, [(b"refs/heads/main", objects[0][0].encode())])
 
 
 def holds_what_came(repositories):
@@ -184,15 +166,6 @@ def tells_rows_of_nothing(repositories):
     is_sound(place)
 
 
-@contextlib.contextmanager
-def locked(place, how):
-    """While this lasts the C library holds the file."""
-    with contextlib.closing(sqlite3.connect(place, isolation_level=None)) as database:
-        database.execute(f"BEGIN {how}")
-        yield
-        database.execute("ROLLBACK")
-
-
 def slow_import(place, stream):
     """An import that has the database open and waits for the rest of its stream, and what it still wants."""
     pipe = subprocess.PIPE
@@ -271,84 +244,9 @@ def tells_no_room(repositories):
         want((status, errors), (4, FAULT), f"the status and errors of record with {blocks} blocks of room")
         want_run(command(place, "export"), 0, whole)
     other = repositories.path("no room at first.db")
-    want_run((*limited, "16", *command(other, "import")), 4, b"", FAULT, input=big_stream(BIG))
+    want_run((*limited, "16", *command(other, "import")), 4, b"", FAULT, input=big_stream())
     status, output, errors = run(*command(other, "export"))
     want((status, output, errors) in ((0, HEADER + END, b""), (4, b"", FAULT)), True, "whether nothing is there")
-
-
-def stopped(words, stream, seconds):
-    """Kills a program after so many seconds, and returns its status and what it had answered, where it had."""
-    process = subprocess.Popen(words, stdin=subprocess.PIPE, stdout=subprocess.PIPE, stderr=subprocess.DEVNULL)
-    try:
-        output = process.communicate(stream, timeout=seconds)[0]
-    except subprocess.TimeoutExpired:
-        process.send_signal(signal.SIGKILL)
-        output = process.communicate()[0]
-    return process.returncode, output
-
-
-def seconds_of(*words, input=b""):
-    """How long a program takes that is not stopped."""
-    start = time.monotonic()
-    want(run(*words, input=input)[0], 0, f"the status of {words[3]}")
-    return time.monotonic() - start
-
-
-def stop_imports(repositories, kills, drawn):
-    """Kills imports at random: the store is empty or whole, and whole where that was answered."""
-    stream = big_stream(BIG)
-    whole = repositories.path("counted.db")
-    seconds = seconds_of(*command(whole, "import"), input=stream)
-    ends = {"nothing": 0, "empty": 0, "whole": 0}
-    for turn in range(kills):
-        place = repositories.path(f"stopped import {turn}.db")
-        status, output = stopped(command(place, "import"), stream, drawn.uniform(0, 1.2 * seconds))
-        if not os.path.exists(place):
-            want(status != 0, True, "whether an import without a file was answered")
-            ends["nothing"] += 1
-            continue
-        found = run(*command(place, "export"))
-        want(found[0], 0, "the status of export after a stop")
-        want(found[1] in (HEADER + END, stream), True, "whether the store is empty or whole")
-        if output == IMPORTED:
-            want(found[1], stream, "the store after an answer")
-        ends["whole" if found[1] == stream else "empty"] += 1
-        is_sound(place)
-        os.remove(place)
-    return ends
-
-
-def stop_records(repositories, kills, drawn):
-    """Kills records at random, one after the other over one store: each entry that was answered is there, and none is half there."""
-    place, _ = small_database(repositories, "records.db")
-    key = repositories.path("records.key")
-    want(run(PROGRAM, "-", key, "key-gen", "10", "8")[0], 0, "the status of key-gen")
-    words = (PROGRAM, place, key, "record", "refs/heads/main")
-    seconds = seconds_of(*words)
-    logged = run(*command(place, "log"))[1].splitlines()
-    for _ in range(kills):
-        status, output = stopped(words, b"", drawn.uniform(0, 1.2 * seconds))
-        found = run(*command(place, "log"))
-        want((found[0], found[2]), (0, b""), "the status and errors of log after a stop")
-        lines = found[1].splitlines()
-        want(lines[: len(logged)], logged, "the entries before")
-        want(len(lines) - len(logged) in ((1,) if status == 0 else (0, 1)), True, f"whether {len(lines)} entries come of {len(logged)}, after {output!r}")
-        want(run(*command(place, "verify-ref", "refs/heads/main"))[0] < 2, True, "whether there is a verdict")
-        logged = lines
-    is_sound(place)
-    return len(logged)
-
-
-def stop_all(repositories, kills, seed):
-    drawn = random.Random(seed)
-    ends = stop_imports(repositories, kills // 2, drawn)
-    entries = stop_records(repositories, kills - kills // 2, drawn)
-    return ", ".join(f"{count} {end}" for end, count in ends.items()) + f", {entries} entries"
-
-
-def stops_anywhere(repositories):
-    """a kill at any moment of an import or a record leaves the store as it was or with the whole change"""
-    return stop_all(repositories, in_this_run(KILLS, MORE), 31)
 
 
 CHECKS = (
@@ -363,24 +261,4 @@ CHECKS = (
     is_one_at_a_time,
     tells_what_may_not_be_written,
     tells_no_room,
-    stops_anywhere,
 )
-
-
-def main():
-    if len(sys.argv) != 2 or not sys.argv[1].isdigit():
-        print("usage: python3 tools/tests/check_databases.py KILLS", file=sys.stderr)
-        return 2
-    seed = random.randrange(1 << 32)
-    print(f"seed {seed}", flush=True)
-    with tempfile.TemporaryDirectory(prefix="gittuf-kills-") as folder:
-        try:
-            print(stop_all(Repositories(folder), int(sys.argv[1]), seed))
-        except Failure as why:
-            print(f"FAILED   {why}")
-            return 1
-    return 0
-
-
-if __name__ == "__main__":
-    sys.exit(main())

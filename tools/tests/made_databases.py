@@ -13,6 +13,8 @@ CREATE TABLE objects (id BLOB NOT NULL PRIMARY KEY, kind INTEGER NOT NULL, body 
 CREATE TABLE refs (name BLOB NOT NULL PRIMARY KEY, id BLOB NOT NULL) STRICT;
 CREATE TABLE facts (name TEXT NOT NULL PRIMARY KEY, value INTEGER NOT NULL) STRICT;
 """
+# So many objects has a stream that takes a while.
+BIG = 400
 SCHEMA = "INSERT INTO facts (name, value) VALUES ('schema', 1)"
 ASKED = (("export",), ("verify-ref", "refs/heads/main"))
 
@@ -39,6 +41,15 @@ def change(place, *statements):
         database.commit()
 
 
+@contextlib.contextmanager
+def locked(place, how):
+    """While this lasts the C library holds the file."""
+    with contextlib.closing(sqlite3.connect(place, isolation_level=None)) as database:
+        database.execute(f"BEGIN {how}")
+        yield
+        database.execute("ROLLBACK")
+
+
 def is_sound(place):
     """Holds a database to be one that the C library finds nothing wrong with."""
     want(rows_of(place, "PRAGMA integrity_check"), [("ok",)], f"what the C library finds in {os.path.basename(place)}")
@@ -47,6 +58,12 @@ def is_sound(place):
 def bytes_of(place):
     with open(place, "rb") as file:
         return file.read()
+
+
+def big_stream(count=BIG, size=300):
+    """A stream of so many blobs with a reference to the first."""
+    objects = sorted(object_file(b"blob", b"%d " % it * (size // 4))[::-1] for it in range(count))
+    return stream_of(objects, [(b"refs/heads/main", objects[0][0].encode())])
 
 
 def small_objects():
