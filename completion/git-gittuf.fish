@@ -25,6 +25,7 @@ for it in git git-gittuf
     complete -c $it -n '__git_gittuf_is setup doctor' -f -a '(git remote 2>/dev/null)'
     complete -c $it -n '__git_gittuf_is setup' -l anew -l root -l entry
     complete -c $it -n '__git_gittuf_is doctor' -l take -l json
+    complete -c $it -n '__git_gittuf_is setup doctor' -l store -x -a 'folder database'
     complete -c $it -n '__git_gittuf_is key' -l file -l height -l width -l bottom -l id -l public
     complete -c $it -n '__git_gittuf_is record recover push approve' -f -a '(__git_gittuf_names refs/heads refs/tags)'
     complete -c $it -n '__git_gittuf_is approve' -l delete

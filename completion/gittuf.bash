@@ -58,8 +58,8 @@ _git_gittuf() {
         return
     fi
     case ${COMP_WORDS[at + 1]} in
-        setup) _gittuf_reply -W "--anew --root --entry $(git remote 2> /dev/null)" ;;
-        doctor) _gittuf_reply -W "--take --anyway --json $(git remote 2> /dev/null)" ;;
+        setup) _gittuf_reply -W "--anew --root --entry --store folder database $(git remote 2> /dev/null)" ;;
+        doctor) _gittuf_reply -W "--take --anyway --json --store folder database $(git remote 2> /dev/null)" ;;
         key) _gittuf_reply -f -W '--file --height --width --bottom --id --public' ;;
         push) _gittuf_reply -W "--anyway --remote $(_gittuf_branches)" ;;
         record | recover) _gittuf_reply -W "--anyway $(_gittuf_branches)" ;;

@@ -13,6 +13,7 @@ import re
 import sys
 
 from git_gittuf import notes, program
+from git_gittuf.files import row_of
 from git_gittuf.repository import LOG
 
 # The commands that only read, with the statuses of answers that hold as long as nothing below changes.
@@ -23,22 +24,6 @@ BROKEN = re.compile(rb"violation \S+ \d+ broken ")
 VERDICT = re.compile(rb"(?:accepted|violation|tip-differs) (\S+) [^\n]+\n")
 # What of the environment decides which program runs.
 SETTINGS = ("GITTUF_CPU", "GITTUF_BUILD", "GITTUF_PROVED_SINCE")
-
-
-def row_of(path):
-    """A file by what tells whether it is still the same one, or that there is none."""
-    try:
-        it = os.stat(path)
-    except OSError:
-        return f"{path} none"
-    return f"{path} {it.st_size} {it.st_mtime_ns} {it.st_ctime_ns} {it.st_ino}"
-
-
-def rows_of_objects(folder):
-    """The same of the files of a store's objects, by their names."""
-    with os.scandir(folder) as files:
-        found = [(it.name, it.stat(follow_symlinks=False)) for it in files]
-    return sorted([f"{name} {it.st_size} {it.st_mtime_ns} {it.st_ctime_ns} {it.st_ino}" for name, it in found])
 
 
 def is_lasting(words, status, printed):
@@ -63,8 +48,9 @@ def ids_for(words, references):
 
 
 class Answers:
-    def __init__(self, folder, kept):
-        self.path, self.kept = os.path.join(folder, "answers"), kept
+    def __init__(self, folder):
+        # Of the store, once it is known which it is.
+        self.path, self.kept = os.path.join(folder, "answers"), None
         # The sum that was made last, after so many changes, and the answers by such sums.
         self.seen, self.after, self.by_state, self.is_new = None, None, None, False
 
@@ -73,7 +59,7 @@ class Answers:
         if self.after != self.kept.changes:
             settings = [f"{it} {os.environ.get(it)!r}" for it in SETTINGS]
             # Words are texts here, and names are bytes.
-            rows = [sys.getfilesystemencoding(), *settings, *rows_of_objects(self.kept.objects), *map(row_of, program.files())]
+            rows = [sys.getfilesystemencoding(), *settings, *self.kept.rows(), *map(row_of, program.files())]
             text = "\n".join(rows).encode(errors="surrogateescape")
             self.seen, self.after = hashlib.sha256(text).hexdigest(), self.kept.changes
         return self.seen

@@ -23,7 +23,7 @@ def ahead(work, asked):
     What is kept nowhere is asked for again. Each answer is kept for the references that stand in the store while it is given.
     """
     new = [it for it in asked if work.answers.get(work.place(*it, ())) is None]
-    count = len(os.sched_getaffinity(0))
+    count = len(os.sched_getaffinity(0)) if work.kept.IS_SHARED else 1
     if len(new) < 2 or count < 2:
         return
     # Few calls want it, and it takes long to load.
@@ -34,5 +34,5 @@ def ahead(work, asked):
         words = list(dict.fromkeys(it for it, at in new if not at or at[0] in moves or work.is_standing(*at)))
         places = [work.place(it, None, ()) for it in words]
         with concurrent.futures.ThreadPoolExecutor(count) as pool:
-            for place, answer in zip(places, pool.map(lambda it: program.run(f"{work.kept.folder}/", "-", *it), words)):
+            for place, answer in zip(places, pool.map(lambda it: program.run(work.kept.for_program(), "-", *it), words)):
                 work.answers.put(place, answer)

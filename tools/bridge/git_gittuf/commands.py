@@ -2,7 +2,7 @@
 
 import os
 
-from git_gittuf import consents, copying, following, history, keys, leaves, looking, names, remotes, sentences, settings, skipping
+from git_gittuf import consents, copying, following, history, keys, leaves, looking, names, remotes, sentences, settings, skipping, stores
 from git_gittuf.program import Ended
 from git_gittuf.remotes import is_before
 from git_gittuf.repository import ATTESTATIONS, LOG, REMOTES, ZEROS, Stopped
@@ -18,10 +18,12 @@ def setup(work, words):
     if words.anew:
         work.kept.remove()
         work.kept.make()
+    if words.store:
+        stores.move(work, words.store)
     remote = remotes.remote_named(work.repository, words.remote)
     for name, value in remotes.set_up(work.repository, remote) if remote else []:
         print(f"{name} has {value}")
-    print(f"the store has {work.bring()} objects more, {work.kept.folder}")
+    print(f"the store has {work.bring()} objects more, {work.kept.place}")
     if not remote:
         say("There is no remote: after git remote add, git gittuf setup lets git push and git fetch carry the log.")
     if not keys.is_there(keys.path_of(work.repository)):

@@ -5,7 +5,7 @@ import os
 import stat
 
 import stream_format
-from git_gittuf import following, history, hook_calls, keys, leaves, names, otherwise, remotes, seen, signers, verifying, withheld
+from git_gittuf import following, history, hook_calls, keys, leaves, names, otherwise, remotes, seen, signers, stores, verifying, withheld
 from git_gittuf.remotes import beside
 from git_gittuf.repository import ATTESTATIONS, LOG, POLICY, ZEROS, Stopped
 from git_gittuf.shown import plain, quoted
@@ -144,8 +144,18 @@ def of_log(work, status, printed):
         yield f"{word} stands where no entry has it", f"git gittuf verify {quoted(word)}"
 
 
+def show_store(work, kind):
+    """Says in what the store is kept, once it is moved there where that is asked for."""
+    if kind and stores.move(work, kind):
+        say("It has all that it had, and what it was kept in before is gone.")
+    print(f"{work.kept.KIND} {plain(work.kept.place)}")
+    return 0
+
+
 def doctor(work, words):
     work.bring()
+    if words.store is not None:
+        return show_store(work, words.store)
     if words.take is not None:
         moves = following.to_take(work, words.take, words.anyway)
         work.move(moves)

@@ -70,7 +70,7 @@ def publics(work):
 
 def store_with(work, words, ids):
     """The store in which both entries stand, with their bodies."""
-    own = [*mirror_places.own_stores(work.repository), os.path.join(work.kept.folder, "")]
+    own = [*mirror_places.own_stores(work.repository), work.kept.for_program()]
     lacks = None
     for store in [mirror_places.store_at(words.source)] if words.source is not None else own:
         status, text, said = made(store, NO_KEY, *ids)

@@ -12,6 +12,7 @@ from git_gittuf.remotes import is_before
 from git_gittuf.repository import ATTESTATIONS, LOG, OWN, POLICY, TARGETS, ZEROS, Stopped
 from git_gittuf.shown import plain, plain_name
 from git_gittuf.telling import tell
+from git_gittuf.work import DAMAGED
 from stream_format import is_reference_name
 
 # The status of the program where the log is none.
@@ -213,7 +214,7 @@ def refusals(work, push):
     try:
         return judged(work, push)
     except Damaged:
-        tell("the store was damaged, and is made again from Git")
+        tell(DAMAGED)
         work.renew()
         return judged(work, push)
 

@@ -1,15 +1,16 @@
 """The store beside the repository's own objects: a kept folder as docs/FORMATS.md has it.
 
 It belongs to git-gittuf, of which one run at a time works here, and to the program that such a run starts. What is put
-in is first written beside the folder and then renamed into it, so no file in it is ever half written by this.
+in is first written beside the folder and then renamed into it, so no file in it is ever half written by this. In
+`kept_database` the same is a database, and `stores` says which of them is there.
 """
 
 import contextlib
 import os
 import re
-import subprocess
 
 import stream_format
+from git_gittuf.files import remove_tree, row_of_entry, sync, write_out
 from git_gittuf.repository import Stopped
 
 VALUE = re.compile(rb"[0-9a-f]{64}\n")
@@ -17,27 +18,14 @@ VALUE = re.compile(rb"[0-9a-f]{64}\n")
 FEW = 64
 
 
-def remove_tree(path):
-    """Removes a folder with all that is in it, where it is there."""
-    if os.path.lexists(path):
-        # It takes long to load.
-        import shutil
-
-        shutil.rmtree(path, ignore_errors=True)
-
-
-def write_out(path):
-    file = os.open(path, os.O_RDONLY)
-    try:
-        os.fsync(file)
-    finally:
-        os.close(file)
-
-
 class Kept:
+    # What such a store is called, and whether several programs may read it side by side.
+    KIND, IS_SHARED = "folder", True
+
     def __init__(self, folder):
         self.beside = folder
-        self.folder = os.path.join(folder, "kept")
+        self.folder = self.place = os.path.join(folder, "kept")
+        self.made = os.path.join(folder, "beside")
         self.objects = os.path.join(self.folder, "objects")
         self.small = os.path.join(folder, "small")
         self.trial = os.path.join(folder, "trial")
@@ -45,18 +33,59 @@ class Kept:
         # How often something here was, or may have been, changed, and how often references alone; and these as they were then.
         self.changes, self.moves, self.listed = 0, 0, (None, {})
 
+    def for_program(self):
+        """The store as a word of the program, which nobody else has open then."""
+        return f"{self.folder}/"
+
+    def let_go(self):
+        """Nothing is held open."""
+
+    def can_be_read(self):
+        """A file of a folder is read once it is asked for."""
+        return True
+
+    def rows(self):
+        """What tells whether anything in it is another: the files of its objects, by their names."""
+        with os.scandir(self.objects) as files:
+            return sorted([row_of_entry(it) for it in files])
+
+    def new_place(self):
+        """Where such a store is made beside before it is this one, as a word of the program."""
+        remove_tree(self.made)
+        return f"{self.made}/"
+
+    def take_place(self):
+        """Makes what was made beside this store, at once."""
+        sync(self.made)
+        remove_tree(self.folder)
+        os.rename(self.made, self.folder)
+        write_out(self.beside)
+        self.changes += 1
+
+    def tidy(self, *more):
+        """Takes away what a call that was stopped left of other stores."""
+        for it in ("removed", "beside", "beside.db", "beside.db-wal", "beside.db-shm", *more):
+            remove_tree(os.path.join(self.beside, it))
+
+    def mark_small(self):
+        with open(self.small, "wb"):
+            # That it is there is all that it says.
+            pass
+
     def make(self):
         self.changes += 1
-        remove_tree(os.path.join(self.beside, "removed"))
+        self.tidy("kept.db-wal", "kept.db-shm")
         if not self.is_there():
-            with open(self.small, "wb"):
-                # That it is there is all that it says.
-                pass
+            self.mark_small()
         for it in (self.objects, os.path.join(self.folder, "refs")):
             os.makedirs(it, exist_ok=True)
 
     def is_there(self):
         return os.path.isdir(self.objects)
+
+    def is_whole(self):
+        """Whether it is there, and no call that was stopped left anything to be mended."""
+        return self.is_there() and self.can_be_read() and not self.marks() and not self.is_tried()
 
     def is_small(self):
         """Whether only what judging reads was put in, which earlier stores did not keep to."""
@@ -77,6 +106,10 @@ class Kept:
         if os.path.lexists(self.folder):
             os.rename(self.folder, aside)
         remove_tree(aside)
+
+    def leave(self):
+        """Takes it away, where another store is there."""
+        self.remove()
 
     def references(self):
         """The names with their values, and None for a value that is none."""
@@ -116,17 +149,24 @@ class Kept:
 
     def read(self, object_id):
         """The kind and body of an object, which has this id."""
-        try:
-            with open(os.path.join(self.objects, object_id.decode()), "rb") as file:
-                head, _, body = file.read().partition(b"\0")
-        except FileNotFoundError:
-            raise Stopped(f"the store lacks the object {object_id.decode()}: git gittuf setup --anew makes it again") from None
-        kind = head.split(b" ")[0]
+        kept = self.text_of(object_id)
+        if kept is None:
+            raise Stopped(f"the store lacks the object {object_id.decode()}: git gittuf setup --anew makes it again")
+        kind, body = kept
         found = stream_format.hash_of(kind, len(body))
         found.update(body)
         if found.hexdigest().encode() != object_id:
             raise Stopped(f"the store's object {object_id.decode()} is damaged: git gittuf setup --anew makes it again")
         return kind, body
+
+    def text_of(self, object_id):
+        """The kind and the body that are kept under an id, or nothing."""
+        try:
+            with open(os.path.join(self.objects, object_id.decode()), "rb") as file:
+                head, _, body = file.read().partition(b"\0")
+        except FileNotFoundError:
+            return None
+        return head.split(b" ")[0], body
 
     def write(self, path, text):
         beside = os.path.join(self.beside, "new")
@@ -176,8 +216,8 @@ class Kept:
         if len(self.added) <= FEW:
             for it in self.added:
                 write_out(it)
-        elif subprocess.run(("sync", "-f", self.folder), capture_output=True).returncode:
-            os.sync()
+        else:
+            sync(self.folder)
         self.added = []
 
     def mark(self, name):

@@ -91,6 +91,18 @@ def offered(store, pieces, *words):
     return ran.returncode, printed, said.decode(errors="replace").strip()
 
 
+def piped(first, second):
+    """Gives what the program prints for these words to it for others, and returns what either says that failed, or nothing."""
+    how = {"stdout": subprocess.PIPE, "stderr": subprocess.PIPE, "pass_fds": Git.kept_open}
+    with subprocess.Popen((LAUNCHER, *first), stdin=subprocess.DEVNULL, **how) as gives:
+        with subprocess.Popen((LAUNCHER, *second), stdin=gives.stdout, **how) as takes:
+            # Where nobody takes any more, who gives is to be told.
+            gives.stdout.close()
+            said = takes.communicate()[1], gives.stderr.read()
+    ends = (first[-1], gives.returncode, said[1]), (second[-1], takes.returncode, said[0])
+    return ", ".join(f"{word} says {text.decode(errors='replace').strip() or status}" for word, status, text in ends if status)
+
+
 def ended(store, key, words, input, output, errors):
     command = (LAUNCHER, store, key, *words)
     sys.stdout.flush()

@@ -86,6 +86,11 @@ def fetched(repository, references, ids):
     return set(commits) - set(repository.asked("list what was fetched", "rev-list", "--stdin", input=lines).split())
 
 
+def of_gittuf(references):
+    """Those below refs/gittuf/, and those that remotes have there."""
+    return {name: value for name, value in references.items() if name.startswith((OWN, BESIDE))}
+
+
 def beside(remote, name):
     """Where that stands which a remote has at an own name."""
     return BESIDE + os.fsencode(remote) + name[len(OWN) - 1 :]

@@ -11,7 +11,8 @@ records each change, and everyone can verify both in a clone of one's own. Branc
 Begin
   setup [REMOTE]                make the store beside Git's objects, and let git fetch and git push carry what is below
       [--root KEYID,..]         refs/gittuf/ from and to the remote; --root keeps whose the first policy must be, --entry
-      [--entry ID] [--anew]     an entry that the log must have; --anew makes the store again from nothing
+      [--entry ID] [--anew]     an entry that the log must have; --anew makes the store again from nothing, and --store
+      [--store KIND]            keeps it in a folder or a database, the KIND, with all that it has
   key [--file PATH]             make a key, or print the line of the one that is there; PATH becomes gittuf.key, which
       [--height H] [--width W]  is ~/.local/share/gittuf/key where it is not set; with --bottom it has two levels, of
       [--bottom H]              these heights; --id and --public print a word of it
@@ -20,6 +21,7 @@ Begin
       [--anyway] [--json]       recorded here and not pushed, where another was faster, and goes to the last entry
                                 up to which the remote's log is whole, or without REMOTE the log here; entries of
                                 others it gives up only with --anyway
+  doctor --store [KIND]         say whether the store is a folder or a database, once it was moved into the KIND
 
 The policy, edited at refs/gittuf/policy-staging until it is applied
   policy init NAME              begin one: NAME signs it, by the key here

@@ -13,6 +13,7 @@ WORDS = (
     "setup", "key", "doctor", "record", "approve", "verify", "recover", "push", "sync", "skip", "note", "log", "explain",
     "report", "export", "mirror", "evidence", "policy", "hook",
 )  # fmt: skip
+STORES = ("folder", "database")
 STEPS = ("init", "person", "rotate", "rule", "show", "sign", "discard", "apply")
 
 
@@ -116,9 +117,11 @@ def words_of_begin(take):
     take["setup"].add_argument("--anew", action="store_true")
     take["setup"].add_argument("--root", type=key_ids)
     take["setup"].add_argument("--entry", type=entry_id)
+    take["setup"].add_argument("--store", choices=STORES)
     key_words(take["key"])
     take["doctor"].add_argument("--take", metavar="REMOTE", nargs="?", const="")
     take["doctor"].add_argument("--json", action="store_true")
+    take["doctor"].add_argument("--store", nargs="?", const="", choices=("", *STORES))
     take["doctor"].set_defaults(work="doctor.doctor")
     policy_words(take["policy"])
 

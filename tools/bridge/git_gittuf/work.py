@@ -5,9 +5,8 @@ import errno
 import os
 import sys
 
-from git_gittuf import copying, damage, following, giving, history, program, remotes, targets
+from git_gittuf import copying, damage, following, giving, history, program, remotes, stores, targets
 from git_gittuf.answers import LASTING, Answers
-from git_gittuf.kept import Kept
 from git_gittuf.locking import ALONE, BESIDE, Lock, seconds_to_wait
 from git_gittuf.program import Ended
 from git_gittuf.repository import LOG, OWN, Repository, Stopped
@@ -15,12 +14,8 @@ from git_gittuf.telling import tell
 
 # The status of the program where the log is none.
 BROKEN = 3
+DAMAGED = "the store was damaged, and is made again from Git"
 READ_ONLY = (errno.EACCES, errno.EPERM, errno.EROFS)
-
-
-def of_gittuf(references):
-    """Those below refs/gittuf/, and those that remotes have there."""
-    return {name: value for name, value in references.items() if name.startswith((OWN, remotes.BESIDE))}
 
 
 class Work:
@@ -28,16 +23,15 @@ class Work:
 
     def __init__(self, reads=False):
         self.repository = Repository()
+        self.kept, self.answers = None, Answers(self.repository.folder)
         try:
             os.makedirs(self.repository.folder, exist_ok=True)
             self.lock = Lock(self.repository.folder, seconds_to_wait(self.repository))
-            self.lock.take(BESIDE if reads else ALONE)
+            self.take_lock(BESIDE if reads else ALONE)
         except OSError as error:
             if error.errno not in READ_ONLY:
                 raise
             raise Stopped(f"{error.filename} cannot be written: git clone it, and verify it there") from None
-        self.kept = Kept(self.repository.folder)
-        self.answers = Answers(self.repository.folder, self.kept)
         self.journal = giving.Journal(self.repository.folder)
         # Whether the store has something that Git has not, and is not made again.
         self.is_ahead = False
@@ -45,16 +39,31 @@ class Work:
         self.skips = None, {}
         # What remotes have that does not fit what is here, once that was looked at: remote, name, how it stands.
         self.unfit = None
-        if not reads or not self.kept.is_there() or self.kept.marks() or self.kept.is_tried() or self.journal.is_there():
+        if not reads or not self.kept.is_whole() or self.journal.is_there():
             with self.alone():
                 self.mend()
+
+    def take_lock(self, how):
+        """Takes the lock, alone where programs cannot read the store side by side, and looks which store is there by then."""
+        self.lock.take(how)
+        self.look_at_store()
+        if how != ALONE and not self.kept.IS_SHARED:
+            self.lock.take()
+            self.look_at_store()
+
+    def look_at_store(self):
+        """Looks whether the store is a folder or a database, which another call may have changed."""
+        found = stores.found(self.repository.folder)
+        if self.kept is None or found.KIND != self.kept.KIND:
+            found.changes = self.kept.changes + 1 if self.kept else 0
+            self.kept = self.answers.kept = found
 
     @contextlib.contextmanager
     def alone(self):
         """Lets a call that reads beside others change something, once these have ended."""
         held = self.lock.how
         if held != ALONE:
-            self.lock.take()
+            self.take_lock(ALONE)
             # Others may have changed something until then.
             self.kept.changes += 1
             self.repository.listed = None
@@ -62,7 +71,8 @@ class Work:
             yield
         finally:
             if held != ALONE:
-                self.lock.take(held)
+                # It stays alone where programs cannot read the store side by side.
+                self.take_lock(held if self.kept.IS_SHARED else ALONE)
                 self.kept.changes += 1
                 self.repository.listed = None
 
@@ -90,6 +100,9 @@ class Work:
         if "commit.lock" in marks and noted or self.kept.is_tried():
             # The program was stopped in a change, and may have left files half written; or a trial left what Git has not.
             self.kept.remove()
+        elif self.kept.is_there() and not self.kept.can_be_read():
+            tell(DAMAGED)
+            self.kept.remove()
         self.kept.end_trial()
         self.kept.unmark()
         self.kept.make()
@@ -105,7 +118,7 @@ class Work:
         """Makes the store what Git is, after the own references went on where they may. Returns how many objects came."""
         self.repository.listed = None
         wanted = copying.of_store(self.repository)
-        changed = of_gittuf(wanted) != of_gittuf(self.kept.references())
+        changed = remotes.of_gittuf(wanted) != remotes.of_gittuf(self.kept.references())
         count = self.copy(extra, maybe)
         if self.unfit is None and self.follow(changed):
             count += self.copy()
@@ -122,12 +135,13 @@ class Work:
     @contextlib.contextmanager
     def unlocked(self):
         """Lets others work here while git talks with a remote, whose hooks may call git gittuf too."""
+        self.kept.let_go()
         self.lock.give_back()
         try:
             yield
         finally:
             # It only changes what others changed as well, and never while they do.
-            self.lock.take()
+            self.take_lock(ALONE)
             self.kept.changes += 1
             # What lacked may have come.
             self.repository.epochs, self.repository.listed = {}, None
@@ -216,7 +230,7 @@ class Work:
         if found is None:
             place, found = self.read_anew(words, at, objects)
             if not self.is_ahead and damage.is_in_store(self, *found):
-                tell("the store was damaged, and is made again from Git")
+                tell(DAMAGED)
                 self.renew()
                 place, found = self.read_anew(words, at, objects)
             self.answers.put(place, found)
@@ -225,9 +239,9 @@ class Work:
     def read_anew(self, words, at, objects):
         """What the program answers, and where that is kept, as the store is while the program looks at it."""
         if not at:
-            return self.place(words, at, objects), program.run(f"{self.kept.folder}/", "-", *words)
+            return self.place(words, at, objects), program.run(self.kept.for_program(), "-", *words)
         with self.standing_at({at[0]: at[1]}, objects):
-            return self.place(words, None, objects), program.run(f"{self.kept.folder}/", "-", *words)
+            return self.place(words, None, objects), program.run(self.kept.for_program(), "-", *words)
 
     def is_standing(self, name, value):
         """Whether a reference stands there in the store, or nowhere where that is none."""
@@ -237,7 +251,7 @@ class Work:
         if words[0] in LASTING:
             return self.read(*words)
         self.kept.changes += 1
-        return program.run(f"{self.kept.folder}/", key, *words, input=input, **how)
+        return program.run(self.kept.for_program(), key, *words, input=input, **how)
 
     def asked(self, *words, key="-", input=b""):
         """What the program prints, or the end of the call with the program's status."""
@@ -249,7 +263,7 @@ class Work:
     def told(self, *words, key, input=b""):
         """The same with what the program says of an error, as its status, what it printed, and that."""
         self.kept.changes += 1
-        return program.told(f"{self.kept.folder}/", key, *words, input=input)
+        return program.told(self.kept.for_program(), key, *words, input=input)
 
     def own_in_store(self):
         return {name: value for name, value in self.kept.references().items() if name.startswith(OWN)}
@@ -281,3 +295,4 @@ class Work:
         """Keeps what the program answered for the next call, of which nothing that was said depends."""
         with contextlib.suppress(OSError):
             self.answers.write()
+        self.kept.let_go()
