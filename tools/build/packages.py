@@ -69,6 +69,11 @@ def asked(*words):
     return output.decode().strip()
 
 
+def has_commit(commit):
+    """Whether a commit is in this repository: one of a history that was given up is not."""
+    return git("-C", TOP, "cat-file", "-e", f"{commit}^{{commit}}")[0] == 0
+
+
 def text_of(*path):
     with open(os.path.join(TOP, *path), "rb") as file:
         return file.read()
