@@ -1,5 +1,6 @@
 -- What stands for the global rules of the policy that is in force behind the entries of a log.
-use Rattle.std.specs.Prelude.{◌&&◌, ◌++◌, ◌∷◌, [], ℕ, Bool, true, false, List, Option, Some, None, if◌then◌else◌, unwrap_or}
+use Rattle.std.specs.Prelude.{◌&&◌, ◌++◌, ◌∷◌, [], ℕ, Bool, true, false, List, Option, Some, None}
+use Rattle.std.specs.Prelude.{if◌then◌else◌, unwrap_or}
 use Rattle.git_object.specs.References.{policy_name}
 use Rattle.git_object.specs.Repository.{Repository}
 use Rattle.rsl_chain.specs.Entries.{Taken, is_of, target_of}
