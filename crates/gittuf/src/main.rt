@@ -6,9 +6,11 @@
 
 mod hints;
 mod needs;
+mod serving;
 
 use crate::hints::{hint_at_shared_key, hint_at_slow_key};
 use crate::needs::{Needs, needs_of};
+use crate::serving::serve_after;
 use command_words::{FrontWords, KeyPlace, after_places};
 use edge_io::{Failed, FileDisk, MemDisk, OsClock, OsEntropy, StdSink, StdSource};
 use either_kind::EitherDisk;
@@ -17,7 +19,10 @@ use gittuf_cli::{Outside, run};
 use octets::Octets;
 use program_start::words_of;
 use program_stores::{AnyKeeper, end_store, open_store};
+use std::net::{Net, TcpListener, TcpStream};
 use std::process::ExitCode;
+use std::sync::Wait;
+use std::thread::Threads;
 
 // What a key file in memory has room for: the bytes of the largest key file and of its marks, and the calls of a
 // command.
@@ -77,20 +82,30 @@ fn run_over(
 }
 
 // Opens the store first and then the key file, runs the command over them, and ends the use of the store.
-fn run_command(rt: &HostRuntime, places: FrontWords, needs: &Needs) -> u8 {
+fn run_command<W: Threads + Wait + Sync + Net<Listener = TcpListener, Stream = TcpStream>>(
+    rt: &HostRuntime,
+    threads: &W,
+    places: FrontWords,
+    needs: &Needs,
+) -> u8 {
     let keeper = match open_store(rt, places.store, needs.change) {
         Ok(keeper) => keeper,
         Err(status) => return status,
     };
-    let (status, keeper) = match open_key(rt, places.key, needs) {
+    let (status, mut keeper) = match open_key(rt, places.key, needs) {
         Ok(disk) => run_over(rt, places.command, keeper, disk),
         Err(refusal) => (refuse(rt, refusal), keeper),
     };
+    let status = serve_after(rt, threads, places.command, &mut keeper, status);
     end_store(rt, keeper, status)
 }
 
 // Reads what the words ask for, and does it.
-fn start(rt: &HostRuntime, words: &[String]) -> u8 {
+fn start<W: Threads + Wait + Sync + Net<Listener = TcpListener, Stream = TcpStream>>(
+    rt: &HostRuntime,
+    threads: &W,
+    words: &[String],
+) -> u8 {
     let Some(places) = after_places(words) else {
         return refuse(rt, Refusal::Words);
     };
@@ -98,14 +113,14 @@ fn start(rt: &HostRuntime, words: &[String]) -> u8 {
         return refuse(rt, Refusal::Words);
     }
     match needs_of(rt.alloc(), places.command) {
-        Ok(needs) => run_command(rt, places, &needs),
+        Ok(needs) => run_command(rt, threads, places, &needs),
         Err(refusal) => refuse(rt, refusal),
     }
 }
 
 fn main(rt: HostRuntime) -> ExitCode {
     let status = match words_of(&rt) {
-        Ok(words) => start(&rt, words.as_slice()),
+        Ok(words) => start(&rt, &rt, words.as_slice()),
         Err(refusal) => refuse(&rt, refusal),
     };
     ExitCode::from(status)
