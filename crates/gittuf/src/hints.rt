@@ -30,7 +30,7 @@ pub(crate) fn hint_at_slow_key(rt: &HostRuntime, needs: &Needs) {
 }
 
 /// Tells where the desk is asked, and how it is stopped.
-pub(crate) fn hint_at_desk(rt: &HostRuntime, _port: u16) {
+pub(crate) fn hint_at_desk(rt: &HostRuntime) {
     hint(
         rt,
         b"gittuf: the desk is open on this machine; Ctrl-C stops it\n",

@@ -92,11 +92,11 @@ fn run_command<W: Threads + Wait + Sync + Net<Listener = TcpListener, Stream = T
         Ok(keeper) => keeper,
         Err(status) => return status,
     };
-    let (status, mut keeper) = match open_key(rt, places.key, needs) {
+    let (status, keeper) = match open_key(rt, places.key, needs) {
         Ok(disk) => run_over(rt, places.command, keeper, disk),
         Err(refusal) => (refuse(rt, refusal), keeper),
     };
-    let status = serve_after(rt, threads, places.command, &mut keeper, status);
+    let (status, keeper) = serve_after(rt, threads, places.command, keeper, status);
     end_store(rt, keeper, status)
 }
 
