@@ -161,7 +161,7 @@ def takes_what_was_proved(repositories):
     with open(os.path.join(environment["PATH"], "rt"), "w", encoding="utf-8") as file:
         file.write("#!/bin/sh\necho a kit\n")
     os.chmod(file.name, 0o755)
-    programs = [os.path.join(top, it) for it in (BUILT, SMALL_BUILT)]
+    build, *programs = [os.path.join(top, it) for it in ("tools/build/build-program", BUILT, SMALL_BUILT)]
     listed, sources, cpu = (os.path.join(top, f"{BUILT}.{it}") for it in ("files", "sources", "cpu"))
 
     def want_taken(is_taken, since=None, **more):
@@ -169,6 +169,8 @@ def takes_what_was_proved(repositories):
             if os.path.exists(path):
                 os.remove(path)
         more.update({"GITTUF_PROVED_SINCE": str(since)} if since else {})
+        told = subprocess.run((build, "--programs"), capture_output=True, env={**environment, **more}, check=False).stdout.decode().splitlines()
+        want(f"program {programs[0]}" in told, is_taken, f"whether the next program to run is told to be this one with {more}")
         wanted = (0, ACCEPTED) if is_taken else (4, b"")
         want(judged_in(top, {**environment, **more})[:2], wanted, f"what is answered with {more}")
         want(os.path.exists(sources), is_taken, f"whether the sum of the sources is there with {more}")

@@ -66,8 +66,13 @@ def shared():
         cache = os.path.join(os.path.realpath(folder), "cache")
         os.mkdir(cache)
         compiled = os.path.join(cache, "gittuf", "python")
-        os.environ.update({SHARED: folder, PROGRAMS: "\n".join((PROGRAM, SMALL_PROGRAM)), "XDG_CACHE_HOME": cache, "PYTHONPYCACHEPREFIX": compiled})
+        os.environ.update({SHARED: folder, "XDG_CACHE_HOME": cache, "PYTHONPYCACHEPREFIX": compiled})
         yield
+
+
+def share_programs():
+    """Tells the topics of a run which programs run. Only the launcher's first call may have made them, or seen that they are proved."""
+    os.environ[PROGRAMS] = "\n".join(programs())
 
 
 def shared_folder():
