@@ -2,12 +2,10 @@
 -- says.
 use Rattle.std.specs.Prelude.{◌≡◌, ◌≤◌, ◌∷◌, [], ℕ, List, codes, decimal, drop, length, map}
 use Rattle.httparse.specs.Grammar.{ReadsResponse, ResponseHead, print_response}
-use Rattle.httparse.specs.Spans.{IsResponseAt, IsResponseWithin, name_and_value, span_bytes}
+use Rattle.httparse.specs.Spans.{IsResponseAt, IsResponseWithin, name_and_value}
 use Rattle.httparse.specs.declared.spans.HeaderSpan.{HeaderSpan}
 use Rattle.httparse.specs.declared.spans.ResponseSpans.{ResponseSpans}
 use Rattle.desk_requests.specs.Lengths.{values_of}
-use Rattle.desk_client.specs.declared.fields.Named.{Named}
-use Rattle.desk_client.specs.declared.fields.Named.TheVariants.{No, Once, Often}
 
 -- the most bytes of a head
 abbrev pub largest_head : ℕ
@@ -48,9 +46,3 @@ pub record IsHeadAt (bytes : List ℕ) (fields : List HeaderSpan) (spans : Respo
   pub has : HasHead bytes head (drop spans.len bytes)
   pub places : IsResponseAt bytes fields spans head
   pub within : IsResponseWithin bytes fields spans
-
--- there is no value, or the one at this place, or there are more
-abbrev pub IsOnly : List ℕ → List (List ℕ) → Named → Type 0
-IsOnly bytes values No = values ≡ []
-IsOnly bytes values (Once place) = values ≡ span_bytes bytes place ∷ []
-IsOnly bytes values Often = (a : List ℕ) × (b : List ℕ) × (rest : List (List ℕ)) × (values ≡ a ∷ b ∷ rest)

@@ -16,7 +16,7 @@ const LARGEST_LENGTH: u64 = 0x7fff_ffff_ffff_ffff;
 pub(crate) struct BadLength;
 
 /// The bytes between two places, as far as there are any.
-pub(crate) fn part_at(bytes: &[u8], span: Span) -> &[u8]
+pub fn part_at(bytes: &[u8], span: Span) -> &[u8]
     ensures { result.now ≡ span_bytes bytes.now span }
 {
     let end = span.end.min(bytes.len());
@@ -31,11 +31,10 @@ fn is_named(bytes: &[u8], field: HeaderSpan, name: &[u8]) -> bool
     name.eq_ignore_ascii_case(part_at(bytes, field.name))
 }
 
-// What the fields of a name come to.
+/// What the fields of a name come to: none has it, one has it with its value at this place, or several have it.
 #[derive(Clone, Copy, Drop)]
-enum Named {
+pub enum Named {
     No,
-    // Where the value of the only one is.
     Once(Span),
     Often,
 }
@@ -63,8 +62,8 @@ fn with_field(bytes: &[u8], found: Named, field: HeaderSpan, name: &[u8]) -> Nam
     found
 }
 
-// What the fields of this name come to.
-fn only_named(bytes: &[u8], fields: &[HeaderSpan], name: &[u8]) -> Named
+/// What the fields of this name come to, whatever the case of its letters.
+pub fn only_named(bytes: &[u8], fields: &[HeaderSpan], name: &[u8]) -> Named
     ensures { IsOnly bytes.now (values_of name.now (pairs_at bytes.now fields.now)) result }
 {
     let mut found = Named::No;

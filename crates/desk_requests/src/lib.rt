@@ -13,5 +13,6 @@ mod reading;
 mod requests;
 mod routes;
 
+pub use fields::{Named, only_named, part_at};
 pub use reading::read_request;
 pub use requests::{Asked, Refusal};

@@ -32,7 +32,7 @@ numbers_of (Serve p w c) = Some (record { port = p; workers = w; connections = c
 -- the words ask for a command with these numbers, or for none
 abbrev pub AreOfWords : List (List ℕ) → Option ServeWords → Type 0
 AreOfWords words found = ((command : Command) × IsCommand words command × (found ≡ numbers_of command))
-  ⊎ (IsNoCommand words × (found ≡ None))
+    ⊎ (IsNoCommand words × (found ≡ None))
 
 -- each number is within its limits
 pub record AreWithin (asked : ServeWords) : Type 0 where

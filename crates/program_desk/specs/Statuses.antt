@@ -5,7 +5,8 @@ use Rattle.endings.specs.declared.ending.Ending.TheVariants as ending
 use Rattle.endings.specs.declared.ending.Part.TheVariants as part
 use Rattle.endings.specs.declared.ending.Refusal.TheVariants as refusal
 use Rattle.desk_http.specs.declared.faults.DeskFault.{DeskFault}
-use Rattle.desk_http.specs.declared.faults.DeskFault.TheVariants.{LogBroken, KeeperFailed, NoListener, DoorFailed, Memory}
+use Rattle.desk_http.specs.declared.faults.DeskFault.TheVariants.{LogBroken, KeeperFailed, NoListener}
+use Rattle.desk_http.specs.declared.faults.DeskFault.TheVariants.{DoorFailed, Memory}
 
 -- a log that breaks ends as it does for every command; a port that is not to be had, and a worker to whom no connection
 -- comes, are faults of what comes in

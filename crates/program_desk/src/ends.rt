@@ -11,7 +11,11 @@ use std::io::Write;
 
 /// Says why a desk is not open or serves no more, where that can be written, and answers the program's status. The
 /// commit at which the log breaks is said on standard output, by the line of every command.
-pub fn say_end<O: Write + Drop, E: Write + Drop>(out: O, faults_out: E, end: Result<(), DeskFault>) -> u8
+pub fn say_end<O: Write + Drop, E: Write + Drop>(
+    out: O,
+    faults_out: E,
+    end: Result<(), DeskFault>,
+) -> u8
     ensures { result ≡ end_status end }
 {
     match end {

@@ -9,7 +9,8 @@ use command_words::{Command, WordsFault, read_command};
 use endings::Refusal;
 use std::alloc::Global;
 
-/// The numbers of a `serve` command: the port, how many workers a desk has, and how many connections each of them serves.
+/// The numbers of a `serve` command: the port, how many workers a desk has, and how many connections each of them
+/// serves.
 #[derive(Clone, Copy, Debug)]
 pub struct ServeWords {
     pub port: u16,

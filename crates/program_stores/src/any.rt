@@ -9,11 +9,13 @@ use sqlite::{File, FileStore};
 use std::alloc::Global;
 
 /// A store in memory, in a folder, or in a database file, by its kind.
-pub(crate) type Kinds =
-    EitherKeeper<MemKeeper, EitherKeeper<DirKeeper, SqlKeeper<FileStore<File>>>>;
+pub(crate) type Kinds = EitherKeeper<
+    MemKeeper,
+    EitherKeeper<DirKeeper, SqlKeeper<FileStore<File>>>,
+>;
 
-/// A store in memory, in a folder, or in a database file. Each call is that of the store that it is, and each promise is
-/// that store's.
+/// A store in memory, in a folder, or in a database file. Each call is that of the store that it is, and each promise
+/// is that store's.
 #[derive(Drop)]
 pub struct AnyKeeper {
     pub(crate) kind: Kinds,
