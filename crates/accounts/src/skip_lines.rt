@@ -21,24 +21,16 @@ use keeper_api::Keeper;
 use octets::{Memory, Octets};
 use policy_epochs::Policy;
 use ref_patterns::Space;
-use root_metadata::Keys;
 use rsl_chain::{Entry, EntryBody, LogFault, read_entry};
 use rule_delegations::Rules;
 use std::alloc::Global;
+use would_be::is_key_of;
 
 /// The line that says whether an annotation would skip an entry, with its line feed, and whether it would.
 #[derive(Drop)]
 pub struct ToldSkip {
     pub line: Octets,
     pub skips: bool,
-}
-
-// Whether an id is that of one of the keys.
-fn is_key_of(keys: &Keys, id: &KeyId) -> bool
-    ensures { result ≡ is_key_of keys.now id.now }
-{
-    let keys = keys.as_slice();
-    keys.iter().any(|key| key.id.as_bytes() == id.as_bytes())
 }
 
 // Whether a key may act for a reference.

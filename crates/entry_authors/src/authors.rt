@@ -14,8 +14,8 @@ fn strip<'a>(line: &'a [u8], word: &[u8]) -> Option<&'a [u8]>
     strip_front(line, word)
 }
 
-/// What stands behind `author ` in the first line that begins so of the bytes of an entry that are signed, lent; each
-/// entry that was read has such a line.
+/// What stands behind `author ` in the first line that begins so of the bytes of an entry that are signed, lent; None
+/// where no line does.
 pub fn author(signed: &[u8]) -> Option<&[u8]>
     ensures { option_copied result ≡ author_of signed.now }
 {

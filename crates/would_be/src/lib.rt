@@ -13,3 +13,4 @@ mod telling;
 
 pub use finding::would;
 pub use proposals::{Proposed, Stood, Would};
+pub use signing::is_key_of;

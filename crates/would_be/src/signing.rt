@@ -19,8 +19,8 @@ use policy_epochs::Policy;
 use root_metadata::{KeyIds, Keys, id_set};
 use std::alloc::Global;
 
-// Whether an id is that of one of the keys.
-fn is_key_of(keys: &Keys, id: &KeyId) -> bool
+/// Whether an id is that of one of the keys.
+pub fn is_key_of(keys: &Keys, id: &KeyId) -> bool
     ensures { result ≡ is_key_of keys.now id.now }
 {
     let keys = keys.as_slice();
