@@ -1,5 +1,12 @@
 //! Stores in memory, in folders and in database files as one type of store.
 
+ghost use Rattle.std.specs.Prelude.{None, false, true, refl};
+ghost use Rattle.std.proofs.lemmas.Bool.{false≢true};
+ghost use Rattle.std.proofs.Math.Nat.{le_refl};
+ghost use Rattle.keeper_api.specs.Keepers.{same_tells};
+ghost use Rattle.either_kind.specs.Keepers.{comes_of_itself, tells_of_kind};
+ghost use Rattle.program_stores.specs.Telling.{tells_nothing};
+
 use either_kind::EitherKeeper;
 use git_object::{Object, ObjectId, RefName};
 use keeper_api::{Change, Keeper, KeeperFault, MemKeeper, RefValue};
@@ -8,14 +15,15 @@ use keeper_sqlite::SqlKeeper;
 use sqlite::{File, FileStore};
 use std::alloc::Global;
 
-/// A store in memory, in a folder, or in a database file, by its kind.
-pub(crate) type Kinds = EitherKeeper<
-    MemKeeper,
-    EitherKeeper<DirKeeper, SqlKeeper<FileStore<File>>>,
->;
+type Database = SqlKeeper<FileStore<File>>;
 
-/// A store in memory, in a folder, or in a database file. Each call is that of the store that it is, and each promise
-/// is that store's.
+type Kept = EitherKeeper<DirKeeper, Database>;
+
+/// A store in memory, in a folder, or in a database file, by its kind.
+pub(crate) type Kinds = EitherKeeper<MemKeeper, Kept>;
+
+/// A store in memory, in a folder, or in a database file. Each call is that of the store that it is, and so are what it
+/// holds, its faults and its reads. It tells nothing of what a stop may leave.
 #[derive(Drop)]
 pub struct AnyKeeper {
     pub(crate) kind: Kinds,
@@ -24,9 +32,9 @@ pub struct AnyKeeper {
 impl Keeper for AnyKeeper {
     ghost content = { λ k. ⟦<Kinds as Keeper>⟧.content k.kind };
 
-    ghost tells_left = { λ k. ⟦<Kinds as Keeper>⟧.tells_left k.kind };
+    ghost tells_left = { λ _. false };
 
-    ghost left = { λ k r. ⟦<Kinds as Keeper>⟧.left k.kind r };
+    ghost left = { λ _ _. ⊥ };
 
     ghost is_clean = { λ k. ⟦<Kinds as Keeper>⟧.is_clean k.kind };
 
@@ -68,9 +76,22 @@ impl Keeper for AnyKeeper {
         self.kind.faults()
     }
 
-    ghost held_is_left = { λ k r told has. ⟦<Kinds as Keeper>⟧.held_is_left k.kind r told has };
+    ghost held_is_left = { λ _ r told. absurd (false≢true told) };
 
-    ghost comes_self = { λ k. ⟦<Kinds as Keeper>⟧.comes_self k.kind };
+    ghost comes_self = { λ k. comes_of_itself ⟦<MemKeeper as Keeper>⟧.comes ⟦<Kept as Keeper>⟧.comes (λ _. tt)
+        (comes_of_itself ⟦<DirKeeper as Keeper>⟧.comes ⟦<Database as Keeper>⟧.comes (λ _. tt)
+        (λ d. record { later = le_refl d.faults; on = same_tells _ _ _ d.faults d.faults })) k.kind };
 
-    ghost comes_tells = { λ a b came. ⟦<Kinds as Keeper>⟧.comes_tells a.kind b.kind came };
+    ghost comes_tells = { λ a b came. tells_nothing (tells_of_kind
+        ⟦<MemKeeper as Keeper>⟧.comes ⟦<MemKeeper as Keeper>⟧.content ⟦<MemKeeper as Keeper>⟧.tells_left
+        ⟦<MemKeeper as Keeper>⟧.is_clean ⟦<MemKeeper as Keeper>⟧.faults
+        ⟦<Kept as Keeper>⟧.comes ⟦<Kept as Keeper>⟧.content ⟦<Kept as Keeper>⟧.tells_left
+        ⟦<Kept as Keeper>⟧.is_clean ⟦<Kept as Keeper>⟧.faults
+        (λ k l met. record { was_clean = λ now. now; content = λ now few same told. refl; left = λ now few same told. told })
+        (tells_of_kind
+        ⟦<DirKeeper as Keeper>⟧.comes ⟦<DirKeeper as Keeper>⟧.content ⟦<DirKeeper as Keeper>⟧.tells_left
+        ⟦<DirKeeper as Keeper>⟧.is_clean ⟦<DirKeeper as Keeper>⟧.faults
+        ⟦<Database as Keeper>⟧.comes ⟦<Database as Keeper>⟧.content ⟦<Database as Keeper>⟧.tells_left
+        ⟦<Database as Keeper>⟧.is_clean ⟦<Database as Keeper>⟧.faults
+        (λ k l met. same_tells None false true k.faults l.faults) (λ k l met. met.on)) a.kind b.kind came) };
 }
