@@ -87,7 +87,11 @@ impl Keeper for AnyKeeper {
         ⟦<MemKeeper as Keeper>⟧.is_clean ⟦<MemKeeper as Keeper>⟧.faults
         ⟦<Kept as Keeper>⟧.comes ⟦<Kept as Keeper>⟧.content ⟦<Kept as Keeper>⟧.tells_left
         ⟦<Kept as Keeper>⟧.is_clean ⟦<Kept as Keeper>⟧.faults
-        (λ k l met. record { was_clean = λ now. now; content = λ now few same told. refl; left = λ now few same told. told })
+        (λ k l met. record {
+          was_clean = λ now. now;
+          content = λ now few same told. refl;
+          left = λ now few same told. told;
+        })
         (tells_of_kind
         ⟦<DirKeeper as Keeper>⟧.comes ⟦<DirKeeper as Keeper>⟧.content ⟦<DirKeeper as Keeper>⟧.tells_left
         ⟦<DirKeeper as Keeper>⟧.is_clean ⟦<DirKeeper as Keeper>⟧.faults
