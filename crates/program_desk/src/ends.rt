@@ -14,15 +14,15 @@ use std::io::Write;
 pub fn say_end<O: Write + Drop, E: Write + Drop>(
     out: O,
     faults_out: E,
-    end: Result<(), DeskFault>,
+    end: &Result<(), DeskFault>,
 ) -> u8
-    ensures { result ≡ end_status end }
+    ensures { result ≡ end_status end.now }
 {
     match end {
         Ok(()) => 0,
         Err(DeskFault::LogBroken { id }) => {
             let mut sink = StdSink::new(out);
-            let _ = print_break(&mut sink, &id);
+            let _ = print_break(&mut sink, id);
             3
         }
         Err(DeskFault::KeeperFailed) => refuse(faults_out, &Refusal::Fault { part: Part::Keeper }),

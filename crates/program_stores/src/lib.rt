@@ -4,8 +4,6 @@
 
 #![tactic(auto)]
 
-mod any;
 mod opening;
 
-pub use any::AnyKeeper;
-pub use opening::{end_store, open_store};
+pub use opening::{AnyKeeper, end_store, open_store};
