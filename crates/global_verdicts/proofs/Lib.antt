@@ -1,0 +1,6 @@
+mod Rowed
+mod Founds
+mod Taking
+mod Walked
+mod Concluded
+pub mod OneGlobal
