@@ -1,7 +1,7 @@
 # Completion of fish for git gittuf. It goes into a folder of fish's completions under the name git-gittuf.fish, or is
 # sourced.
 
-set -l all_words setup key policy record approve verify recover push sync skip note log explain report export mirror evidence doctor hook
+set -l all_words setup key policy record approve verify recover push fetch sync skip note log explain report export mirror evidence doctor hook
 set -l steps init person rotate rule show sign discard apply
 
 function __git_gittuf_is
@@ -32,7 +32,9 @@ for it in git git-gittuf
     complete -c $it -n '__git_gittuf_is verify' -f -a '(__git_gittuf_names refs/heads refs/tags refs/remotes)' -l root -l pinned -l entry -l json -s v
     complete -c $it -n '__git_gittuf_is log explain' -l json -s v
     complete -c $it -n '__git_gittuf_is report' -s o -l root -l pinned
-    complete -c $it -n '__git_gittuf_is report' -l entry
+    complete -c $it -n '__git_gittuf_is push fetch sync' -l remote
+    complete -c $it -n '__git_gittuf_is push fetch' -l desk
+    complete -c $it -n '__git_gittuf_is report' -s o -l root -l pinned -l entry
     complete -c $it -n '__git_gittuf_is push sync verify report' -l remote
     complete -c $it -n '__git_gittuf_is record recover push sync approve skip note doctor' -l anyway
     complete -c $it -n '__git_gittuf_is mirror' -F -a '(git remote 2>/dev/null)' -l into

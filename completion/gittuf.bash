@@ -15,7 +15,7 @@ _gittuf() {
     case $COMP_CWORD in
         1) _gittuf_reply -d -S / -W '- --help --version'; compopt -o nospace 2> /dev/null ;;
         2) _gittuf_reply -f -W - ;;
-        3) _gittuf_reply -W 'key-gen seal snapshot record annotate approve policy-apply explain log import export demo mirror evidence-make evidence-check verify-ref' ;;
+        3) _gittuf_reply -W 'key-gen seal snapshot record annotate approve policy-apply explain log import export demo mirror evidence-make evidence-check serve verify-ref' ;;
         *)
             case ${COMP_WORDS[3]} in
                 key-gen) [ "$COMP_CWORD" -eq 4 ] && _gittuf_reply -W '5 10 15' || _gittuf_reply -W '1 2 4 8' ;;
@@ -54,16 +54,17 @@ _git_gittuf() {
         at=$((at + 1))
     done
     if [ "$((COMP_CWORD - at))" -le 1 ]; then
-        _gittuf_reply -W 'setup key policy record approve verify recover push sync skip note log explain report export mirror evidence doctor hook'
+        _gittuf_reply -W 'setup key policy record approve verify recover push fetch sync skip note log explain report export mirror evidence doctor hook'
         return
     fi
     case ${COMP_WORDS[at + 1]} in
         setup) _gittuf_reply -W "--anew --root --entry --store folder database $(git remote 2> /dev/null)" ;;
         doctor) _gittuf_reply -W "--take --anyway --json --store folder database $(git remote 2> /dev/null)" ;;
         key) _gittuf_reply -f -W '--file --height --width --bottom --id --public' ;;
-        push) _gittuf_reply -W "--anyway --remote $(_gittuf_branches)" ;;
         record | recover) _gittuf_reply -W "--anyway $(_gittuf_branches)" ;;
         approve) _gittuf_reply -W "--anyway --delete $(_gittuf_branches)" ;;
+        push) _gittuf_reply -W "--anyway --remote --desk $(_gittuf_branches)" ;;
+        fetch) _gittuf_reply -W '--desk --remote' ;;
         sync) _gittuf_reply -W '--anyway --remote' ;;
         verify) _gittuf_reply -W "--root --pinned --entry --remote -v --json $(_gittuf_branches) $(_gittuf_remote_branches)" ;;
         log) _gittuf_reply -W '-v --json' ;;

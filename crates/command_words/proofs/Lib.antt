@@ -1,5 +1,7 @@
 pub mod LetterFirst
+pub mod SameName
 pub mod OneCommand
+pub mod ServeWords
 pub mod PlainWords
 pub mod ValueWords
 pub mod Joined

@@ -1,5 +1,5 @@
 -- The same words ask for one command at most, and words after a first word are those of the command that it names.
-use Rattle.std.proofs.Common.{◌≡◌, ◌<◌, ◌≤◌, ℕ, Bool, true, false, List, ◌∷◌, length, arith, refl, sym, ap, ◌∙◌, subst, lit<}
+use Rattle.std.proofs.Common.{◌≡◌, ◌<◌, ◌≤◌, ◌^◌, ℕ, Bool, true, false, List, ◌∷◌, length, arith, refl, sym, ap, ◌∙◌, subst, lit<}
 use Rattle.std.specs.Prelude.{◌≢◌, Option, Some, None, codes, if◌then◌else◌}
 use Rattle.std.specs.Option.{IsSomeAnd}
 use Rattle.std.specs.Str.{bytes_eq}
@@ -9,62 +9,22 @@ use Rattle.git_object.proofs.IdLemmas.{id_is_lower}
 use Rattle.evidence.specs.Dossiers.{IsPublic}
 use Rattle.hex.specs.Hex.{encode_lower}
 use Rattle.command_words.specs.Ids.{AreIds}
-use Rattle.command_words.specs.Numbers.{IsCount}
+use Rattle.command_words.specs.Numbers.{IsCount, IsUpTo}
 use Rattle.command_words.specs.Spaced.{IsSpaced}
+use Rattle.command_words.proofs.SameName.{same_name, same_some}
 use Rattle.command_words.proofs.OneValue.{same_count, same_ids, same_space, same_name as same_spaced_name}
 use Rattle.command_words.specs.Commands.{IsAsked, IsRoot, IsBottom, IsKey, IsMessage, IsTarget, annotate_app, demo_app, explain_app, height_text, kind_text, width_text}
 use Rattle.command_words.specs.FirstWords.{AsksFor, AsksForNone, IsCommand, IsNoCommand, IsWithinLimits, name_text}
 use Rattle.command_words.specs.Grammars.{value_of}
 use Rattle.command_words.specs.Laws.{OneCommand}
 use Rattle.command_words.specs.declared.commands.Command.{Command}
-use Rattle.command_words.specs.declared.commands.Command.TheVariants.{VerifyRef, KeyGen, Record, Seal, Snapshot, Explain, Annotate, Approve, Demo, EvidenceMake}
+use Rattle.command_words.specs.declared.commands.Command.TheVariants.{VerifyRef, KeyGen, Record, Seal, Snapshot, Explain, Annotate, Approve, Demo, EvidenceMake, Serve}
 use Rattle.command_words.specs.declared.commands.CommandName.{CommandName}
 use Rattle.command_words.specs.declared.commands.CommandName.TheVariants as name
 use Rattle.command_words.specs.declared.commands.Height.{Height}
 use Rattle.command_words.specs.declared.commands.Height.TheVariants.{H5, H10, H15}
 use Rattle.command_words.specs.declared.commands.Width.{Width}
 use Rattle.command_words.specs.declared.commands.Width.TheVariants.{W1, W2, W4, W8}
-
--- the command that a first word names, as a function of the word
-named_by : List ℕ → Option CommandName
-named_by word = if bytes_eq word (name_text name.VerifyRef) then Some name.VerifyRef
-    else (if bytes_eq word (name_text name.Export) then Some name.Export
-    else (if bytes_eq word (name_text name.Import) then Some name.Import
-    else (if bytes_eq word (name_text name.KeyGen) then Some name.KeyGen
-    else (if bytes_eq word (name_text name.Log) then Some name.Log
-    else (if bytes_eq word (name_text name.Record) then Some name.Record
-    else (if bytes_eq word (name_text name.Seal) then Some name.Seal
-    else (if bytes_eq word (name_text name.Snapshot) then Some name.Snapshot
-    else (if bytes_eq word (name_text name.PolicyApply) then Some name.PolicyApply
-    else (if bytes_eq word (name_text name.Explain) then Some name.Explain
-    else (if bytes_eq word (name_text name.Annotate) then Some name.Annotate else (if bytes_eq word (name_text name.Approve) then Some name.Approve else (if bytes_eq word (name_text name.Demo) then Some name.Demo
-    else (if bytes_eq word (name_text name.Mirror) then Some name.Mirror
-    else (if bytes_eq word (name_text name.EvidenceMake) then Some name.EvidenceMake else Some name.EvidenceCheck))))))))))))))
-
-named_by-text : (n : CommandName) → named_by (name_text n) ≡ Some n
-unfolding named_by
-named_by-text name.VerifyRef = refl
-named_by-text name.Export = refl
-named_by-text name.Import = refl
-named_by-text name.KeyGen = refl
-named_by-text name.Log = refl
-named_by-text name.Record = refl
-named_by-text name.Seal = refl
-named_by-text name.Snapshot = refl
-named_by-text name.PolicyApply = refl
-named_by-text name.Explain = refl
-named_by-text name.Annotate = refl
-named_by-text name.Approve = refl
-named_by-text name.Demo = refl
-named_by-text name.Mirror = refl
-named_by-text name.EvidenceMake = refl
-named_by-text name.EvidenceCheck = refl
-
-same_some : {X : Type 0} (x y : X) → Some x ≡ Some y → x ≡ y
-same_some x y e = cc
-
-pub same_name : (a b : CommandName) → name_text a ≡ name_text b → a ≡ b
-same_name a b e = same_some a b (sym (named_by-text a) ∙ ap named_by e ∙ named_by-text b)
 
 -- the height that a text stands for, as a function of the text
 height_by : List ℕ → Height
@@ -174,6 +134,10 @@ same_bottom (Some text) h k None b is other = absurd is
 same_bottom (Some text) h k (Some a) None is other = absurd other
 same_bottom (Some text) h k (Some a) (Some b) is other = ap (λ (height : Height). Some height) (same_height a b (sym is.0 ∙ other.0))
 
+same_number : (most : ℕ) → most < 2 ^ 64 → (given : Option (List ℕ)) (a b : ℕ) → IsSomeAnd given (λ text. IsCount most text a) → IsSomeAnd given (λ text. IsCount most text b) → a ≡ b
+same_number most low given a b is other = of_given given (λ (text : List ℕ). IsCount most text a) (λ (text : List ℕ). IsCount most text b)
+    (λ (text : List ℕ) (one : IsCount most text a) (two : IsCount most text b). same_count most text a b low one two) is other
+
 -- behind one first word there is one command
 one_after : (first : CommandName) (rest : List (List ℕ)) (a b : Command) → AsksFor first rest a → AsksFor first rest b → a ≡ b
 one_after name.VerifyRef rest a b is other =
@@ -227,8 +191,7 @@ one_after name.Approve rest a b is other =
     let named_so : b ≡ Approve other.0 other.1 = other.2 in
     cc
 one_after name.Demo rest a b is other =
-    let same : is.0 ≡ other.0 = of_given (value_of demo_app (codes "count") rest) (λ (text : List ℕ). IsCount 500 text is.0) (λ (text : List ℕ). IsCount 500 text other.0)
-    (λ (text : List ℕ) (one : IsCount 500 text is.0) (two : IsCount 500 text other.0). same_count 500 text is.0 other.0 (omega arith) one two) is.2.counts other.2.counts in
+    let same : is.0 ≡ other.0 = same_number 500 (omega arith) _ is.0 other.0 is.2.counts other.2.counts in
     is.1 ∙ ap Demo same ∙ sym other.1
 one_after name.Mirror rest a b is other = is.0 ∙ sym other.0
 one_after name.EvidenceMake rest a b is other =
@@ -239,6 +202,13 @@ one_after name.EvidenceMake rest a b is other =
     let named_so : b ≡ EvidenceMake other.0 other.1 other.2 = other.3 in
     cc
 one_after name.EvidenceCheck rest a b is other = is.0 ∙ sym other.0
+one_after name.Serve rest a b is other =
+    let ports : is.0 ≡ other.0 = same_number 65535 (omega arith) _ is.0 other.0 is.4.is_port other.4.is_port in
+    let workers : is.1 ≡ other.1 = same_number 64 (omega arith) _ is.1 other.1 is.4.are_workers other.4.are_workers in
+    let connections : is.2 ≡ other.2 = same_number 1000000 (omega arith) _ is.2 other.2 is.4.are_connections other.4.are_connections in
+    let named : a ≡ Serve is.0 is.1 is.2 = is.3 in
+    let named_so : b ≡ Serve other.0 other.1 other.2 = other.3 in
+    cc
 
 pub one_command : OneCommand
 one_command words a b is other =
@@ -270,6 +240,10 @@ few_changes : (given : Option (List ℕ)) (count : ℕ) → IsSomeAnd given (λ 
 few_changes None count is = absurd is
 few_changes (Some text) count is = is.few
 
+up_to : (most : ℕ) (given : Option (List ℕ)) (count : ℕ) → IsSomeAnd given (λ text. IsCount most text count) → IsUpTo most count
+up_to most None count is = absurd is
+up_to most (Some text) count is = record { some = is.some; few = is.few }
+
 -- what is asked for is within its limits
 pub within_after : (first : CommandName) (rest : List (List ℕ)) (command : Command) → AsksFor first rest command → IsWithinLimits command
 within_after name.VerifyRef rest command asks = subst IsWithinLimits (sym asks.3) asks.4.named.not_log
@@ -288,3 +262,5 @@ within_after name.Demo rest command asks = subst IsWithinLimits (sym asks.1) (fe
 within_after name.Mirror rest command asks = subst IsWithinLimits (sym asks.0) tt
 within_after name.EvidenceMake rest command asks = subst IsWithinLimits (sym asks.3) asks.4.key.is_public
 within_after name.EvidenceCheck rest command asks = subst IsWithinLimits (sym asks.0) tt
+within_after name.Serve rest command asks =
+    subst IsWithinLimits (sym asks.3) (up_to 65535 _ asks.0 asks.4.is_port, up_to 64 _ asks.1 asks.4.are_workers, up_to 1000000 _ asks.2 asks.4.are_connections)

@@ -15,6 +15,7 @@ use Rattle.command_words.specs.Grammars.{Takes, bare_app, is_given, value_of}
 use Rattle.command_words.specs.Laws.{PlainWords, flag_words}
 use Rattle.command_words.specs.declared.commands.CommandName.TheVariants as name
 use Rattle.command_words.proofs.LetterFirst.{letter_first}
+use Rattle.command_words.proofs.ServeWords.{serve_asks}
 use Rattle.command_words.proofs.ValueWords.{annotate_asks, approve_asks, demo_asks, evidence_asks}
 use Rattle.command_words.specs.declared.commands.Height.{Height}
 use Rattle.command_words.specs.declared.commands.Height.TheVariants.{H5, H10, H15}
@@ -260,4 +261,10 @@ plain_words = record {
     asks = (public, left, right, refl, evidence_asks public left right is_public is_left is_right);
   };
   evidence_check = record { first = name.EvidenceCheck; rest = []; are = refl; asks = (refl, no_more (codes "evidence-check")) };
+  serve = λ port workers connections p w c. record {
+    first = name.Serve;
+    rest = decimal port ∷ decimal workers ∷ decimal connections ∷ [];
+    are = refl;
+    asks = (port, workers, connections, refl, serve_asks port workers connections p w c);
+  };
 }

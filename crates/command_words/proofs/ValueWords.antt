@@ -162,7 +162,7 @@ evidence_asks public left right is_public is_left is_right =
     key.is first.is second.is is_public is_left is_right)))
 
 -- ---- demo <count>
-of_number : (text : List ℕ) → 48 < get_or text 0 0 → Begins text
+pub of_number : (text : List ℕ) → 48 < get_or text 0 0 → Begins text
 of_number [] above = absurd (omega (arith, above))
 of_number (d ∷ rest) above = record { first = d; rest = rest; is = refl; no_dash = ne_eqb d 45 (λ same. omega (arith, above, same)) }
 

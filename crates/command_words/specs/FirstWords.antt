@@ -3,14 +3,15 @@ use Rattle.std.specs.Prelude.{◌≡◌, ◌≢◌, ◌<◌, ◌≤◌, ◌∷�
 use Rattle.git_object.specs.Names.{log_name}
 use Rattle.ref_patterns.specs.declared.space.Space.{Space}
 use Rattle.evidence.specs.Dossiers.{IsPublic}
-use Rattle.command_words.specs.Commands.{AreTwo, AsksApproval, AsksDemo, AsksDossier, AsksKey, AsksNote, AsksReasons}
-use Rattle.command_words.specs.Commands.{AsksReference, AsksSeal, AsksVerdict}
+use Rattle.command_words.specs.Commands.{AreTwo, AsksApproval, AsksDemo, AsksDossier, AsksKey, AsksNote}
+use Rattle.command_words.specs.Commands.{AsksReasons, AsksReference, AsksSeal, AsksService, AsksVerdict}
+use Rattle.command_words.specs.Numbers.{IsUpTo}
 use Rattle.command_words.specs.Grammars.{Takes, bare_app}
 use Rattle.command_words.specs.declared.commands.Command.{Command}
 use Rattle.command_words.specs.declared.commands.Command.TheVariants.{VerifyRef, Export, Import, KeyGen, Log, Record}
 use Rattle.command_words.specs.declared.commands.Command.TheVariants.{Seal, Snapshot, PolicyApply, Explain, Annotate}
 use Rattle.command_words.specs.declared.commands.Command.TheVariants.{Approve, Demo, Mirror}
-use Rattle.command_words.specs.declared.commands.Command.TheVariants.{EvidenceMake, EvidenceCheck}
+use Rattle.command_words.specs.declared.commands.Command.TheVariants.{EvidenceMake, EvidenceCheck, Serve}
 use Rattle.command_words.specs.declared.commands.CommandName.{CommandName}
 use Rattle.command_words.specs.declared.commands.CommandName.TheVariants as name
 use Rattle.command_words.specs.declared.commands.Height.{Height}
@@ -33,6 +34,7 @@ name_text name.Demo = codes "demo"
 name_text name.Mirror = codes "mirror"
 name_text name.EvidenceMake = codes "evidence-make"
 name_text name.EvidenceCheck = codes "evidence-check"
+name_text name.Serve = codes "serve"
 
 -- the words behind this first one ask for the command
 abbrev pub AsksFor : CommandName → List (List ℕ) → Command → Type 0
@@ -60,6 +62,8 @@ AsksFor name.Mirror rest command = (command ≡ Mirror) × Takes (bare_app (code
 AsksFor name.EvidenceMake rest command = (public : List ℕ) × (left : List ℕ) × (right : List ℕ)
     × (command ≡ EvidenceMake public left right) × AsksDossier public left right rest
 AsksFor name.EvidenceCheck rest command = (command ≡ EvidenceCheck) × Takes (bare_app (codes "evidence-check")) rest
+AsksFor name.Serve rest command = (port : ℕ) × (workers : ℕ) × (connections : ℕ)
+    × (command ≡ Serve port workers connections) × AsksService port workers connections rest
 
 abbrev pub AsksForNone : CommandName → List (List ℕ) → Type 0
 AsksForNone first rest = (command : Command) → AsksFor first rest command → ⊥
@@ -100,3 +104,4 @@ IsWithinLimits (Demo count) = count ≤ 500
 IsWithinLimits Mirror = Unit {0}
 IsWithinLimits (EvidenceMake public left right) = IsPublic public
 IsWithinLimits EvidenceCheck = Unit {0}
+IsWithinLimits (Serve port workers connections) = IsUpTo 65535 port × IsUpTo 64 workers × IsUpTo 1000000 connections

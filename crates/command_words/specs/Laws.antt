@@ -7,13 +7,14 @@ use Rattle.evidence.specs.Dossiers.{IsPublic}
 use Rattle.ref_patterns.specs.Patterns.{prefix}
 use Rattle.ref_patterns.specs.declared.space.Space.{Space}
 use Rattle.command_words.specs.Ids.{AreIds}
+use Rattle.command_words.specs.Numbers.{IsUpTo}
 use Rattle.command_words.specs.Commands.{AreTwo, height_text, kind_text, width_text}
 use Rattle.command_words.specs.FirstWords.{IsCommand}
 use Rattle.command_words.specs.declared.commands.Command.{Command}
 use Rattle.command_words.specs.declared.commands.Command.TheVariants.{VerifyRef, Export, Import, KeyGen, Log, Record}
 use Rattle.command_words.specs.declared.commands.Command.TheVariants.{Seal, Snapshot, PolicyApply, Explain, Annotate}
 use Rattle.command_words.specs.declared.commands.Command.TheVariants.{Approve, Demo, Mirror}
-use Rattle.command_words.specs.declared.commands.Command.TheVariants.{EvidenceMake, EvidenceCheck}
+use Rattle.command_words.specs.declared.commands.Command.TheVariants.{EvidenceMake, EvidenceCheck, Serve}
 use Rattle.command_words.specs.declared.commands.Height.{Height}
 use Rattle.command_words.specs.declared.commands.Width.{Width}
 
@@ -58,3 +59,6 @@ pub record PlainWords : Type 0 where
       → IsCommand (codes "evidence-make" ∷ encode_lower public ∷ encode_lower left ∷ encode_lower right ∷ [])
       (EvidenceMake public left right)
   pub evidence_check : IsCommand (codes "evidence-check" ∷ []) EvidenceCheck
+  pub serve : (port workers connections : ℕ) → IsUpTo 65535 port → IsUpTo 64 workers → IsUpTo 1000000 connections
+      → IsCommand (codes "serve" ∷ decimal port ∷ decimal workers ∷ decimal connections ∷ [])
+      (Serve port workers connections)

@@ -90,6 +90,13 @@ pub enum Command {
     },
     /// What the source's dossier shows.
     EvidenceCheck,
+    /// To open a desk over the store on this port of the machine, from 1 to 65,535, with this many workers, from 1 to
+    /// 64, each of which serves this many connections, from 1 to 1,000,000.
+    Serve {
+        port: u16,
+        workers: u32,
+        connections: u32,
+    },
 }
 
 /// The first word of a command.
@@ -111,4 +118,5 @@ pub enum CommandName {
     Mirror,
     EvidenceMake,
     EvidenceCheck,
+    Serve,
 }

@@ -74,5 +74,8 @@ pub(crate) fn named(word: &str) -> Option<CommandName>
     if is_word(word, "evidence-check") {
         return Some(CommandName::EvidenceCheck);
     }
+    if is_word(word, "serve") {
+        return Some(CommandName::Serve);
+    }
     None
 }

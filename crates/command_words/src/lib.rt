@@ -21,6 +21,7 @@ mod places;
 mod reading;
 mod references;
 mod sealing;
+mod serving;
 mod spaced;
 pub mod value_laws;
 mod verify_ref;

@@ -15,6 +15,7 @@ use crate::first_words::{named, split_first};
 use crate::key_types::read_key_gen;
 use crate::references::read_reference;
 use crate::sealing::read_seal;
+use crate::serving::read_serve;
 use crate::verify_ref::read_verify_ref;
 use crate::words_fault::WordsFault;
 use std::alloc::Global;
@@ -65,6 +66,7 @@ fn read_rest(alloc: Global, first: CommandName, words: &[String]) -> Result<Comm
             read_no_more(alloc, "evidence-check", words)?;
             Ok(Command::EvidenceCheck)
         }
+        CommandName::Serve => read_serve(alloc, words),
     }
 }
 

@@ -28,3 +28,11 @@ pub(crate) fn hint_at_slow_key(rt: &HostRuntime, needs: &Needs) {
         hint(rt, b"gittuf: making this key may take half a minute\n");
     }
 }
+
+/// Tells where the desk is asked, and how it is stopped.
+pub(crate) fn hint_at_desk(rt: &HostRuntime) {
+    hint(
+        rt,
+        b"gittuf: the desk is open on this machine; Ctrl-C stops it\n",
+    );
+}

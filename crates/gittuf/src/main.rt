@@ -6,15 +6,19 @@
 
 mod hints;
 mod needs;
+mod serving;
 
 use crate::hints::{hint_at_shared_key, hint_at_slow_key};
 use crate::needs::{Needs, needs_of};
+use crate::serving::desk_after;
 use command_words::{FrontWords, KeyPlace, after_places};
+use desk_http::serve_store;
 use edge_io::{Failed, FileDisk, MemDisk, OsClock, OsEntropy, StdSink, StdSource};
 use either_kind::EitherDisk;
 use endings::{Part, Refusal};
 use gittuf_cli::{Outside, run};
 use octets::Octets;
+use program_desk::say_end;
 use program_start::words_of;
 use program_stores::{AnyKeeper, end_store, open_store};
 use std::process::ExitCode;
@@ -76,37 +80,59 @@ fn run_over(
     (status, outside.keeper)
 }
 
-// Opens the store first and then the key file, runs the command over them, and ends the use of the store.
-fn run_command(rt: &HostRuntime, places: FrontWords, needs: &Needs) -> u8 {
-    let keeper = match open_store(rt, places.store, needs.change) {
-        Ok(keeper) => keeper,
-        Err(status) => return status,
-    };
-    let (status, keeper) = match open_key(rt, places.key, needs) {
-        Ok(disk) => run_over(rt, places.command, keeper, disk),
-        Err(refusal) => (refuse(rt, refusal), keeper),
-    };
-    end_store(rt, keeper, status)
+// Opens the store first and then the key file, and runs the command over them. It gives the store back with the status,
+// or the status alone where there is no store.
+fn run_command(rt: &HostRuntime, places: FrontWords, needs: &Needs) -> Result<(u8, AnyKeeper), u8> {
+    let keeper = open_store(rt, places.store, needs.change)?;
+    match open_key(rt, places.key, needs) {
+        Ok(disk) => Ok(run_over(rt, places.command, keeper, disk)),
+        Err(refusal) => Ok((refuse(rt, refusal), keeper)),
+    }
 }
 
-// Reads what the words ask for, and does it.
-fn start(rt: &HostRuntime, words: &[String]) -> u8 {
-    let Some(places) = after_places(words) else {
-        return refuse(rt, Refusal::Words);
-    };
-    if places.command.is_empty() {
-        return refuse(rt, Refusal::Words);
+// The words of a call by their places, of which a command has at least one word.
+fn places_of<'a>(rt: &HostRuntime, words: &'a [String]) -> Result<FrontWords<'a>, u8> {
+    match after_places(words) {
+        Some(places) if !places.command.is_empty() => Ok(places),
+        _ => Err(refuse(rt, Refusal::Words)),
     }
+}
+
+// Runs what the words ask for, up to where a desk is ready.
+fn start(rt: &HostRuntime, places: FrontWords) -> Result<(u8, AnyKeeper), u8> {
     match needs_of(rt.alloc(), places.command) {
         Ok(needs) => run_command(rt, places, &needs),
-        Err(refusal) => refuse(rt, refusal),
+        Err(refusal) => Err(refuse(rt, refusal)),
     }
 }
 
+// The handles for threads and sockets are those of this function alone, and so a desk is served here.
 fn main(rt: HostRuntime) -> ExitCode {
-    let status = match words_of(&rt) {
-        Ok(words) => start(&rt, words.as_slice()),
-        Err(refusal) => refuse(&rt, refusal),
+    let words = match words_of(&rt) {
+        Ok(words) => words,
+        Err(refusal) => return ExitCode::from(refuse(&rt, refusal)),
     };
-    ExitCode::from(status)
+    let places = match places_of(&rt, words.as_slice()) {
+        Ok(places) => places,
+        Err(status) => return ExitCode::from(status),
+    };
+    let (status, keeper) = match start(&rt, places) {
+        Ok(ran) => ran,
+        Err(status) => return ExitCode::from(status),
+    };
+    let (status, keeper) = match desk_after(&rt, places.command, status) {
+        Ok(asked) => {
+            let (keeper, end) = serve_store(
+                &rt,
+                rt.alloc(),
+                keeper,
+                asked.port,
+                asked.workers,
+                asked.connections,
+            );
+            (say_end(rt.stdout(), rt.stderr(), &end), keeper)
+        }
+        Err(status) => (status, keeper),
+    };
+    ExitCode::from(end_store(&rt, keeper, status))
 }

@@ -52,6 +52,13 @@ pub(crate) fn needs_of(alloc: Global, command: &[String]) -> Result<Needs, Refus
         ) => (false, false, false),
         Ok(Command::EvidenceCheck) => (false, false, false),
         Ok(
+            Command::Serve {
+                port: _,
+                workers: _,
+                connections: _,
+            },
+        ) => (true, false, false),
+        Ok(
             Command::KeyGen {
                 height,
                 width: _,

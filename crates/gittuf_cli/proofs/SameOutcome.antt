@@ -9,6 +9,8 @@ use Rattle.commands_approve.specs.Outcomes.{ApproveComes, OneOfApprovals, approv
 use Rattle.demo.specs.Contents.{DemoComes}
 use Rattle.demo.specs.Demos.{demo_ending}
 use Rattle.demo.specs.Laws.{OneOfDemo}
+use Rattle.commands_desk.specs.Laws.{OneOfServe, ServeComes}
+use Rattle.commands_desk.specs.Readying.{serve_ending}
 use Rattle.commands_log.specs.Laws.{LogComes, OneOfHistory}
 use Rattle.commands_log.specs.Logging.{log_ending}
 use Rattle.commands_keys.specs.Contents.{KeyGenComes, SealComes}
@@ -35,7 +37,7 @@ use Rattle.worlds.specs.Telling.{Content}
 use Rattle.gittuf_cli.specs.Contents.{Comes, IsSettledFor, OneOutcome}
 
 module _ (verifying : OneOfVerify) (stream : OneOfStream) (keys : OneOfKeys) (history : OneOfHistory) (log : OneOfLog) (trees : OneOfTrees)
-    (policy : OneOfPolicy) (approvals : OneOfApprovals) (mirrors : OneOfMirror) (demos : OneOfDemo) where
+    (policy : OneOfPolicy) (approvals : OneOfApprovals) (mirrors : OneOfMirror) (serves : OneOfServe) (demos : OneOfDemo) where
   one_comes : (c : Command) (content : Content) → IsSettledFor c content → (x y : Ending) → Comes c content x → Comes c content y → x ≡ y
   one_comes (command.VerifyRef name root stdin) content settled =
       one_ending verify_ending (VerifyComes name root stdin content.held content.bytes) (verifying.verify name root stdin content.held content.bytes)
@@ -57,6 +59,7 @@ module _ (verifying : OneOfVerify) (stream : OneOfStream) (keys : OneOfKeys) (hi
   one_comes command.Mirror content settled = one_ending mirror_ending (MirrorComes content.held content.bytes) (mirrors.mirror content.held content.bytes)
   one_comes (command.EvidenceMake public left right) content settled = one_ending make_ending (MakeComes content.held left right) (mirrors.make content.held left right)
   one_comes command.EvidenceCheck content settled = one_ending check_ending (CheckComes content.bytes) (mirrors.check content.bytes)
+  one_comes (command.Serve port workers connections) content settled = one_ending serve_ending (ServeComes content.held) (serves content.held)
 
   pub same_outcome : OneCommand → OneOutcome
   same_outcome commands words content a b settled (inl none) (inl also) = none.0 ∙ sym also.0

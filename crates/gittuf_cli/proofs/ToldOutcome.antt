@@ -6,6 +6,7 @@ use Rattle.endings.specs.Endings.{IsStopped}
 use Rattle.worlds.specs.Telling.{TellsEnding}
 use Rattle.worlds.specs.Worlds.{Types, Ways}
 use Rattle.commands_approve.specs.Runs as approving
+use Rattle.commands_desk.specs.Runs as desks
 use Rattle.commands_keys.specs.Runs as keys
 use Rattle.commands_log.specs.Runs as log
 use Rattle.commands_mirror.specs.Runs as mirroring
@@ -20,7 +21,8 @@ use Rattle.gittuf_cli.specs.Runs.{EndsOf, touched}
 
 module _ {types : Types} (ways : Ways types) (verifies : verifying.TellsOfWorld ways) (streams : stream.TellsOfWorld ways)
     (signs : keys.TellsOfWorld ways) (logs : log.TellsOfWorld ways) (snaps : trees.TellsOfWorld ways)
-    (applies : policy.TellsOfWorld ways) (approves : approving.TellsOfWorld ways) (mirrors : mirroring.TellsOfWorld ways) (shows : demos.TellsOfWorld ways) where
+    (applies : policy.TellsOfWorld ways) (approves : approving.TellsOfWorld ways) (mirrors : mirroring.TellsOfWorld ways) (serves : desks.TellsOfWorld ways)
+    (shows : demos.TellsOfWorld ways) where
   told_comes : (c : Command) → TellsEnding ways (touched c) (EndsOf ways c) (Comes c)
   told_comes (command.VerifyRef name root stdin) = verifies.verify name root stdin
   told_comes command.Export = streams.export
@@ -38,6 +40,7 @@ module _ {types : Types} (ways : Ways types) (verifies : verifying.TellsOfWorld 
   told_comes command.Mirror = mirrors.mirror
   told_comes (command.EvidenceMake public left right) = mirrors.make public left right
   told_comes command.EvidenceCheck = mirrors.check
+  told_comes (command.Serve port workers connections) = serves
 
   pub told_outcome : TellsOutcome ways
   told_outcome words before after ending content tells (inl none) = elim none.why [

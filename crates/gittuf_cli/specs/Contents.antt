@@ -10,6 +10,7 @@ use Rattle.endings.specs.declared.ending.Refusal.TheVariants as refusal
 use Rattle.worlds.specs.Telling.{Content, Tells}
 use Rattle.worlds.specs.Worlds.{Types, Ways, World}
 use Rattle.commands_approve.specs.Runs.{ApproveAnswers}
+use Rattle.commands_desk.specs.Runs.{ServeAnswers}
 use Rattle.commands_keys.specs.Runs.{KeyGenAnswers, SealAnswers}
 use Rattle.commands_log.specs.Runs.{LogAnswers, RecordAnswers}
 use Rattle.commands_mirror.specs.Runs.{CheckAnswers, MakeAnswers, MirrorAnswers}
@@ -39,6 +40,7 @@ Comes (command.Demo count) = DemoAnswers count
 Comes command.Mirror = MirrorAnswers
 Comes (command.EvidenceMake public left right) = MakeAnswers left right
 Comes command.EvidenceCheck = CheckAnswers
+Comes (command.Serve port workers connections) = ServeAnswers
 
 -- what is settled of the content where a command has one ending: nothing, but for the trees of a listing
 abbrev pub IsSettledFor : Command → Content → Type 0

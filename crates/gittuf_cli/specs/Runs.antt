@@ -13,6 +13,7 @@ use Rattle.worlds.specs.Running.{CountsFaults}
 use Rattle.worlds.specs.Touching.{Touched, on_key, on_listing, on_log, on_new_key, on_store, on_stream}
 use Rattle.worlds.specs.Worlds.{Types, Ways, World}
 use Rattle.commands_approve.specs.Runs.{ApproveRuns}
+use Rattle.commands_desk.specs.Runs.{ServeRuns}
 use Rattle.commands_keys.specs.Runs.{KeyGenRuns, SealRuns}
 use Rattle.commands_log.specs.Runs.{AnnotateRuns, LogRuns, RecordRuns}
 use Rattle.commands_mirror.specs.Runs.{CheckRuns, MakeRuns, MirrorRuns, on_text}
@@ -54,6 +55,7 @@ touched (command.Demo count) = on_store
 touched command.Mirror = on_stream
 touched (command.EvidenceMake public left right) = on_store
 touched command.EvidenceCheck = on_text
+touched (command.Serve port workers connections) = on_store
 
 -- what it means that a command ran to an ending
 abbrev pub EndsOf : {types : Types} → Ways types → Command → World types → World types → Ending → Type 0
@@ -73,6 +75,7 @@ EndsOf ways (command.Demo count) = DemoRuns ways count
 EndsOf ways command.Mirror = MirrorRuns ways
 EndsOf ways (command.EvidenceMake public left right) = MakeRuns ways public left right
 EndsOf ways command.EvidenceCheck = CheckRuns ways
+EndsOf ways (command.Serve port workers connections) = ServeRuns ways
 
 module _ {types : Types} (ways : Ways types) where
   -- the words ask for this command, and it ran to this ending

@@ -6,6 +6,7 @@ ghost use Rattle.worlds.specs.Worlds.{ways};
 
 use command_words::laws::one_command;
 use commands_approve::laws::{approve_over_world, one_of_approvals};
+use commands_desk::laws::{one_of_serve, serve_over_world};
 use commands_keys::laws::{keys_over_world, one_of_keys};
 use commands_log::laws::{log_over_world, one_of_history};
 use commands_mirror::laws::{mirror_over_world, one_of_mirror};
@@ -43,6 +44,7 @@ pub fn tells_outcome<W: Objects>()
     policy_over_world::<W>();
     approve_over_world::<W>();
     mirror_over_world::<W>();
+    serve_over_world::<W>();
     demo_over_world::<W>();
 }
 
@@ -61,5 +63,6 @@ pub fn one_outcome()
     one_of_policy();
     one_of_approvals();
     one_of_mirror();
+    one_of_serve();
     one_of_demo();
 }

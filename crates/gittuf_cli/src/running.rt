@@ -10,6 +10,7 @@ ghost use Rattle.gittuf_cli.specs.Runs.{Ends, EndsOf, Ran, Says};
 use crate::key_types::make_key;
 use command_words::{Command, WordsFault, read_command};
 use commands_approve::approve;
+use commands_desk::serve;
 use commands_keys::seal;
 use commands_log::{annotate, log, record};
 use commands_mirror::{evidence_check, evidence_make, mirror};
@@ -60,6 +61,11 @@ fn carry_out<W: Objects>(alloc: Global, command: &Command, outside: &mut Lent<W>
             right,
         } => evidence_make::<W>(alloc, public.as_slice(), left, right, outside),
         Command::EvidenceCheck => evidence_check::<W>(alloc, outside),
+        Command::Serve {
+            port: _,
+            workers: _,
+            connections: _,
+        } => serve::<W>(alloc, outside),
     }
 }
 

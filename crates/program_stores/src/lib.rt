@@ -4,6 +4,8 @@
 
 #![tactic(auto)]
 
+mod any;
 mod opening;
 
-pub use opening::{AnyKeeper, end_store, open_store};
+pub use any::AnyKeeper;
+pub use opening::{end_store, open_store};

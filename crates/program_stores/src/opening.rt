@@ -1,4 +1,4 @@
-//! Stores in memory, in folders and in database files as one kind of store.
+//! The store that a word names: how it is opened, and how its use ends.
 
 ghost use Rattle.std.specs.Prelude.{◌≡◌, ◌⊎◌, ◌≤◌, IfErr, IfOk};
 ghost use Rattle.endings.specs.Endings.{refusal_status};
@@ -6,6 +6,7 @@ ghost use Rattle.endings.specs.declared.ending.Part.TheVariants as part;
 ghost use Rattle.endings.specs.declared.ending.Refusal.TheVariants as refusal;
 ghost use Rattle.program_stores.specs.Opening.{IsFaultStatus, IsOfKind, IsRefusal};
 
+use crate::any::AnyKeeper;
 use command_words::Store;
 use either_kind::EitherKeeper;
 use endings::{Part, Refusal};
@@ -14,9 +15,6 @@ use keeper_directory::{DirKeeper, OpenFault};
 use keeper_sqlite::{SqlFault, SqlKeeper};
 use program_start::{refuse, refuse_schema};
 use sqlite::{File, FileStore};
-
-/// A store in memory, in a folder, or in a database file.
-pub type AnyKeeper = EitherKeeper<MemKeeper, EitherKeeper<DirKeeper, SqlKeeper<FileStore<File>>>>;
 
 const FAULT: Refusal = Refusal::Fault { part: Part::Keeper };
 
@@ -62,25 +60,26 @@ fn open_database(
 /// this is said on standard error, and the status is answered: for a database with another schema 3, with its number on
 /// that line, else that of a fault of the store or of want of memory. A store in memory is never refused.
 pub fn open_store(rt: &HostRuntime, store: Store, to_change: bool) -> Result<AnyKeeper, u8>
-    ensures kind { IfOk result (IsOfKind store.entry) }
+    ensures kind { IfOk result (λ k. IsOfKind store.entry k.kind) }
     ensures refused { IfErr result (IsRefusal store.entry) }
 {
-    match store {
-        Store::Memory => Ok(EitherKeeper::First(MemKeeper::new(rt.alloc()))),
+    let kind = match store {
+        Store::Memory => EitherKeeper::First(MemKeeper::new(rt.alloc())),
         Store::Directory(folder) => {
             let keeper = open_folder(rt, folder, to_change)?;
-            Ok(EitherKeeper::Second(EitherKeeper::First(keeper)))
+            EitherKeeper::Second(EitherKeeper::First(keeper))
         }
         Store::Database(path) => {
             let keeper = open_database(rt, path, to_change)?;
-            Ok(EitherKeeper::Second(EitherKeeper::Second(keeper)))
+            EitherKeeper::Second(EitherKeeper::Second(keeper))
         }
-    }
+    };
+    Ok(AnyKeeper { kind })
 }
 
 // Whether the use of a store ended well: a folder is unlocked, and a database's log is in its file.
 fn is_ended(rt: &HostRuntime, keeper: AnyKeeper) -> bool {
-    match keeper {
+    match keeper.kind {
         EitherKeeper::First(_) => true,
         EitherKeeper::Second(EitherKeeper::First(folder)) => folder.end(rt.alloc()).is_ok(),
         EitherKeeper::Second(EitherKeeper::Second(database)) => database.end().is_ok(),

@@ -56,7 +56,7 @@ def expect_one_log(work, anyway):
     repository = work.repository
     if LOG in repository.references() or anyway:
         return
-    for remote in remotes.remotes(repository):
+    for remote in remotes.of_git(repository):
         answers, there = remotes.asked_log(repository, remote)
         setup = f"git gittuf setup {quoted(remote)} && git fetch {quoted(remote)}"
         if there:
@@ -115,7 +115,7 @@ def record(work, words):
     if not words.anyway:
         expect_no_step_back(work, name, value)
     show(recorded_by(work, name, value, path, words.anyway))
-    carried = ", ".join(plain(it) for it in remotes.remotes(repository))
+    carried = ", ".join(plain(it) for it in remotes.of_git(repository))
     say(f"git gittuf push carries it to {carried or 'others, once there is a remote'}.")
 
 

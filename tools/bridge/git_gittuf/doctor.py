@@ -53,7 +53,9 @@ def of_lost(work, remote, value, how):
     last = seen.read(work.repository).get(remote) or value
     lost = [it for it in entries_after(work, value if how == "back" else None) if it[0] <= following.count_of(work.repository, last)]
     which = f" no longer has {signed_by(work, lost)}" if lost else " went back"
-    put_back = f"git gittuf push --remote {quoted(remote)} --anyway puts it back"
+    desk = remotes.port_of(work.repository, remote)
+    way = f"push --desk {desk}" if desk else f"push --remote {quoted(remote)} --anyway"
+    put_back = f"git gittuf {way} puts it back"
     yield f"the log of {remote}{which}", f"ask who may write to {quoted(remote)}; {put_back}"
 
 
@@ -62,20 +64,22 @@ def of_remotes(work, is_whole):
     found = remotes.remotes(repository)
     if not found:
         yield "there is no remote, so nobody gets the log from here", "git remote add origin <where> && git gittuf setup"
-    for remote in found:
+    for remote in remotes.of_git(repository):
         if remotes.lacking(repository, remote):
             yield f"git push and git fetch do not carry the log to and from {remote}", f"git gittuf setup {quoted(remote)}"
     unfit = {(remote, name): how for remote, name, how in work.unfit}
     for remote, name, own, value, how in remotes.standing(repository, repository.references()):
         shown, how = name.decode(), unfit.get((remote, name), how)
         take, back = f"git gittuf doctor --take {quoted(remote)}", set_back(remote, shown, value)
-        if how in ("same", "ahead") and name == LOG and value:
+        desk = remotes.port_of(repository, remote)
+        if how in ("same", "ahead") and name == LOG and value and not desk:
             how = "dropped" if remotes.asked_log(repository, remote) == (True, None) else how
         if how in ("back", "dropped"):
             yield from of_lost(work, remote, value, how)
         elif how == "ahead" and name == LOG and is_whole:
-            yield f"{shown} goes on here by {signed_by(work, entries_after(work, value))}", f"git push {quoted(remote)}"
-        elif how == "ahead" and name != LOG:
+            way = f"git gittuf push --desk {desk}" if desk else f"git push {quoted(remote)}"
+            yield f"{shown} goes on here by {signed_by(work, entries_after(work, value))}", way
+        elif how == "ahead" and name != LOG and not desk:
             yield f"{shown} goes on here from where {remote} has it", f"git push {quoted(remote)}"
         elif how == "apart" and name == LOG and is_whole:
             base = repository.git("merge-base", own.decode(), value.decode())[1].strip()

@@ -12,7 +12,7 @@ import re
 from git_gittuf import epochs, history, keys, policies, sentences, settings, signers, skipping
 from git_gittuf.names import HEADS, short
 from git_gittuf.program import Ended
-from git_gittuf.remotes import fetched
+from git_gittuf.remotes import fetched, of_git
 from git_gittuf.repository import ATTESTATIONS, LOG, ZEROS, Stopped
 from git_gittuf.shown import plain, quoted
 
@@ -102,7 +102,7 @@ def reason(work, name, value, line, key):
 
 def first_shown(repository, value):
     """How others get to see what they are to approve, where no remote has it."""
-    found = repository.remotes()
+    found = of_git(repository)
     if value is None or not found or not repository.are_commits([value]) or fetched(repository, repository.references(), [value]):
         return ""
     return f", once git push {quoted(found[0])} {value.decode()[:12]}:refs/heads/idea, say, has shown it"

@@ -41,10 +41,39 @@ def remotes(repository):
     return repository.remotes()
 
 
+# By this setting a remote is known for a desk, to which Git cannot talk. Its value is the port.
+DESK = "gittufdesk"
+
+
+def port_of(repository, remote):
+    """The port of the desk that a remote is, or nothing where it is one of Git's."""
+    return next(iter(repository.config(f"remote.{remote}.{DESK}")), None)
+
+
+def is_desk(repository, remote):
+    return port_of(repository, remote) is not None
+
+
+def of_git(repository):
+    """The remotes to which Git talks."""
+    return [it for it in repository.remotes() if not is_desk(repository, it)]
+
+
+def set_up_desk(repository, remote, port):
+    """Makes a remote of a desk, as Git lists it and fetches nothing of it."""
+    if repository.config(f"remote.{remote}.{DESK}") == [str(port)]:
+        return
+    repository.set(f"remote.{remote}.skipFetchAll", "true")
+    repository.set(f"remote.{remote}.{DESK}", str(port))
+    repository.forget_remotes()
+
+
 def remote_named(repository, word):
     """The remote that is meant: the named one, origin, or the only one; nothing where there is none."""
-    found = remotes(repository)
+    found = of_git(repository)
     if word and word not in found:
+        if word in repository.remotes():
+            raise Stopped(f"{plain(word)} is a desk: git gittuf push --desk PORT and git gittuf fetch --desk PORT talk with it", 3)
         raise Stopped(f"there is no remote {plain(word)}: git remote -v lists them", 3)
     if word or not found:
         return word

@@ -100,6 +100,13 @@ class Repository:
     def git(self, *words, input=b""):
         return git(*self.where, *words, input=input)
 
+    def git_of(self, file, *words):
+        """The same with an open file as standard input."""
+        with Git(*self.where, *words, input=file) as ran:
+            output = ran.output.read()
+            status, said = ran.end()
+        return status, output, said
+
     def asked(self, what, *words, input=b""):
         """What git prints, or the end of the call where it fails."""
         status, output, said = self.git(*words, input=input)
@@ -209,6 +216,10 @@ class Repository:
         """The remotes, by their names: those of which a setting says something."""
         named = (it.removeprefix("remote.").rpartition(".") for it in self.all_settings() if it.startswith("remote."))
         return sorted({name for name, dot, _ in named if dot})
+
+    def forget_remotes(self):
+        """Lets the remotes be listed anew, after one was made."""
+        Repository.remotes.cache_clear()
 
     def head(self):
         """The reference that HEAD names, or nothing where it names a commit alone."""

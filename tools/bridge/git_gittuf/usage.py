@@ -46,6 +46,10 @@ Every day
       [--delete] [--anyway]     that it may be gone, where a rule wants that of the key here
   push [BRANCH ..]              push these or the branch that is checked out, and what else is recorded since, with the
       [--remote R] [--anyway]   log, all or nothing; where another was faster it does what sync does, and pushes again
+  push --desk PORT              send the entries that the desk at this port of this machine lacks, in their order, and say
+                                for each what it answers; status 7 where it does not take one
+  fetch --desk PORT             bring what the desk has, as a remote has it, which is named desk or NAME; git fetch and
+      [--remote NAME]           git push do not talk with a desk
   sync [--remote R] [--anyway]  fetch, and where another recorded first, record what is still lawful after that anew
   recover BRANCH [--anyway]     lead out of a violation: sign the skips, say which files are wanted, and then record
   verify [BRANCH ..]            say whether each change was lawful; with no name, of all that the log speaks of and of

@@ -10,7 +10,7 @@ from git_gittuf.repository import Stopped
 from git_gittuf.shown import plain
 
 WORDS = (
-    "setup", "key", "doctor", "record", "approve", "verify", "recover", "push", "sync", "skip", "note", "log", "explain",
+    "setup", "key", "doctor", "record", "approve", "verify", "recover", "push", "fetch", "sync", "skip", "note", "log", "explain",
     "report", "export", "mirror", "evidence", "policy", "hook",
 )  # fmt: skip
 STORES = ("folder", "database")
@@ -75,6 +75,13 @@ def key_ids(text):
     return ",".join(ids)
 
 
+def port(text):
+    """A port by its number."""
+    if not re.fullmatch("[1-9][0-9]{0,4}", text) or int(text) > 65535:
+        raise argparse.ArgumentTypeError(f"{text!r} is no port: 1 to 65535 are")
+    return int(text)
+
+
 def entry_id(text):
     """The whole id of an entry, since a part of one could be met by trying."""
     if not re.fullmatch("[0-9a-f]{64}", text):
@@ -136,6 +143,10 @@ def words_of_signing(take):
     for name in ("push", "sync"):
         take[name].add_argument("--remote")
         take[name].set_defaults(work=f"pushing.{name}")
+    take["fetch"].add_argument("--remote", metavar="NAME")
+    take["fetch"].set_defaults(work="desk_fetching.fetch")
+    for name in ("push", "fetch"):
+        take[name].add_argument("--desk", type=port, metavar="PORT", required=name == "fetch")
     for name in ("skip", "note"):
         annotate_words(take[name])
         take[name].set_defaults(work="commands.annotate")

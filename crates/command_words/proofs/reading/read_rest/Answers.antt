@@ -23,3 +23,6 @@ returns-in-Demo-clause-outside c = rw c.in-Demo.is c.read_demo.ensures.outside
 
 pub returns-in-EvidenceMake-clause-outside : goal.returns-in-EvidenceMake-clause-outside
 returns-in-EvidenceMake-clause-outside c = rw c.in-EvidenceMake.is c.read_evidence.ensures.outside
+
+pub returns-in-Serve-clause-outside : goal.returns-in-Serve-clause-outside
+returns-in-Serve-clause-outside c = rw c.in-Serve.is c.read_serve.ensures.outside

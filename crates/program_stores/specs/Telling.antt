@@ -1,0 +1,9 @@
+-- What a store that tells nothing of stops goes on telling.
+use Rattle.std.specs.Prelude.{ℕ, Bool, false, Option}
+use Rattle.git_object.specs.Repository.{Repository}
+use Rattle.keeper_api.specs.Keepers.{TellsOn}
+
+pub tells_nothing : {before after : Option Repository} {told told_now clean clean_now : Bool} {count count_now : ℕ}
+    → TellsOn before after told told_now clean clean_now count count_now
+    → TellsOn before after false false clean clean_now count count_now
+tells_nothing on = record { was_clean = on.was_clean; content = on.content; left = λ now few same told. told }

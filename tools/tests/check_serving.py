@@ -1,0 +1,221 @@
+"""The checks of tools/test on the desk that `serve` opens: its page's lines, entries that it takes, and stops."""
+
+import contextlib
+import http.client
+import os
+import shutil
+import signal
+import socket
+import subprocess
+import time
+
+import stand_in_desk
+from check_keys import ENTRY_LINE, KEY_LINE, line_of
+from checking import LAUNCHER, PROGRAM, TOP, ZEROS, Failure, Skip, run, want, want_run
+from rows_objects import object_id
+
+GUARDED = os.path.join(TOP, "examples", "guarded.stream")
+PAGE = os.path.join(TOP, "docs", "DESK.md")
+MAIN = "refs/heads/main"
+KILLS, TRIES = 8, 2000
+
+
+def free_port():
+    with socket.socket() as listener:
+        listener.bind(("127.0.0.1", 0))
+        return listener.getsockname()[1]
+
+
+def ask(port, method, path, body=None):
+    """The code and the body of a reply."""
+    connection = http.client.HTTPConnection("127.0.0.1", port, timeout=60)
+    try:
+        connection.request(method, path, body)
+        reply = connection.getresponse()
+        return reply.status, reply.read()
+    finally:
+        connection.close()
+
+
+def tip_of(port):
+    code, body = ask(port, "GET", "/v1/tip")
+    want(code, 200, "the code of the tip")
+    return body
+
+
+def push(port, text):
+    return ask(port, "POST", "/v1/push", text)
+
+
+@contextlib.contextmanager
+def desk(store, workers=2, connections=100_000):
+    """A desk over a store, by its process and its port, once a connection to it comes about."""
+    port = free_port()
+    words = (PROGRAM, store, "-", "serve", str(port), str(workers), str(connections))
+    with subprocess.Popen(words, stdin=subprocess.DEVNULL, stdout=subprocess.PIPE, stderr=subprocess.PIPE) as ran:
+        try:
+            ready = ran.stdout.readline()
+            if not (ready.startswith(b"ready ") and ready.endswith(b" entries\n")):
+                raise Failure(f"serve printed {ready!r}, and said {ran.stderr.read()!r}")
+            wait_for_listener(port, ran)
+            yield ran, port
+        finally:
+            ran.kill()
+
+
+def wait_for_listener(port, ran):
+    # A connection that is not used is one of those that a worker serves.
+    for _ in range(TRIES):
+        with open("/proc/net/tcp", encoding="ascii") as table:
+            if any(f":{port:04X} 00000000:0000 0A" in line for line in table):
+                return
+        if ran.poll() is not None:
+            break
+        time.sleep(0.01)
+    raise Failure(f"nothing listens at {port}")
+
+
+def imported(place, stream):
+    want_run((LAUNCHER, place, "-", "import"), 0, b"imported\n", input=stream)
+
+
+def exported(place):
+    status, stream, errors = run(LAUNCHER, place, "-", "export")
+    want((status, errors), (0, b""), "the status and errors of export")
+    return stream
+
+
+def guarded():
+    with open(GUARDED, "rb") as file:
+        return file.read()
+
+
+def objects_in(stream):
+    """The objects of a stream by their ids."""
+    found, at = {}, len(b"gittuf-stream 1\n")
+    while it := stand_in_desk.OBJECT.match(stream, at):
+        found[it[1]] = (it[2], stream[it.end() : it.end() + int(it[3])])
+        at = it.end() + int(it[3]) + 1
+    return found
+
+
+def push_text(objects, entry):
+    records = (b"object %s %s %d\n%s\n" % (id, *(objects[id][0], len(objects[id][1]), objects[id][1])) for id in sorted(objects))
+    return stand_in_desk.HEADER + b"".join(records) + b"entry %s\n" % entry + stand_in_desk.END
+
+
+def entry_more(repositories, name, stream, key):
+    """The text of a push of one entry more on the log of a stream, with its number, its id, and the stream with it."""
+    place = repositories.path(name)
+    imported(place, stream)
+    found = line_of(ENTRY_LINE, (LAUNCHER, place, key, "record", MAIN))
+    after = exported(place)
+    before = objects_in(stream)
+    new = {id: it for id, it in objects_in(after).items() if id not in before}
+    want([object_id(*it).encode() for it in new.values()], [*new], "the ids of what is new")
+    return push_text(new, found[2]), int(found[1]), found[2], after
+
+
+def made_key(repositories, name):
+    key = repositories.path(name)
+    line_of(KEY_LINE, (LAUNCHER, "-", key, "key-gen", "5", "8"))
+    return key
+
+
+def answers_by_its_page(repositories):
+    """the lines of docs/DESK.md that ask a desk by curl print what the page says"""
+    if not shutil.which("curl"):
+        raise Skip("there is no curl")
+    with open(PAGE, encoding="utf-8") as file:
+        lines = file.read().partition("## Ask it\n")[2].split("```\n")[1].splitlines()
+    place = repositories.path("asked.db")
+    imported(place, guarded())
+    folder = repositories.path("asking")
+    os.mkdir(folder)
+    os.symlink(LAUNCHER, os.path.join(folder, "gittuf"))
+    count = line_of_log(place)
+    said = f"accepted {MAIN} 4 entries\n".encode()
+    wanted = [b"tip %d %s\n" % count, said, said, b"malformed 14\n"]
+    with desk(place) as (_, port):
+        for line, it in zip(lines, wanted, strict=True):
+            found = run("bash", "-c", line.replace("8080", str(port)), folder=folder)
+            want(found, (0, it, b""), f"what `{line}` prints")
+
+
+def line_of_log(place):
+    """How many entries the log of a store has, and the id of the last."""
+    lines = run(LAUNCHER, place, "-", "log")[1].splitlines()
+    return len(lines), lines[-1].split()[2] if lines else ZEROS.encode()
+
+
+def takes_an_entry_once(repositories):
+    """an entry that goes on from the last one is taken, once, is in the store, and another one of its number is stale"""
+    key = made_key(repositories, "once-desk.key")
+    for name in ("once.db", "once/"):
+        place = repositories.path("") + name
+        imported(place, guarded())
+        text, number, entry, after = entry_more(repositories, f"more of {name.strip('/')}.db", guarded(), key)
+        other = entry_more(repositories, f"other of {name.strip('/')}.db", guarded(), key)[0]
+        with desk(place) as (ran, port):
+            want(push(port, text), (201, b"done %d %s\n" % (number, entry)), "the reply to the entry")
+            want(push(port, text), (200, b"already %d\n" % number), "the reply to it once more")
+            want(push(port, other), (409, b"stale %d %s\n" % (number, entry)), "the reply to another one of its number")
+            want(tip_of(port), b"tip %d %s\n" % (number, entry), "the tip")
+            want(ask(port, "GET", "/v1/stream"), (200, after), "the stream")
+            line = run(LAUNCHER, "-", "-", "verify-ref", MAIN, "--stdin", input=after)[1]
+            want(ask(port, "GET", f"/v1/verify/{MAIN}"), (200, line), "the verdict")
+            want_run((LAUNCHER, place, "-", "verify-ref", MAIN), 4, b"", b"fault\n")
+            ran.send_signal(signal.SIGKILL)
+        with contextlib.suppress(FileNotFoundError, NotADirectoryError):
+            os.remove(os.path.join(place, "open.lock"))
+        want(exported(place), after, "what the store has after the desk was killed")
+
+
+def ends_after_its_connections(repositories):
+    """a desk whose workers have served their connections ends with 0, and leaves its store to others"""
+    for name in ("ends.db", "ends/"):
+        place = repositories.path("") + name
+        imported(place, guarded())
+        with desk(place, 1, 3) as (ran, port):
+            for path, code in (("/v1/tip", 200), ("/v1/nothing", 404), ("/v1/push", 405)):
+                want(ask(port, "GET", path)[0], code, f"the code of {path}")
+            want(ran.wait(60), 0, "the status of serve")
+        want(exported(place), guarded(), "what the store has then")
+
+
+def keeps_what_it_took(repositories):
+    """whenever a desk is killed, what it said that it took is in the store, and a push that is sent again is taken once"""
+    key = made_key(repositories, "kills.key")
+    place, stream = repositories.path("kills.db"), guarded()
+    imported(place, stream)
+    for turn in range(KILLS):
+        text, number, entry, after = entry_more(repositories, f"kills {turn}.db", stream, key)
+        told = None
+        with desk(place) as (ran, port), contextlib.suppress(OSError, http.client.HTTPException):
+            pusher = subprocess.Popen(("sh", "-c", f"sleep 0.00{turn}; kill -9 {ran.pid}"))
+            told = push(port, text)
+        pusher.wait(60)
+        with desk(place) as (_, port):
+            again = push(port, text)
+            if told == (201, b"done %d %s\n" % (number, entry)):
+                want(again, (200, b"already %d\n" % number), "the reply to an entry that was taken before the stop")
+            elif again not in ((201, b"done %d %s\n" % (number, entry)), (200, b"already %d\n" % number)):
+                raise Failure(f"the reply to an entry after a stop is {again}")
+        want(exported(place), after, "what the store has")
+        stream = after
+
+
+def is_refused_a_port(repositories):
+    """a port that another program has is a fault, words outside the limits are refused, and a broken log is named"""
+    place = repositories.path("ports.db")
+    imported(place, guarded())
+    with socket.socket() as listener:
+        listener.bind(("127.0.0.1", 0))
+        listener.listen()
+        port = str(listener.getsockname()[1])
+        want_run((LAUNCHER, place, "-", "serve", port, "1", "1"), 4, b"ready %d entries\n" % line_of_log(place)[0], b"fault\n")
+    for words in (("0", "1", "1"), ("65536", "1", "1"), ("1", "0", "1"), ("1", "65", "1"), ("1", "1", "0"), ("1", "1", "1000001"), ("1", "1")):
+        want_run((LAUNCHER, place, "-", "serve", *words), 2, b"", b"words refused\n")
+
+
+CHECKS = (answers_by_its_page, takes_an_entry_once, ends_after_its_connections, keeps_what_it_took, is_refused_a_port)
