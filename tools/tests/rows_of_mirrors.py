@@ -5,9 +5,9 @@ from rows_objects import object_id
 from rows_runs import Anew, Run, done, failing, given, refused, room
 
 LEAF = 4
-# The store answers so many calls for an offer of three entries where it has two: where its log stands, both entries, each
-# reference after another until there is none, and the change.
-OFFER_CALLS = 7
+# The store answers so many calls for an offer of three entries where it has two: where its log stands, both entries, what
+# it has of each offered object, each reference after another until there is none, and the change.
+OFFER_CALLS = 10
 # An object that is nowhere.
 NOWHERE = object_id(b"blob", b"nowhere")
 

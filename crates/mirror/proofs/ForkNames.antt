@@ -1,5 +1,5 @@
 -- The name by which a mirror keeps an entry of another past is one of a reference.
-use Rattle.std.proofs.Common.{◌≡◌, ℕ, suc, ◌+◌, ◌-◌, ◌<◌, ◌≤◌, ◌==◌, Bool, true, false, not, ◌&&◌, ◌||◌, List, [], ◌∷◌, ◌++◌, length, inl, inr, refl, sym, ap, subst, ◌∙◌, arith, length-append, drop, take}
+use Rattle.std.proofs.Common.{◌≡◌, ℕ, suc, ◌-◌, ◌<◌, ◌≤◌, ◌==◌, Bool, true, false, not, ◌&&◌, ◌||◌, List, [], ◌∷◌, ◌++◌, length, inl, inr, refl, sym, ap, subst, ◌∙◌, arith, length-append, drop, take}
 use Rattle.std.specs.Prelude.{codes, decimal, nat_le}
 use Rattle.std.specs.Bool.{nat_eq}
 use Rattle.std.specs.Char.{is_ascii_digit}
@@ -20,7 +20,7 @@ use Rattle.text_reader.specs.Line.{has_byte}
 use Rattle.text_reader.specs.Number.{IsNumber}
 use Rattle.text_reader.proofs.Numbers.{decimal_is_number}
 use Rattle.git_object.specs.Ids.{IsId}
-use Rattle.git_object.specs.Names.{IsRefName, components, has_pair, is_component, is_plain, is_special}
+use Rattle.git_object.specs.Names.{IsRefName, components, has_pair, is_component, is_plain}
 use Rattle.git_object.proofs.IdLemmas.{id_is_lower, length-hexadecimal}
 use Rattle.mirror.specs.Names.{fork_name}
 use Prim.Native.Nat as Nat

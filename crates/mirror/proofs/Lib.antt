@@ -1,7 +1,9 @@
 pub mod Compared
 pub mod ForkNames
 pub mod Going
+pub mod Keys
 pub mod ManyOffers
+pub mod NewObjects
 pub mod Offered
 pub mod OneOffers
 pub mod Settled

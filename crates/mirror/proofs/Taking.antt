@@ -2,26 +2,24 @@
 use Rattle.std.proofs.Common.{◌≡◌, ℕ, Bool, true, false, cond, not, List, [], ◌∷◌, ◌++◌, Option, Some, None, refl, sym, ap, ◌∙◌}
 use Rattle.std.specs.Prelude.{if◌then◌else◌}
 use Rattle.std.specs.Option.{option_or}
-use Rattle.std.specs.Cmp.{tied_itself}
-use Rattle.std.specs.FinMap.{empty, entries, find, get, get-empty, get-entries, get-insert, get-remove, insert}
+use Rattle.std.specs.FinMap.{empty, entries, find, get, get-empty, get-entries, get-insert, get-remove}
 use Rattle.std.specs.List.{filter, flat_map}
-use Rattle.std.specs.Ordering.{eq_by_cmp, is_eq}
+use Rattle.std.specs.Ordering.{eq_by_cmp}
 use Rattle.std.specs.Str.{bytes_eq}
-use Rattle.std.specs.declared.cmp.Ordering.{Ordering}
-use Rattle.std.specs.declared.cmp.Ordering.TheVariants.{Less, Equal, Greater}
 use Rattle.std.proofs.lemmas.Bool.{false≢true, true≢false}
 use Rattle.std.proofs.lemmas.Cmp.{nat_list_cmp_total}
 use Rattle.std.proofs.lemmas.Slice.Eq.{bytes_eq-Decides}
 use Rattle.octets.specs.BytesMap.{BytesMap, by_bytes}
 use Rattle.git_object.specs.Objects.{Pair, pair_id}
 use Rattle.git_object.specs.Repository.{HasObject, Repository, empty_repository}
-use Rattle.keeper_api.specs.Changes.{changed, with_objects, with_ref, with_refs}
+use Rattle.keeper_api.specs.Changes.{changed, with_ref, with_refs}
 use Rattle.keeper_api.specs.declared.changes.Change.{Change}
 use Rattle.keeper_api.specs.declared.changes.RefChange.{RefChange}
-use Rattle.keeper_api.proofs.Trees.{exact_bytes}
 use Rattle.mirror.specs.Changes.{fork_change, going, going_one, is_foreign, take_change}
 use Rattle.mirror.specs.Mirrors.{Forks, Takes}
 use Rattle.mirror.specs.Names.{fork_name, is_own}
+use Rattle.mirror.proofs.Keys.{same_test, told_apart}
+use Rattle.mirror.proofs.NewObjects.{all_taken}
 
 abbrev Refs : Type 0
 Refs = BytesMap (List ℕ)
@@ -33,22 +31,7 @@ Ref = List ℕ × List ℕ
 
 -- names of which one is the mirror's own and one is not do not tie
 apart : (q name : List ℕ) → (is_own q ≡ is_own name → ⊥) → eq_by_cmp by_bytes q name ≡ false
-apart q name differ = by_order (by_bytes q name) refl where
-  by_order : (o : Ordering) → by_bytes q name ≡ o → is_eq o ≡ false
-  by_order Less is = refl
-  by_order Greater is = refl
-  by_order Equal is = absurd (differ (ap is_own (exact_bytes q name is)))
-
--- to tie is to be the same bytes
-same_test : (a b : List ℕ) → eq_by_cmp by_bytes a b ≡ bytes_eq a b
-same_test a b = by_test (bytes_eq a b) refl where
-  by_test : (t : Bool) → bytes_eq a b ≡ t → eq_by_cmp by_bytes a b ≡ t
-  by_test true is = ap (λ (x : List ℕ). eq_by_cmp by_bytes a x) (sym ((bytes_eq-Decides a b).0 is)) ∙ ap is_eq (tied_itself nat_list_cmp_total a)
-  by_test false is = by_order (by_bytes a b) refl where
-    by_order : (o : Ordering) → by_bytes a b ≡ o → is_eq o ≡ false
-    by_order Less at = refl
-    by_order Greater at = refl
-    by_order Equal at = absurd (false≢true (sym is ∙ (bytes_eq-Decides a b).1 (exact_bytes a b at)))
+apart = told_apart is_own
 
 -- ---- references
 
@@ -142,27 +125,14 @@ module _ (offered : Change) (kept : Repository) where
       ∙ alike offered.refs left_refs empty name
       (going_foreign (entries kept.refs) kept.refs name foreign (λ none. get-entries kept.refs name ∙ none) ∙ sym (get-empty by_bytes name))
 
--- ---- objects
-
-one_put : (b : Bool) (pair : Pair) (x y k : Option Pair) → x ≡ option_or y k → cond b (Some pair) x ≡ option_or (cond b (Some pair) y) k
-one_put true pair x y k e = refl
-one_put false pair x y k e = e
-
-all_put : (pairs : List Pair) (m n : BytesMap Pair) (k : Option Pair) (id : List ℕ) → get m id ≡ option_or (get n id) k → get (with_objects pairs m) id ≡ option_or (get (with_objects pairs n) id) k
-all_put [] m n k id e = e
-all_put (pair ∷ pairs) m n k id e =
-    all_put pairs (insert m (pair_id pair) pair) (insert n (pair_id pair) pair) k id
-    (get-insert nat_list_cmp_total m (pair_id pair) pair id
-    ∙ one_put (eq_by_cmp by_bytes id (pair_id pair)) pair (get m id) (get n id) k e
-    ∙ ap (λ (o : Option Pair). option_or o k) (sym (get-insert nat_list_cmp_total n (pair_id pair) pair id)))
-
 -- ---- both changes
 
 -- the change by which a store takes what another makes of an empty one
-pub takes : (offered : Change) (kept : Repository) → Takes (changed offered empty_repository) kept (changed (take_change offered kept) kept)
+pub takes : (offered : Change) (kept : Repository)
+    → Takes (changed offered empty_repository) kept (changed (take_change offered (changed offered empty_repository).objects kept) kept)
 takes offered kept = record {
   refs = λ name. taken_refs offered kept name (is_own name) refl;
-  objects = λ id. all_put offered.objects kept.objects empty (get kept.objects id) id (ap (λ (o : Option Pair). option_or o (get kept.objects id)) (sym (get-empty by_bytes id)));
+  objects = λ id. all_taken kept.objects offered.objects id;
 }
 
 -- the change by which it keeps an entry of another past

@@ -1,7 +1,10 @@
 -- What the laws of this crate say of an offer.
-use Rattle.std.specs.Prelude.{◌≡◌, ℕ, List}
+use Rattle.std.specs.Prelude.{◌≡◌, ◌≤◌, ℕ, List}
+use Rattle.git_object.specs.Ids.{IsId}
+use Rattle.git_object.specs.Names.{IsRefName}
 use Rattle.git_object.specs.Repository.{Repository}
 use Rattle.mirror.specs.Mirrors.{Compares, Makes}
+use Rattle.mirror.specs.Names.{fork_name}
 use Rattle.mirror.specs.Offering.{IsOffering}
 use Rattle.mirror.specs.declared.offers.Offer.{Offer}
 
@@ -16,3 +19,7 @@ pub record OneMaking : Type 0 where
   pub answer : (kept offered : Repository) (a b : Offer) → Compares kept offered a → Compares kept offered b → a ≡ b
   pub made : (kept offered now also : Repository) (a b : Offer) → Makes offered a kept now → Makes offered b kept also
       → now ≡ also
+
+-- an entry of another past has a name for its reference, whatever its number and its id
+abbrev pub ForksAreNamed : Type 0
+ForksAreNamed = (number : ℕ) (id : List ℕ) → number ≤ 1000000 → IsId id → IsRefName (fork_name number id)

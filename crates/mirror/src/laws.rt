@@ -1,7 +1,7 @@
 //! Laws over the definitions of this crate. No call needs these functions: their contracts are the laws.
 
 ghost use Rattle.mirror.specs.Growing.{KeepsForks, OnlyGrows};
-ghost use Rattle.mirror.specs.Laws.{OneOffering, OneMaking};
+ghost use Rattle.mirror.specs.Laws.{ForksAreNamed, OneMaking, OneOffering};
 
 use rsl_chain::laws::logs;
 
@@ -32,3 +32,9 @@ pub fn keeps_forks()
 {
     logs();
 }
+
+/// `refs/mirror/fork/<number>/<id>` is a reference name for each number of an entry and each id, so that each entry of
+/// another past has one.
+pub fn forks_are_named()
+    ensures { ForksAreNamed }
+{}

@@ -15,12 +15,18 @@ use git_object::{Memory, Object, ObjectId};
 use keeper_api::{Change, Keeper, KeeperFault, MemKeeper, commit_change, load_object};
 use std::alloc::Global;
 
-// Takes what another change would make of an empty store.
-fn take<R: Keeper>(alloc: Global, kept: &mut R, offered: Change) -> Result<(), KeeperFault>
+// Takes what another change would make of an empty store, which lies in `held`.
+fn take<R: Keeper>(
+    alloc: Global,
+    kept: &mut R,
+    held: &mut MemKeeper,
+    offered: Change,
+) -> Result<(), KeeperFault>
+    requires { held.old.held ≡ changed offered empty_repository }
     ensures settles { ChangeSettles R.Keeper kept.old kept.new (Takes (changed offered empty_repository)) result }
     ensures cause { HasCause keeper_failed (R.faults kept.old) (R.faults kept.new) result }
 {
-    let change = match take_change(alloc, kept, offered) {
+    let change = match take_change(alloc, kept, held, offered) {
         Ok(change) => change,
         Err(fault) => return Err(fault),
     };
@@ -71,7 +77,7 @@ pub fn settle<R: Keeper>(
     ensures cause { HasCause keeper_failed (R.faults kept.old) (R.faults kept.new) result }
 {
     match offer {
-        Offer::Taken { from: _, to: _ } => take(alloc, kept, offered),
+        Offer::Taken { from: _, to: _ } => take(alloc, kept, held, offered),
         Offer::Same { count: _ } => Ok(()),
         Offer::Behind {
             kept: _,

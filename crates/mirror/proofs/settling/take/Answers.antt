@@ -1,7 +1,8 @@
 use Rattle.std.proofs.Common.{sym, subst}
-use Rattle.git_object.specs.Repository.{empty_repository}
+use Rattle.git_object.specs.Repository.{Repository, empty_repository}
 use Rattle.keeper_api.specs.Changes.{changed}
 use Rattle.keeper_api.specs.declared.changes.Change.{Change}
+use Rattle.mirror.specs.Changes.{take_change}
 use Rattle.mirror.specs.Mirrors.{Takes}
 use Rattle.mirror.proofs.Settled.{settled, unsettled}
 use Rattle.mirror.proofs.Taking.{takes}
@@ -16,5 +17,6 @@ returns-clause-settles g c =
     settled g.R.Keeper (Takes (changed c.args.offered empty_repository)) c.args.kept.now c.take_change.new.kept c.commit_change.new.keeper c.in-Ok.change
     c.take_change.ensures.same
     (λ r told. subst (λ (change : Change). Takes (changed c.args.offered empty_repository) r (changed change r)) (sym (c.in-Ok.ensures.change r told))
-    (takes c.args.offered r))
+    (subst (λ (held : Repository). Takes (changed c.args.offered empty_repository) r (changed (take_change c.args.offered held.objects r) r)) (sym c.requires)
+    (takes c.args.offered r)))
     c.commit_change.result c.commit_change.ensures.ends
