@@ -135,7 +135,8 @@ fn below(top: u32, first: bool, leaf: u32, target: u8) -> Side {
     }
 }
 
-fn want(rt: &impl Abort, row: usize, is_so: bool) {
+/// Ends the test at a row, by its number from 0 on, where it is not so.
+pub fn want(rt: &impl Abort, row: usize, is_so: bool) {
     assert!(rt; is_so, "row {row}");
 }
 

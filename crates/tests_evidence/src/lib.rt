@@ -8,3 +8,5 @@
 mod dossier_rows;
 #[cfg(test)]
 mod finding_rows;
+#[cfg(test)]
+mod key_rows;
