@@ -1,0 +1,4 @@
+mod Counted
+mod OneOutcome
+mod ToldContent
+mod ToldWorld
