@@ -15,13 +15,14 @@ _gittuf() {
     case $COMP_CWORD in
         1) _gittuf_reply -d -S / -W '- --help --version'; compopt -o nospace 2> /dev/null ;;
         2) _gittuf_reply -f -W - ;;
-        3) _gittuf_reply -W 'key-gen seal snapshot record annotate approve policy-apply explain log import export demo mirror evidence-make evidence-check serve verify-ref' ;;
+        3) _gittuf_reply -W 'key-gen seal snapshot record annotate approve policy-apply explain log import export demo mirror evidence-make evidence-check serve verify-global verify-ref' ;;
         *)
             case ${COMP_WORDS[3]} in
                 key-gen) [ "$COMP_CWORD" -eq 4 ] && _gittuf_reply -W '5 10 15' || _gittuf_reply -W '1 2 4 8' ;;
                 seal) _gittuf_reply -W --add ;;
                 annotate) [ "$COMP_CWORD" -eq 4 ] && _gittuf_reply -W 'skip note' || _gittuf_reply -W --message ;;
                 verify-ref) _gittuf_reply -W "$(_gittuf_references) --root --stdin" ;;
+                verify-global) _gittuf_reply -W "$(_gittuf_references) --root" ;;
                 record | snapshot | approve) _gittuf_reply -W "$(_gittuf_references)" ;;
                 explain) _gittuf_reply -W 'git: file:' ;;
             esac

@@ -18,7 +18,7 @@ use Rattle.command_words.specs.FirstWords.{AsksFor, AsksForNone, IsCommand, IsNo
 use Rattle.command_words.specs.Grammars.{value_of}
 use Rattle.command_words.specs.Laws.{OneCommand}
 use Rattle.command_words.specs.declared.commands.Command.{Command}
-use Rattle.command_words.specs.declared.commands.Command.TheVariants.{VerifyRef, KeyGen, Record, Seal, Snapshot, Explain, Annotate, Approve, Demo, EvidenceMake, Serve}
+use Rattle.command_words.specs.declared.commands.Command.TheVariants.{VerifyRef, VerifyGlobal, KeyGen, Record, Seal, Snapshot, Explain, Annotate, Approve, Demo, EvidenceMake, Serve}
 use Rattle.command_words.specs.declared.commands.CommandName.{CommandName}
 use Rattle.command_words.specs.declared.commands.CommandName.TheVariants as name
 use Rattle.command_words.specs.declared.commands.Height.{Height}
@@ -147,6 +147,12 @@ one_after name.VerifyRef rest a b is other =
     let named : a ≡ VerifyRef is.0 is.1 is.2 = is.3 in
     let named_so : b ≡ VerifyRef other.0 other.1 other.2 = other.3 in
     cc
+one_after name.VerifyGlobal rest a b is other =
+    let same : is.0 ≡ other.0 = same_name_given _ is.0 other.0 is.3.named.asked other.3.named.asked in
+    let under : is.1 ≡ other.1 = same_root _ is.1 other.1 is.3.anchor other.3.anchor in
+    let named : a ≡ VerifyGlobal is.0 is.1 = is.2 in
+    let named_so : b ≡ VerifyGlobal other.0 other.1 = other.2 in
+    cc
 one_after name.Export rest a b is other = is.0 ∙ sym other.0
 one_after name.Import rest a b is other = is.0 ∙ sym other.0
 one_after name.KeyGen rest a b is other =
@@ -247,6 +253,7 @@ up_to most (Some text) count is = record { some = is.some; few = is.few }
 -- what is asked for is within its limits
 pub within_after : (first : CommandName) (rest : List (List ℕ)) (command : Command) → AsksFor first rest command → IsWithinLimits command
 within_after name.VerifyRef rest command asks = subst IsWithinLimits (sym asks.3) asks.4.named.not_log
+within_after name.VerifyGlobal rest command asks = subst IsWithinLimits (sym asks.2) (asks.3.named.asked.not_log, asks.3.named.not_policy)
 within_after name.Export rest command asks = subst IsWithinLimits (sym asks.0) tt
 within_after name.Import rest command asks = subst IsWithinLimits (sym asks.0) tt
 within_after name.KeyGen rest command asks = subst IsWithinLimits (sym asks.3) (two_within _ asks.0 asks.1 asks.2 asks.4.is_bottom)

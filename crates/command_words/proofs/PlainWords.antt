@@ -14,6 +14,7 @@ use Rattle.command_words.specs.Commands.{AreTwo, AsksKey, AsksReasons, AsksRefer
 use Rattle.command_words.specs.Grammars.{Takes, bare_app, is_given, value_of}
 use Rattle.command_words.specs.Laws.{PlainWords, flag_words}
 use Rattle.command_words.specs.declared.commands.CommandName.TheVariants as name
+use Rattle.command_words.proofs.GlobalWords.{global_asks}
 use Rattle.command_words.proofs.LetterFirst.{letter_first}
 use Rattle.command_words.proofs.ServeWords.{serve_asks}
 use Rattle.command_words.proofs.ValueWords.{annotate_asks, approve_asks, demo_asks, evidence_asks}
@@ -235,6 +236,7 @@ pub plain_words : PlainWords
 plain_words = record {
   verify_ref = λ reference stdin is not_log. record { first = name.VerifyRef; rest = reference ∷ flag_words (codes "--stdin") stdin; are = refl; asks = (reference, None, stdin, refl, asks reference stdin is not_log) };
   flag_first = λ reference is not_log. record { first = name.VerifyRef; rest = codes "--stdin" ∷ reference ∷ []; are = refl; asks = (reference, None, true, refl, asks_first reference is not_log) };
+  verify_global = λ reference is not_log not_policy. record { first = name.VerifyGlobal; rest = reference ∷ []; are = refl; asks = (reference, None, refl, global_asks reference is not_log not_policy) };
   export = record { first = name.Export; rest = []; are = refl; asks = (refl, no_more (codes "export")) };
   import = record { first = name.Import; rest = []; are = refl; asks = (refl, no_more (codes "import")) };
   key_gen = λ height width. record { first = name.KeyGen; rest = height_text height ∷ width_text width ∷ []; are = refl; asks = (height, width, None, refl, key_asks height width) };

@@ -9,6 +9,7 @@ use Rattle.command_words.specs.declared.commands.CommandName.TheVariants as name
 -- the command that a first word names, as a function of the word
 named_by : List ℕ → Option CommandName
 named_by word = if bytes_eq word (name_text name.VerifyRef) then Some name.VerifyRef
+    else (if bytes_eq word (name_text name.VerifyGlobal) then Some name.VerifyGlobal
     else (if bytes_eq word (name_text name.Export) then Some name.Export
     else (if bytes_eq word (name_text name.Import) then Some name.Import
     else (if bytes_eq word (name_text name.KeyGen) then Some name.KeyGen
@@ -24,11 +25,12 @@ named_by word = if bytes_eq word (name_text name.VerifyRef) then Some name.Verif
     else (if bytes_eq word (name_text name.Mirror) then Some name.Mirror
     else (if bytes_eq word (name_text name.EvidenceMake) then Some name.EvidenceMake
     else (if bytes_eq word (name_text name.EvidenceCheck) then Some name.EvidenceCheck
-    else Some name.Serve)))))))))))))))
+    else Some name.Serve))))))))))))))))
 
 named_by-text : (n : CommandName) → named_by (name_text n) ≡ Some n
 unfolding named_by
 named_by-text name.VerifyRef = refl
+named_by-text name.VerifyGlobal = refl
 named_by-text name.Export = refl
 named_by-text name.Import = refl
 named_by-text name.KeyGen = refl

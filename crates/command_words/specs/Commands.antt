@@ -5,6 +5,7 @@ use Rattle.clap.specs.Simple.{App, with_rule}
 use Rattle.hex.specs.Hex.{encode_lower}
 use Rattle.git_object.specs.Ids.{IsId}
 use Rattle.git_object.specs.Names.{IsRefName, log_name}
+use Rattle.git_object.specs.References.{policy_name}
 use Rattle.ref_patterns.specs.declared.space.Space.{Space}
 use Rattle.evidence.specs.Dossiers.{IsPublic}
 use Rattle.command_words.specs.Ids.{AreIds}
@@ -52,6 +53,23 @@ pub record AsksVerdict (name : List ℕ) (root : Option (List (List ℕ))) (stdi
     pub named : IsAsked (value_of verify_ref_app (codes "ref") words) name
     pub anchor : IsRoot (value_of verify_ref_app (codes "root") words) root
     pub flag : is_given verify_ref_app (codes "stdin") words ≡ stdin
+
+-- ---- verify-global <ref> [--root <keyid,..>]
+
+abbrev pub verify_global_app : App
+verify_global_app = with_rule (with_rule (bare_app (codes "verify-global")) (positional_rule (codes "ref")))
+    (option_rule (codes "root"))
+
+-- a value that is given is the name of a reference other than the log's own and the policy's
+pub record IsJudged (given : Option (List ℕ)) (name : List ℕ) : Type 0 where
+  pub asked : IsAsked given name
+  pub not_policy : name ≢ policy_name
+
+-- such a reference, and the keys of the root
+pub record AsksGlobal (name : List ℕ) (root : Option (List (List ℕ))) (words : List (List ℕ)) : Type 0 where
+  pub takes : Takes verify_global_app words
+  pub named : IsJudged (value_of verify_global_app (codes "ref") words) name
+  pub anchor : IsRoot (value_of verify_global_app (codes "root") words) root
 
 -- ---- annotate <skip or note> <id,..> [--message <text>]
 

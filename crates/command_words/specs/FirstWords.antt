@@ -1,9 +1,10 @@
 -- Which command words ask for: the first word names it, and the words after that are such as it takes.
 use Rattle.std.specs.Prelude.{◌≡◌, ◌≢◌, ◌<◌, ◌≤◌, ◌∷◌, ℕ, Bool, List, Option, None, Some, codes, length}
 use Rattle.git_object.specs.Names.{log_name}
+use Rattle.git_object.specs.References.{policy_name}
 use Rattle.ref_patterns.specs.declared.space.Space.{Space}
 use Rattle.evidence.specs.Dossiers.{IsPublic}
-use Rattle.command_words.specs.Commands.{AreTwo, AsksApproval, AsksDemo, AsksDossier, AsksKey, AsksNote}
+use Rattle.command_words.specs.Commands.{AreTwo, AsksApproval, AsksDemo, AsksDossier, AsksGlobal, AsksKey, AsksNote}
 use Rattle.command_words.specs.Commands.{AsksReasons, AsksReference, AsksSeal, AsksService, AsksVerdict}
 use Rattle.command_words.specs.Numbers.{IsUpTo}
 use Rattle.command_words.specs.Grammars.{Takes, bare_app}
@@ -11,7 +12,7 @@ use Rattle.command_words.specs.declared.commands.Command.{Command}
 use Rattle.command_words.specs.declared.commands.Command.TheVariants.{VerifyRef, Export, Import, KeyGen, Log, Record}
 use Rattle.command_words.specs.declared.commands.Command.TheVariants.{Seal, Snapshot, PolicyApply, Explain, Annotate}
 use Rattle.command_words.specs.declared.commands.Command.TheVariants.{Approve, Demo, Mirror}
-use Rattle.command_words.specs.declared.commands.Command.TheVariants.{EvidenceMake, EvidenceCheck, Serve}
+use Rattle.command_words.specs.declared.commands.Command.TheVariants.{EvidenceMake, EvidenceCheck, Serve, VerifyGlobal}
 use Rattle.command_words.specs.declared.commands.CommandName.{CommandName}
 use Rattle.command_words.specs.declared.commands.CommandName.TheVariants as name
 use Rattle.command_words.specs.declared.commands.Height.{Height}
@@ -19,6 +20,7 @@ use Rattle.command_words.specs.declared.commands.Width.{Width}
 
 abbrev pub name_text : CommandName → List ℕ
 name_text name.VerifyRef = codes "verify-ref"
+name_text name.VerifyGlobal = codes "verify-global"
 name_text name.Export = codes "export"
 name_text name.Import = codes "import"
 name_text name.KeyGen = codes "key-gen"
@@ -40,6 +42,8 @@ name_text name.Serve = codes "serve"
 abbrev pub AsksFor : CommandName → List (List ℕ) → Command → Type 0
 AsksFor name.VerifyRef rest command = (reference : List ℕ) × (root : Option (List (List ℕ))) × (stdin : Bool)
     × (command ≡ VerifyRef reference root stdin) × AsksVerdict reference root stdin rest
+AsksFor name.VerifyGlobal rest command = (reference : List ℕ) × (root : Option (List (List ℕ)))
+    × (command ≡ VerifyGlobal reference root) × AsksGlobal reference root rest
 AsksFor name.Export rest command = (command ≡ Export) × Takes (bare_app (codes "export")) rest
 AsksFor name.Import rest command = (command ≡ Import) × Takes (bare_app (codes "import")) rest
 AsksFor name.KeyGen rest command = (height : Height) × (width : Width) × (bottom : Option Height)
@@ -88,6 +92,7 @@ IsNoCommand words = (command : Command) → IsCommand words command → ⊥
 -- the values of a command are within their limits, and no reference is the log's own
 abbrev pub IsWithinLimits : Command → Type 0
 IsWithinLimits (VerifyRef name root stdin) = name ≢ log_name
+IsWithinLimits (VerifyGlobal name root) = (name ≢ log_name) × (name ≢ policy_name)
 IsWithinLimits Export = Unit {0}
 IsWithinLimits Import = Unit {0}
 IsWithinLimits (KeyGen height width None) = Unit {0}

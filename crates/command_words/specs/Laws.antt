@@ -3,6 +3,7 @@ use Rattle.std.specs.Prelude.{◌≡◌, ◌≢◌, ◌≤◌, ◌++◌, ◌∷�
 use Rattle.hex.specs.Hex.{encode_lower}
 use Rattle.git_object.specs.Ids.{IsId}
 use Rattle.git_object.specs.Names.{IsRefName, log_name}
+use Rattle.git_object.specs.References.{policy_name}
 use Rattle.evidence.specs.Dossiers.{IsPublic}
 use Rattle.ref_patterns.specs.Patterns.{prefix}
 use Rattle.ref_patterns.specs.declared.space.Space.{Space}
@@ -14,7 +15,7 @@ use Rattle.command_words.specs.declared.commands.Command.{Command}
 use Rattle.command_words.specs.declared.commands.Command.TheVariants.{VerifyRef, Export, Import, KeyGen, Log, Record}
 use Rattle.command_words.specs.declared.commands.Command.TheVariants.{Seal, Snapshot, PolicyApply, Explain, Annotate}
 use Rattle.command_words.specs.declared.commands.Command.TheVariants.{Approve, Demo, Mirror}
-use Rattle.command_words.specs.declared.commands.Command.TheVariants.{EvidenceMake, EvidenceCheck, Serve}
+use Rattle.command_words.specs.declared.commands.Command.TheVariants.{EvidenceMake, EvidenceCheck, Serve, VerifyGlobal}
 use Rattle.command_words.specs.declared.commands.Height.{Height}
 use Rattle.command_words.specs.declared.commands.Width.{Width}
 
@@ -33,6 +34,8 @@ pub record PlainWords : Type 0 where
       → IsCommand (codes "verify-ref" ∷ name ∷ flag_words (codes "--stdin") stdin) (VerifyRef name None stdin)
   pub flag_first : (name : List ℕ) → IsRefName name → name ≢ log_name
       → IsCommand (codes "verify-ref" ∷ codes "--stdin" ∷ name ∷ []) (VerifyRef name None true)
+  pub verify_global : (name : List ℕ) → IsRefName name → name ≢ log_name → name ≢ policy_name
+      → IsCommand (codes "verify-global" ∷ name ∷ []) (VerifyGlobal name None)
   pub export : IsCommand (codes "export" ∷ []) Export
   pub import : IsCommand (codes "import" ∷ []) Import
   pub key_gen : (height : Height) (width : Width)

@@ -33,6 +33,12 @@ pub enum Command {
         root: Option<Items<KeyId>>,
         stdin: bool,
     },
+    /// The verdict on a reference other than the policy's by the global rules of the policies, with `root` as for
+    /// `VerifyRef`.
+    VerifyGlobal {
+        name: RefName,
+        root: Option<Items<KeyId>>,
+    },
     /// The stream of the repository that the store holds.
     Export,
     /// To take the source's stream into the store.
@@ -103,6 +109,7 @@ pub enum Command {
 #[derive(Clone, Copy, Debug, PartialEq, Eq, Drop)]
 pub enum CommandName {
     VerifyRef,
+    VerifyGlobal,
     Export,
     Import,
     KeyGen,

@@ -29,6 +29,9 @@ pub(crate) fn named(word: &str) -> Option<CommandName>
     if is_word(word, "verify-ref") {
         return Some(CommandName::VerifyRef);
     }
+    if is_word(word, "verify-global") {
+        return Some(CommandName::VerifyGlobal);
+    }
     if is_word(word, "export") {
         return Some(CommandName::Export);
     }

@@ -24,6 +24,7 @@ mod sealing;
 mod serving;
 mod spaced;
 pub mod value_laws;
+mod verify_global;
 mod verify_ref;
 mod words_fault;
 

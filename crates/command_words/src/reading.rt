@@ -16,6 +16,7 @@ use crate::key_types::read_key_gen;
 use crate::references::read_reference;
 use crate::sealing::read_seal;
 use crate::serving::read_serve;
+use crate::verify_global::read_verify_global;
 use crate::verify_ref::read_verify_ref;
 use crate::words_fault::WordsFault;
 use std::alloc::Global;
@@ -27,6 +28,7 @@ fn read_rest(alloc: Global, first: CommandName, words: &[String]) -> Result<Comm
 {
     match first {
         CommandName::VerifyRef => read_verify_ref(alloc, words),
+        CommandName::VerifyGlobal => read_verify_global(alloc, words),
         CommandName::Export => {
             read_no_more(alloc, "export", words)?;
             Ok(Command::Export)

@@ -26,6 +26,7 @@ pub(crate) fn needs_of(alloc: Global, command: &[String]) -> Result<Needs, Refus
                 stdin,
             },
         ) => (stdin, false, false),
+        Ok(Command::VerifyGlobal { name: _, root: _ }) => (false, false, false),
         Ok(Command::Export) => (false, false, false),
         Ok(Command::Log) => (false, false, false),
         Ok(Command::Record { name: _ }) => (true, true, false),

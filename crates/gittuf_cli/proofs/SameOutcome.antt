@@ -11,6 +11,9 @@ use Rattle.demo.specs.Demos.{demo_ending}
 use Rattle.demo.specs.Laws.{OneOfDemo}
 use Rattle.commands_desk.specs.Laws.{OneOfServe, ServeComes}
 use Rattle.commands_desk.specs.Readying.{serve_ending}
+use Rattle.commands_global.specs.Contents.{GlobalComes}
+use Rattle.commands_global.specs.Laws.{OneOfGlobal}
+use Rattle.commands_global.specs.Verifying.{global_ending}
 use Rattle.commands_log.specs.Laws.{LogComes, OneOfHistory}
 use Rattle.commands_log.specs.Logging.{log_ending}
 use Rattle.commands_keys.specs.Contents.{KeyGenComes, SealComes}
@@ -36,11 +39,12 @@ use Rattle.commands_snapshot.specs.OutcomeLaws.{OneOfTrees}
 use Rattle.worlds.specs.Telling.{Content}
 use Rattle.gittuf_cli.specs.Contents.{Comes, IsSettledFor, OneOutcome}
 
-module _ (verifying : OneOfVerify) (stream : OneOfStream) (keys : OneOfKeys) (history : OneOfHistory) (log : OneOfLog) (trees : OneOfTrees)
+module _ (verifying : OneOfVerify) (globals : OneOfGlobal) (stream : OneOfStream) (keys : OneOfKeys) (history : OneOfHistory) (log : OneOfLog) (trees : OneOfTrees)
     (policy : OneOfPolicy) (approvals : OneOfApprovals) (mirrors : OneOfMirror) (serves : OneOfServe) (demos : OneOfDemo) where
   one_comes : (c : Command) (content : Content) → IsSettledFor c content → (x y : Ending) → Comes c content x → Comes c content y → x ≡ y
   one_comes (command.VerifyRef name root stdin) content settled =
       one_ending verify_ending (VerifyComes name root stdin content.held content.bytes) (verifying.verify name root stdin content.held content.bytes)
+  one_comes (command.VerifyGlobal name root) content settled = one_ending global_ending (GlobalComes name root content.held) (globals.global name root content.held)
   one_comes command.Export content settled = one_ending export_ending (ExportComes content.held) (stream.export content.held)
   one_comes command.Import content settled = one_ending import_ending (ImportComes content.held content.bytes) (stream.import content.held content.bytes)
   one_comes (command.KeyGen height width bottom) content settled = one_ending key_gen_ending (KeyGenComes content.file) (keys.key_gen content.file)

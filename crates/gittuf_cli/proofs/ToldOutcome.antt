@@ -7,6 +7,7 @@ use Rattle.worlds.specs.Telling.{TellsEnding}
 use Rattle.worlds.specs.Worlds.{Types, Ways}
 use Rattle.commands_approve.specs.Runs as approving
 use Rattle.commands_desk.specs.Runs as desks
+use Rattle.commands_global.specs.Runs as globals
 use Rattle.commands_keys.specs.Runs as keys
 use Rattle.commands_log.specs.Runs as log
 use Rattle.commands_mirror.specs.Runs as mirroring
@@ -19,12 +20,13 @@ use Rattle.gittuf_cli.specs.Contents.{Comes, TellsOutcome}
 use Rattle.gittuf_cli.specs.KeyTypes.{below_of, lms_of, ots_of}
 use Rattle.gittuf_cli.specs.Runs.{EndsOf, touched}
 
-module _ {types : Types} (ways : Ways types) (verifies : verifying.TellsOfWorld ways) (streams : stream.TellsOfWorld ways)
+module _ {types : Types} (ways : Ways types) (verifies : verifying.TellsOfWorld ways) (judges : globals.TellsOfWorld ways) (streams : stream.TellsOfWorld ways)
     (signs : keys.TellsOfWorld ways) (logs : log.TellsOfWorld ways) (snaps : trees.TellsOfWorld ways)
     (applies : policy.TellsOfWorld ways) (approves : approving.TellsOfWorld ways) (mirrors : mirroring.TellsOfWorld ways) (serves : desks.TellsOfWorld ways)
     (shows : demos.TellsOfWorld ways) where
   told_comes : (c : Command) → TellsEnding ways (touched c) (EndsOf ways c) (Comes c)
   told_comes (command.VerifyRef name root stdin) = verifies.verify name root stdin
+  told_comes (command.VerifyGlobal name root) = judges.global name root
   told_comes command.Export = streams.export
   told_comes command.Import = streams.import
   told_comes (command.KeyGen height width bottom) = signs.key_gen (lms_of height) (ots_of width) (below_of bottom)

@@ -11,6 +11,7 @@ use Rattle.worlds.specs.Telling.{Content, Tells}
 use Rattle.worlds.specs.Worlds.{Types, Ways, World}
 use Rattle.commands_approve.specs.Runs.{ApproveAnswers}
 use Rattle.commands_desk.specs.Runs.{ServeAnswers}
+use Rattle.commands_global.specs.Runs.{GlobalAnswered}
 use Rattle.commands_keys.specs.Runs.{KeyGenAnswers, SealAnswers}
 use Rattle.commands_log.specs.Runs.{LogAnswers, RecordAnswers}
 use Rattle.commands_mirror.specs.Runs.{CheckAnswers, MakeAnswers, MirrorAnswers}
@@ -25,6 +26,7 @@ use Rattle.gittuf_cli.specs.Runs.{Ends, touched}
 -- what a command comes to over this content
 abbrev pub Comes : Command → Content → Ending → Type 0
 Comes (command.VerifyRef name root stdin) = VerifyAnswers name root stdin
+Comes (command.VerifyGlobal name root) = GlobalAnswered name root
 Comes command.Export = ExportAnswers
 Comes command.Import = ImportAnswers
 Comes (command.KeyGen height width bottom) = KeyGenAnswers

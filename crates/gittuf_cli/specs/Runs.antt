@@ -14,6 +14,7 @@ use Rattle.worlds.specs.Touching.{Touched, on_key, on_listing, on_log, on_new_ke
 use Rattle.worlds.specs.Worlds.{Types, Ways, World}
 use Rattle.commands_approve.specs.Runs.{ApproveRuns}
 use Rattle.commands_desk.specs.Runs.{ServeRuns}
+use Rattle.commands_global.specs.Runs.{GlobalRuns}
 use Rattle.commands_keys.specs.Runs.{KeyGenRuns, SealRuns}
 use Rattle.commands_log.specs.Runs.{AnnotateRuns, LogRuns, RecordRuns}
 use Rattle.commands_mirror.specs.Runs.{CheckRuns, MakeRuns, MirrorRuns, on_text}
@@ -40,6 +41,7 @@ Says told told_now faults faults_now (Refused refused) = SaysLine told told_now 
 -- which objects a command touches
 abbrev pub touched : Command → Touched
 touched (command.VerifyRef name root stdin) = on_stream
+touched (command.VerifyGlobal name root) = on_store
 touched command.Export = on_store
 touched command.Import = on_stream
 touched (command.KeyGen height width bottom) = on_new_key
@@ -60,6 +62,7 @@ touched (command.Serve port workers connections) = on_store
 -- what it means that a command ran to an ending
 abbrev pub EndsOf : {types : Types} → Ways types → Command → World types → World types → Ending → Type 0
 EndsOf ways (command.VerifyRef name root stdin) = VerifyRuns ways name root stdin
+EndsOf ways (command.VerifyGlobal name root) = GlobalRuns ways name root
 EndsOf ways command.Export = ExportRuns ways
 EndsOf ways command.Import = ImportRuns ways
 EndsOf ways (command.KeyGen height width bottom) = KeyGenRuns ways (lms_of height) (ots_of width) (below_of bottom)

@@ -7,6 +7,7 @@ ghost use Rattle.worlds.specs.Worlds.{ways};
 use command_words::laws::one_command;
 use commands_approve::laws::{approve_over_world, one_of_approvals};
 use commands_desk::laws::{one_of_serve, serve_over_world};
+use commands_global::laws::{global_over_world, one_of_global};
 use commands_keys::laws::{keys_over_world, one_of_keys};
 use commands_log::laws::{log_over_world, one_of_history};
 use commands_mirror::laws::{mirror_over_world, one_of_mirror};
@@ -37,6 +38,7 @@ pub fn tells_outcome<W: Objects>()
     ensures { TellsOutcome ⟦<Of<W> as Objects>⟧.ways }
 {
     verify_over_world::<W>();
+    global_over_world::<W>();
     stream_over_world::<W>();
     keys_over_world::<W>();
     log_over_world::<W>();
@@ -55,6 +57,7 @@ pub fn one_outcome()
 {
     one_command();
     one_of_verify();
+    one_of_global();
     one_of_stream();
     one_of_keys();
     one_of_history();

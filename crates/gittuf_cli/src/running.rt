@@ -11,6 +11,7 @@ use crate::key_types::make_key;
 use command_words::{Command, WordsFault, read_command};
 use commands_approve::approve;
 use commands_desk::serve;
+use commands_global::verify_global;
 use commands_keys::seal;
 use commands_log::{annotate, log, record};
 use commands_mirror::{evidence_check, evidence_make, mirror};
@@ -36,6 +37,7 @@ fn carry_out<W: Objects>(alloc: Global, command: &Command, outside: &mut Lent<W>
         Command::VerifyRef { name, root, stdin } => verify_ref::<W>(
             alloc, name, root, *stdin, outside,
         ),
+        Command::VerifyGlobal { name, root } => verify_global::<W>(alloc, name, root, outside),
         Command::Export => export::<W>(alloc, outside),
         Command::Import => import::<W>(alloc, outside),
         Command::KeyGen {
@@ -110,8 +112,8 @@ fn say<F: Sink>(ending: &Ending, faults_out: &mut F)
 
 /// Runs the command of the words over the objects outside, and answers the status of the program.
 ///
-/// 0 where the answer was given; 1 where the verdict is another than `accepted`, a mirror was offered a shorter log or
-/// another past, or a dossier shows nothing; 2 where the words are outside the
+/// 0 where the answer was given; 1 where the verdict is another than `accepted`, an entry breaks a global rule, a mirror
+/// was offered a shorter log or another past, or a dossier shows nothing; 2 where the words are outside the
 /// grammar; 3 where the input, the log, a policy, an object or the key file is refused, or there is no room where a
 /// store or a key file is to be made; 4 exactly where an object outside but `faults_out` counted a fault, and then one
 /// of them counted one and the others none; 5 for want of memory, and only where the first word is the name of a

@@ -6,12 +6,13 @@ use Rattle.command_words.specs.declared.commands.Command.{Command}
 use Rattle.command_words.specs.declared.commands.Command.TheVariants.{VerifyRef, Export, Import, KeyGen, Log, Record}
 use Rattle.command_words.specs.declared.commands.Command.TheVariants.{Seal, Snapshot, PolicyApply, Explain, Annotate}
 use Rattle.command_words.specs.declared.commands.Command.TheVariants.{Approve, Demo, Mirror}
-use Rattle.command_words.specs.declared.commands.Command.TheVariants.{EvidenceMake, EvidenceCheck, Serve}
+use Rattle.command_words.specs.declared.commands.Command.TheVariants.{EvidenceMake, EvidenceCheck, Serve, VerifyGlobal}
 use Rattle.program_desk.specs.declared.words.ServeWords.{ServeWords}
 
 -- the numbers of the desk that a command asks for; none where it asks for no desk
 abbrev pub numbers_of : Command → Option ServeWords
 numbers_of (VerifyRef name root stdin) = None
+numbers_of (VerifyGlobal name root) = None
 numbers_of Export = None
 numbers_of Import = None
 numbers_of (KeyGen height width bottom) = None

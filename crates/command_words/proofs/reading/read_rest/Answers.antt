@@ -3,6 +3,9 @@ use Rattle.command_words.proofs.reading.read_rest.Goals as goal
 pub returns-in-VerifyRef-clause-outside : goal.returns-in-VerifyRef-clause-outside
 returns-in-VerifyRef-clause-outside c = rw c.in-VerifyRef.is c.read_verify_ref.ensures.outside
 
+pub returns-in-VerifyGlobal-clause-outside : goal.returns-in-VerifyGlobal-clause-outside
+returns-in-VerifyGlobal-clause-outside c = rw c.in-VerifyGlobal.is c.read_verify_global.ensures.outside
+
 pub returns-in-KeyGen-clause-outside : goal.returns-in-KeyGen-clause-outside
 returns-in-KeyGen-clause-outside c = rw c.in-KeyGen.is c.read_key_gen.ensures.outside
 
