@@ -2,7 +2,7 @@
 # sourced.
 
 set -l all_words setup key policy record approve verify recover push fetch sync skip note log explain report export mirror evidence doctor hook
-set -l steps init person rotate rule show sign discard apply
+set -l steps init person rotate rule global show sign discard apply
 
 function __git_gittuf_is
     set -l words (commandline -opc)

@@ -77,7 +77,7 @@ _git_gittuf() {
         hook) _gittuf_reply -W 'install --server --remove' ;;
         policy)
             if [ "$((COMP_CWORD - at))" -eq 2 ]; then
-                _gittuf_reply -W 'init person rotate rule show sign discard apply'
+                _gittuf_reply -W 'init person rotate rule global show sign discard apply'
             elif [ "${COMP_WORDS[at + 2]}" = rule ]; then
                 _gittuf_reply -W "--persons --threshold --terminating --no-terminating --before --file --remove $(_gittuf_references)"
             elif [ "${COMP_WORDS[at + 2]}" = person ]; then

@@ -17,11 +17,15 @@ from git_gittuf.files import row_of
 from git_gittuf.repository import LOG
 
 # The commands that only read, with the statuses of answers that hold as long as nothing below changes.
-LASTING = {"verify-ref": (0, 1), "log": (0,), "explain": (0,)}
+LASTING = {"verify-ref": (0, 1), "verify-global": (0, 1), "log": (0,), "explain": (0,)}
 # So many bytes of answers are kept, and so many answers.
 MOST, MANY = 32 << 20, 4096
 BROKEN = re.compile(rb"violation \S+ \d+ broken ")
-VERDICT = re.compile(rb"(?:accepted|violation|tip-differs) (\S+) [^\n]+\n")
+# What the lines of a verdict are, by the command, with the name of which they speak.
+VERDICTS = {
+    "verify-ref": re.compile(rb"(?:accepted|violation|tip-differs) (\S+) [^\n]+\n"),
+    "verify-global": re.compile(rb"global-(?:kept|violation) (\S+) [^\n]+\n"),
+}
 # What of the environment decides which program runs.
 SETTINGS = ("GITTUF_CPU", "GITTUF_BUILD", "GITTUF_PROVED_SINCE")
 
@@ -35,8 +39,10 @@ def is_of(words, status, printed):
     """Whether an answer that was kept is one to these words."""
     if words[0] not in LASTING or status not in LASTING[words[0]]:
         return False
-    found = VERDICT.fullmatch(printed)
-    return words[0] != "verify-ref" or bool(found) and found[1] == os.fsencode(words[1])
+    if words[0] not in VERDICTS:
+        return True
+    found = VERDICTS[words[0]].fullmatch(printed)
+    return bool(found) and found[1] == os.fsencode(words[1])
 
 
 def ids_for(words, references):

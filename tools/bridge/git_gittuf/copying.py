@@ -1,8 +1,9 @@
 """From Git into the store: by what is new alone, and no more than judging reads.
 
 Judging reads the entries of the log; of what they recorded the tags, commits and trees; and of policies and approvals the
-files too. It reads no history, and no other file. So the store gets that, as far as Git has it, the logs of remotes, so
-that the program can read them, and what a command asks for. Where a reference stands is told by its id alone.
+files too. It reads no other file, and history only for a rule against going back, for which a command asks. So the store
+gets that, as far as Git has it, the logs of remotes, so that the program can read them, and what a command asks for. Where
+a reference stands is told by its id alone.
 """
 
 import re
@@ -15,7 +16,7 @@ from stream_format import MAX_BODY
 TARGET = re.compile(rb"\n\nRSL Reference Entry\n\nref: ([^\n]+)\ntargetID: ([0-9a-f]{64})\n")
 NO_FILES = b"tree %s\n" % EMPTY_TREE
 # The folders of whose files judging reads, by the references that have them, and how large such a file is at most.
-FOLDERS = {POLICY: b"metadata", ATTESTATIONS: b"reference-authorizations"}
+FOLDERS = {POLICY: (b"metadata", b"global"), ATTESTATIONS: (b"reference-authorizations",)}
 MAX_FILE = 1 << 20
 
 
@@ -69,7 +70,7 @@ def states_of(repository, ids):
 
 def files_of(repository, targets):
     """The ids of the files that are read of policies and approvals, of which these are targets with their references."""
-    given = b"".join(b"%s:%s\n" % (target, FOLDERS[name]) for name, target in targets)
+    given = b"".join(b"%s:%s\n" % (target, folder) for name, target in targets for folder in FOLDERS[name])
     found = [it.split(b" ") for it in repository.asked("look folders up", "cat-file", "--batch-check", input=given).splitlines()]
     trees = [it[0] for it in found if len(it) == 3 and it[1] == b"tree"]
     return listed(repository, trees, f"--filter=blob:limit={MAX_FILE + 1}")

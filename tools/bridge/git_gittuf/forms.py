@@ -39,6 +39,8 @@ are_texts = all_are(is_text)
 is_envelope = has(payload=is_text, payloadType=is_text, signatures=all_are(has(keyid=is_text, sig=is_text)))
 are_keys = all_are(has(keyid=is_text, keytype=is_text, public=is_text))
 are_persons = all_are(has(name=is_text, keyids=are_texts))
+# The file of global rules is called by what no rule is called.
+GLOBAL = "global/rules"
 # Who signs: persons, or in schema 1 keys.
 WHO = {1: has(keyids=are_texts, threshold=is_number), 2: has(persons=are_texts, threshold=is_number)}
 def expect(holds, what):
@@ -46,9 +48,22 @@ def expect(holds, what):
         raise ValueError(f"{what} is not as docs/FORMATS.md has it")
 
 
+def expect_global(says):
+    """Refuses what a file of global rules says where it is none."""
+    expect(says.get("type") == "global", "its type")
+    is_rule = has(name=is_text, kind=is_text, paths=are_texts)
+    expect(all_are(is_rule)(says.get("rules")), "its list of rules")
+    asking = [it for it in says["rules"] if it["kind"] == "threshold"]
+    expect(all(is_number(it.get("threshold")) for it in asking), "how many persons a rule asks for")
+    expect(all(it["kind"] in ("threshold", "no-rewind") for it in says["rules"]), "what a rule asks for")
+
+
 def expect_says(name, says):
-    """Refuses what a file says where it is not that of a root, or of the rules of this name."""
+    """Refuses what a file says where it is not that of a root, of global rules, or of the rules of this name."""
     expect(isinstance(says, dict), "what it says")
+    if name == GLOBAL:
+        expect_global(says)
+        return
     schema = says.get("schema", 1)
     expect(type(schema) is int and schema in WHO, "its schema")
     expect(is_number(says.get("version")), "its version")
@@ -69,6 +84,10 @@ def known_part(it, fields):
 
 def says_more(says):
     """Whether a file says something that no line of it shows."""
+    if says.get("type") == "global":
+        parts = ({"name", "kind", "paths", *(["threshold"] if it["kind"] == "threshold" else [])} for it in says["rules"])
+        shown = [known_part(it, fields) for it, fields in zip(says["rules"], parts)]
+        return {**known_part(says, {"type", "version"}), "rules": shown} != says
     who = {"threshold", "persons" if says.get("schema", 1) == 2 else "keyids"}
     parts = {"keys": {"keyid", "keytype", "public"}, "rules": {"name", "paths", "terminating", *who}}
     if says.get("schema", 1) == 2:

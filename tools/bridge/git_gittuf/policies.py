@@ -17,6 +17,7 @@ from git_gittuf.shown import plain
 
 TYPE = "application/vnd.gittuf+json"
 FILES = ("root", "targets")
+GLOBAL, GLOBAL_PATH = forms.GLOBAL, b"global/rules.json"
 ROLES = FILES
 HEXADECIMAL = re.compile("(?:[0-9a-f]{2})+")
 ESCAPED = re.compile(rb"%([0-9A-Fa-f]{2})")
@@ -55,8 +56,9 @@ class Policy:
     """The files of a policy's commit, or of none, and what else is in its tree's folder `metadata`, by name."""
 
     def __init__(self, repository, commit=None, place="the policy in force"):
-        self.commit, self.files, self.others = commit, {}, {}
-        status, listed, _ = repository.git("ls-tree", "-r", "-z", commit.decode(), "metadata/") if commit else (1, b"", "")
+        self.commit, self.files, self.others, self.global_file = commit, {}, {}, None
+        places = ("metadata/", GLOBAL_PATH.decode())
+        status, listed, _ = repository.git("ls-tree", "-r", "-z", commit.decode(), *places) if commit else (1, b"", "")
         if status:
             return
         for line in filter(None, listed.split(b"\0")):
@@ -66,31 +68,51 @@ class Policy:
                 # The program reads no others.
                 continue
             text = repository.asked("read the policy", "cat-file", "blob", object_id.decode())
+            if path == GLOBAL_PATH:
+                self.read_global(text)
+                continue
             name = path.removeprefix(b"metadata/").removesuffix(b".json").decode(errors="replace")
             if name in FILES and path.endswith(b".json"):
                 self.files[name] = read_file(name, text, place)
             else:
                 self.others[path] = text
 
+    def read_global(self, text):
+        """Takes the file of global rules, or what stands in its place, which stays until another is put there."""
+        try:
+            self.global_file = File.read(GLOBAL, text)
+        except (ValueError, RecursionError):
+            self.others[GLOBAL_PATH] = text
+
     def listing(self):
         """What snapshot takes for these files."""
         texts = {f"metadata/{name}.json".encode(): file.envelope() for name, file in self.files.items()}
+        if self.global_file:
+            texts[GLOBAL_PATH] = self.global_file.envelope()
         rows = sorted({**self.others, **texts}.items())
         return b"".join(b"100644 %d %s\n%s\n" % (len(text), path, text) for path, text in rows)
 
     def says(self, name):
-        return json.loads(json.dumps(self.all_files()[name].says))
+        return json.loads(json.dumps(self.signed_files()[name].says))
 
     def role(self, name):
-        """Who signs a file: the role of its name, or for a delegated rule's file that rule."""
+        """Who signs a file: the role of its name, of the root for global rules, or for a delegated rule's file that rule."""
+        name = "root" if name == GLOBAL else name
         return self.files["root"].says["roles"][name] if name in ROLES else self.rule(name) or {"persons": [], "threshold": 1}
 
     def all_files(self):
         """The files by their names, those of delegated rules last."""
         return {**self.files, **self.delegated()}
 
+    def signed_files(self):
+        """All files that are signed, by their names: the file of global rules too, where there is one."""
+        return {**self.all_files(), **({GLOBAL: self.global_file} if self.global_file else {})}
+
     def set_file(self, name, file):
-        if name in FILES:
+        if name == GLOBAL:
+            self.global_file = file
+            self.others.pop(GLOBAL_PATH, None)
+        elif name in FILES:
             self.files[name] = file
         else:
             self.others[path_of(name)] = file.envelope()
@@ -177,8 +199,8 @@ def in_force(work):
 
 
 def metadata_of(work, commit):
-    """The id of the folder with a policy's files, or nothing."""
-    return work.repository.git("rev-parse", "--verify", "--quiet", f"{commit.decode()}:metadata")[1]
+    """The ids of the folders with a policy's files, or nothing."""
+    return work.repository.git("ls-tree", commit.decode(), "metadata", "global")[1]
 
 
 def expect_recorded(work, force):
@@ -211,7 +233,7 @@ def id_of(force, draft):
     """The id of a change, by which is signed what was shown: of all that the policies say, without who signed it."""
     found = hashlib.sha256()
     for it in (force, draft):
-        rows = {path_of(name): file.payload for name, file in it.all_files().items()}
+        rows = {path_of(name): file.payload for name, file in it.signed_files().items()}
         for path, text in sorted({**it.others, **rows}.items()):
             found.update(b"%d %d " % (len(path), len(text)) + path + text)
         found.update(b"end ")
@@ -233,15 +255,21 @@ def written(says):
 
 def settled(says, old, draft):
     """The file that says this: the one in force, the one that is edited, or a new one of the next version, unsigned."""
-    if old and {**says, "version": old.says["version"]} == old.says:
+    version = old.says.get("version", 0) if old else 0
+    if old and {**says, "version": version} == {**old.says, "version": version}:
         return old
-    says = {**says, "version": old.says["version"] + 1 if old else 1}
+    says = {**says, "version": version + 1}
     return draft if draft and says == draft.says else written(says)
 
 
 def path_of(name):
-    """Where a rule file stands in a policy's tree."""
-    return b"metadata/%s.json" % name.encode()
+    """Where a file stands in a policy's tree."""
+    return GLOBAL_PATH if name == GLOBAL else b"metadata/%s.json" % name.encode()
+
+
+def begin_global():
+    """What the file of global rules says before it has a rule. Its version is for who edits it: the program reads none."""
+    return {"rules": [], "type": "global", "version": 1}
 
 
 def begin_file(name):

@@ -48,7 +48,7 @@ def who_signs(draft, force, name):
 
 def waits(draft, force, name):
     """Whether a file is to be signed: it is new, another than the one in force, or others are to sign it than did."""
-    old, file, role = force.all_files().get(name), draft.all_files()[name], draft.role(name)
+    old, file, role = force.signed_files().get(name), draft.signed_files()[name], draft.role(name)
     if not old or old.payload != file.payload:
         return True
     signed, _ = policy_faults.who_signed(file, role, draft)
@@ -57,7 +57,7 @@ def waits(draft, force, name):
 
 def files_to_sign(draft, force, key_id):
     """The files that wait for the signature of this key."""
-    files = draft.all_files()
+    files = draft.signed_files()
     waiting = [it for it in files if waits(draft, force, it)]
     publics = {**force.publics(), **draft.publics()}
     unsigned = [it for it in waiting if key_id not in files[it].signers(publics)]
@@ -97,7 +97,7 @@ def sign(work, words):
     sys.stdout.flush()
     expect_shown(words, draft, force)
     for name in names:
-        file = draft.all_files()[name]
+        file = draft.signed_files()[name]
         asked = ("seal", "--add") if file.signatures else ("seal",)
         status, printed = program.run("-", key, *asked, input=file.envelope() if file.signatures else file.payload)
         if status:
@@ -122,7 +122,7 @@ def apply(work, words):
     key = leaves.signing_key(work.repository)
     commands.expect_one_log(work, words.anyway)
     draft, force = draft_and_force(work)
-    bare = [name for name, file in draft.all_files().items() if not file.signatures]
+    bare = [name for name, file in draft.signed_files().items() if not file.signatures]
     if bare:
         raise Stopped(f"nobody has signed {' and '.join(bare)} yet: git gittuf policy sign", 3)
     listing = draft.listing()
@@ -148,7 +148,7 @@ def apply(work, words):
 
 def waiting(draft, force):
     """The files that are to be signed, by their names."""
-    return {name: file for name, file in draft.all_files().items() if waits(draft, force, name)}
+    return {name: file for name, file in draft.signed_files().items() if waits(draft, force, name)}
 
 
 def object_of(force, draft):

@@ -140,6 +140,57 @@ def rule(work, words):
         tell(f"no {'file' if it.startswith('file:') else 'branch or tag'} that is here is reached by {plain(it)} yet")
 
 
+def global_rule(work, words):
+    """Adds or changes a rule that holds whatever the others delegate, or takes one out."""
+    work.bring()
+    draft, force = draft_and_force(work)
+    says = draft.says(policies.GLOBAL) if draft.global_file else policies.begin_global()
+    if words.remove:
+        take_out(says, words.remove)
+    else:
+        put_in(says, global_rule_of(words.given))
+    file = policies.settled(says, force.global_file, draft.global_file) if says["rules"] else None
+    draft.set_file(policies.GLOBAL, file)
+    kept = keep(work, draft)
+    print_changes(force, draft)
+    if not kept:
+        print("nothing is other than it was")
+
+
+def take_out(says, name):
+    others = [it for it in says["rules"] if it["name"] != name]
+    if len(others) == len(says["rules"]):
+        raise Stopped(f"there is no global rule {plain(name)}: git gittuf policy show lists them", 3)
+    says["rules"] = others
+
+
+def put_in(says, rule):
+    """Puts a rule in the place of the one of its name, or behind all."""
+    if any(it["name"] == rule["name"] for it in says["rules"]):
+        says["rules"] = [rule if it["name"] == rule["name"] else it for it in says["rules"]]
+    else:
+        says["rules"].append(rule)
+
+
+def global_rule_of(given):
+    """The rule that the words are: what it asks for, its name, how many persons, and what it speaks of."""
+    wanted = "a global rule is threshold NAME N PATTERN .., no-rewind NAME PATTERN .., or --remove NAME"
+    kind, name, *rest = given if len(given) > 1 else (None, None)
+    if kind not in ("threshold", "no-rewind"):
+        raise Stopped(wanted, 2)
+    expect_name(name)
+    rule = {"kind": kind, "name": name}
+    if kind == "threshold":
+        count, *rest = rest or ("",)
+        if not re.fullmatch("[1-9][0-9]{0,8}", count):
+            raise Stopped(wanted, 2)
+        rule["threshold"] = int(count)
+    rule["paths"] = [pattern_of(it) for it in rest]
+    if not rule["paths"] or kind == "no-rewind" and any(it.startswith("file:") for it in rule["paths"]):
+        raise Stopped(f"{wanted}; one against going back speaks of references alone", 2)
+    return rule
+
+
 def file_to_edit(says, words):
     """What the file says in which a rule stands, or is to stand; it is begun where a rule of its name delegates to it."""
     name = words.file or next((it for it in says if any(rule["name"] == words.name for rule in says[it].get("rules", []))), "targets")

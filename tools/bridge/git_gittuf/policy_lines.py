@@ -49,6 +49,15 @@ def of_rules(says):
     return lines
 
 
+def of_global(says):
+    """What holds whatever the rules delegate."""
+    lines = []
+    for rule in says["rules"]:
+        asks = f"signed by at least {rule['threshold']}" if rule["kind"] == "threshold" else "never goes back"
+        lines.append(f"global {word(rule['name'])}: {words(rule['paths'])} {asks}")
+    return lines
+
+
 def of_other(path, text):
     """The lines of another file: its rules where it has some, and else by what it is told from others."""
     name = path.removeprefix(b"metadata/").removesuffix(b".json").decode(errors="replace")
@@ -73,6 +82,9 @@ def of_policy(policy):
     lines = [*of_roles(policy), *of_persons(policy)]
     if "targets" in policy.files:
         lines += of_rules(policy.files["targets"].says)
+    if policy.global_file:
+        lines += of_global(policy.global_file.says)
+        lines += [f"file {policies.GLOBAL} says {it}" for it in of_more(policy.global_file.says)]
     for name, file in sorted(policy.files.items()):
         lines += [f"file {name} says {it}" for it in of_more(file.says)]
     for path, text in sorted(policy.others.items()):

@@ -27,6 +27,7 @@ def of_policy(policy):
         "roles": {name: of_role(policy.role(name)) for name in policies.ROLES},
         "persons": policy.persons(),
         "rules": [of_rule(file, it) for file, it in policy.rules()],
+        "global": policy.global_file.says["rules"] if policy.global_file else [],
         "others": others,
     }
 

@@ -83,6 +83,25 @@ def of_unlawful(name, words):
     return f"Entry {number} recorded a policy that does not follow the one in force, which goes on: {' '.join(words[4:])}."
 
 
+def of_global_kept(name, words):
+    return f"Each recorded change of {name.shown} keeps what holds whatever the rules delegate, or was taken back."
+
+
+def of_global_violation(name, words):
+    """Which global rule an entry breaks, and what leads out of that."""
+    number, fault = words[2], words[3]
+    way = f" Once it is taken back, git gittuf skip {number} says so."
+    if fault == "bad-file":
+        return f"Entry {number} was recorded under a policy whose file of global rules is none, or is signed by too few.{way}"
+    rule = plain(words[4])
+    if fault == "threshold":
+        short = f"For {plain(words[5])} entry {number} was signed by {words[6]} at most of those whom one rule asks"
+        return f"{short}; global rule {rule} wants {words[8]}.{way}"
+    if fault == "rewound":
+        return f"Entry {number} took {name.shown} back, or to another history, and global rule {rule} lets it only go on.{way}"
+    return f"Entry {number} took {name.shown} too far to tell whether it went on, as global rule {rule} wants.{way}"
+
+
 def of_persons(count):
     return "one person whom" if count == "1" else f"{count} persons whom"
 
@@ -144,11 +163,12 @@ def is_unrecorded(line):
 
 
 def of_line(line, remote=None):
-    """The sentence for a line that verify-ref printed, of a branch here or of a remote's in its place."""
+    """The sentence for a line that verify-ref or verify-global printed, of a branch here or of a remote's in its place."""
     words = line.split(" ")
     if words[0] == "log-broken":
         return f"The log is damaged or was tampered with at {words[1][:12]}: nothing is judged. git gittuf doctor says more."
     kinds = {"accepted": of_accepted, "tip-differs": of_tip, "violation": of_violation}
+    kinds.update({"global-kept": of_global_kept, "global-violation": of_global_violation})
     return kinds[words[0]](Name(words[1], remote), words)
 
 

@@ -33,6 +33,10 @@ The policy, edited at refs/gittuf/policy-staging until it is applied
       [--[no-]terminating]      --remove takes it out. With --file NAME it stands in the file that goes on from the rule
       [--before RULE]           NAME, whose persons sign that file. The rules root and targets have no pattern: they say
       [--file NAME] [--remove]  who signs the policy, and its rules
+  policy global threshold       what holds whatever the rules delegate: for what the patterns match never fewer than N
+      NAME N PATTERN..          persons of a rule sign, and a reference never goes back; --remove NAME takes such a rule
+  policy global no-rewind       out. Who signs the root signs the file of these rules, and verify says where one is broken
+      NAME PATTERN..
   policy show [--json]          print the policy in force, what is edited, who signed that, and its id
   policy sign [--id ID]         print what is edited and sign it: at a terminal it asks before, and elsewhere it wants
                                 the id of what policy show printed

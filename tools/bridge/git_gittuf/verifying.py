@@ -5,6 +5,7 @@ import json
 import os
 
 from git_gittuf import accounts, asking, consents, copying, damage, history, names, otherwise, remotes, sentences, signers, trust, withheld
+from git_gittuf.global_verdicts import GlobalVerdicts
 from git_gittuf.remotes import is_before
 from git_gittuf.repository import LOG, OWN, Stopped
 from git_gittuf.settings import SEEN
@@ -119,13 +120,13 @@ def json_of(work, line, meant, source, told):
     words = line.split(" ")
     kind = words[0]
     found = {"verdict": kind, "line": line, "remote": meant.remote, "root": source, **({} if told is None else {"told": told})}
-    if kind != "log-broken" and not meant.name.startswith(OWN):
+    if kind in ("accepted", "tip-differs", "violation") and not meant.name.startswith(OWN):
         found.update(protected=is_protected(work, meant.name))
-    if kind == "accepted":
+    if kind in ("accepted", "global-kept"):
         found.update(ref=words[1], entries=int(words[2]))
     elif kind == "tip-differs":
         found.update(ref=words[1], kept=words[3], recorded=words[5])
-    elif kind == "violation":
+    elif kind in ("violation", "global-violation"):
         found.update(ref=words[1], entry=int(words[2]), fault=words[3], why=" ".join(words[4:]))
     return f"{json.dumps(found, sort_keys=True)}\n".encode()
 
@@ -140,6 +141,16 @@ def show_verdict(work, words, meant, source, printed, account):
     show(printed)
     for it in accounts.in_lines(told or [], account):
         print(it, flush=True)
+
+
+def show_global(work, words, meant, source, verdicts):
+    """Prints the line on a reference by global rules, where there is one, and returns its status."""
+    status, printed = verdicts.of(meant.name)
+    line = os.fsdecode(printed).rstrip("\n")
+    show(json_of(work, line, meant, source, None) if words.json and printed else printed)
+    if is_heard():
+        say(sentences.of_line(line, meant.remote) if printed else sentences.of_status("verify-global", status))
+    return status
 
 
 def account_of(work, words):
@@ -160,6 +171,7 @@ def verify(work, words):
     if words.json or is_heard():
         ask_for_rules(work, [it.name for it in meant])
     worst, references = 1 if odd else 0, work.repository.references()
+    by_global_rules = GlobalVerdicts(work, root)
     for it in meant:
         status, printed = verdict(work, it, root)
         show_verdict(work, words, it, source, printed, account)
@@ -169,6 +181,8 @@ def verify(work, words):
             said = said_of(work, it, line, source) if printed else sentences.of_status("verify-ref", status)
             (tell if is_odd else say)(said)
         worst = max(worst, status)
+        if status < 2:
+            worst = max(worst, show_global(work, words, it, source, by_global_rules))
     beside = elsewhere(work, meant) if words.branches and words.remote is None else ()
     for it in [*map(sentences.of_elsewhere, beside), *otherwise.of_all(work, [] if words.branches else meant)]:
         tell(it)

@@ -14,7 +14,7 @@ WORDS = (
     "report", "export", "mirror", "evidence", "policy", "hook",
 )  # fmt: skip
 STORES = ("folder", "database")
-STEPS = ("init", "person", "rotate", "rule", "show", "sign", "discard", "apply")
+STEPS = ("init", "person", "rotate", "rule", "global", "show", "sign", "discard", "apply")
 
 
 # How wide a terminal is takes long to find, and says nothing here.
@@ -30,7 +30,7 @@ class Parser(argparse.ArgumentParser):
 
 
 def policy_words(parser):
-    words = parser.add_subparsers(dest="step", required=True, metavar="init, person, rotate, rule, show, sign, discard or apply")
+    words = parser.add_subparsers(dest="step", required=True, metavar="init, person, rotate, rule, global, show, sign, discard or apply")
     it = words.add_parser("init")
     it.add_argument("name")
     it.set_defaults(work="policy_edits.init")
@@ -50,6 +50,10 @@ def policy_words(parser):
     it.add_argument("--file", metavar="NAME")
     it.add_argument("--remove", action="store_true")
     it.set_defaults(work="policy_edits.rule")
+    it = words.add_parser("global")
+    it.add_argument("given", nargs="*")
+    it.add_argument("--remove", metavar="NAME")
+    it.set_defaults(work="policy_edits.global_rule")
     it = words.add_parser("rotate")
     it.add_argument("name")
     it.add_argument("public", nargs="*")

@@ -1,0 +1,82 @@
+"""The checks of tools/test on global rules in git gittuf: how they are edited and signed, and what verify says by them."""
+
+import json
+
+from checking import run, want
+from guarded_clones import MAIN, another
+
+PATH = "global/rules.json"
+TWO, KEEP = ("threshold", "two", "2", MAIN), ("no-rewind", "keep", "refs/heads/*")
+
+
+def lines_of(clones, *words):
+    return clones.gittuf("alice", "policy", "global", *words).decode().splitlines()
+
+
+def put_in_force(clones, *rules):
+    """Brings a policy with these global rules into force, which alice signs."""
+    for it in rules:
+        lines_of(clones, *it)
+    clones.sign("alice")
+    clones.gittuf("alice", "policy", "apply")
+
+
+def edits_global_rules(repositories):
+    """policy global adds, changes and takes out rules, in a file of its own that the root's persons sign"""
+    clones = another(repositories, "global rules")
+    want(lines_of(clones, *TWO), [f"+ global two: git:{MAIN} signed by at least 2"], "what a new rule changes")
+    want(lines_of(clones, *TWO)[1:], ["nothing is other than it was"], "what the same rule changes")
+    lines_of(clones, *KEEP)
+    shown = clones.gittuf("alice", "policy", "show").decode().splitlines()
+    want("+ global keep: git:refs/heads/* never goes back" in shown, True, f"whether the second rule is shown: {shown}")
+    want("global/rules is signed by 0 of 1" in shown, True, f"whether the file waits for the root's person: {shown}")
+    clones.refused("alice", "policy", "apply", status=3, part="nobody has signed global/rules yet")
+    clones.sign("alice")
+    clones.gittuf("alice", "policy", "apply")
+    found = clones.git("cat-file", "blob", f"refs/gittuf/policy:{PATH}", who="alice")
+    want(len(json.loads(found)["signatures"]), 1, "the signatures of the file")
+    told = json.loads(clones.gittuf("alice", "policy", "show", "--json"))["in_force"]["global"]
+    want([(it["name"], it["kind"], it["paths"]) for it in told], [("two", "threshold", [f"git:{MAIN}"]), ("keep", "no-rewind", ["git:refs/heads/*"])], "the rules")
+    want(lines_of(clones, "threshold", "two", "3", MAIN)[-1], f"+ global two: git:{MAIN} signed by at least 3", "what another number changes")
+    lines_of(clones, "--remove", "two")
+    want(lines_of(clones, "--remove", "keep")[-1][:2], "- ", "what the last rule leaves")
+    clones.gittuf("alice", "policy", "apply")
+    want(run("git", "-C", clones.path("alice"), "cat-file", "-e", f"refs/gittuf/policy:{PATH}")[0] != 0, True, "whether the file is gone")
+
+
+def refuses_global_rules(repositories):
+    """what is no global rule is refused, and a file that is none is put away by the next rule"""
+    clones = another(repositories, "no global rules")
+    refused = lambda *words, status=2, part="a global rule is": clones.refused("alice", "policy", "global", *words, status=status, part=part)
+    refused()
+    refused("threshold", "two", MAIN)
+    refused("threshold", "two", "0", MAIN)
+    refused("threshold", "two", "2")
+    refused("rewind", "two", MAIN)
+    refused("no-rewind", "keep", "file:docs/*")
+    refused("no-rewind", "a name", MAIN, part="is no name")
+    refused("no-rewind", "keep", "main", part="says not what it is")
+    refused("--remove", "two", status=3, part="there is no global rule two")
+
+
+def tells_global_verdicts(repositories):
+    """verify says behind a verdict which global rule an entry breaks, as for a rewind past commits that nobody recorded"""
+    clones = another(repositories, "global verdicts")
+    put_in_force(clones, KEEP)
+    for _ in range(3):
+        clones.commit("alice")
+    clones.gittuf("alice", "record", "main")
+    want(clones.gittuf("alice", "verify", "main").decode().splitlines()[-1], f"global-kept {MAIN} 2 entries", "the line of a branch that goes on")
+    clones.git("reset", "--quiet", "--hard", "HEAD~2", who="alice")
+    clones.gittuf("alice", "record", "main", "--anyway")
+    line = f"global-violation {MAIN} 5 rewound keep"
+    found = clones.gittuf("alice", "verify", "main", status=1).decode().splitlines()
+    want(found, [f"accepted {MAIN} 3 entries", line], "the lines of one that goes back")
+    told = [json.loads(it) for it in clones.gittuf("alice", "verify", "main", "--json", status=1).decode().splitlines()]
+    want([(it["verdict"], it.get("entry"), it.get("fault"), it.get("why")) for it in told], [("accepted", None, None, None), ("global-violation", 5, "rewound", "keep")], "the same as JSON")
+    clones.gittuf("alice", "skip", "5")
+    clones.git("reset", "--quiet", "--hard", "ORIG_HEAD", who="alice")
+    want(clones.gittuf("alice", "verify", "main").decode().splitlines()[-1], f"global-kept {MAIN} 3 entries", "the line once the entry is skipped")
+
+
+CHECKS = (edits_global_rules, refuses_global_rules, tells_global_verdicts)
