@@ -27,10 +27,7 @@ fn verify_global_command<'a>(alloc: Global) -> Result<clap::Command<'a>, AllocEr
 }
 
 // What `verify-global` finds in the words after it.
-fn take_verify_global<'a>(
-    alloc: Global,
-    words: &'a [String],
-) -> Result<ArgMatches<'a>, WordsFault>
+fn take_verify_global<'a>(alloc: Global, words: &'a [String]) -> Result<ArgMatches<'a>, WordsFault>
     ensures taken { OnOk result (Takes verify_global_app (map string_bytes words.entry.now)) }
     ensures rows { IfOk result (λ m. rows_of (found_of m) ≡ matches_of verify_global_app
         (map string_bytes words.entry.now)) }

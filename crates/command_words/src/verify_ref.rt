@@ -44,7 +44,10 @@ fn take_verify_ref<'a>(alloc: Global, words: &'a [String]) -> Result<ArgMatches<
 }
 
 /// The ids of keys that are given, if any are.
-pub(crate) fn root_in(alloc: Global, matches: &ArgMatches) -> Result<Option<Items<KeyId>>, WordsFault>
+pub(crate) fn root_in(
+    alloc: Global,
+    matches: &ArgMatches,
+) -> Result<Option<Items<KeyId>>, WordsFault>
     ensures found { IfOk result (IsRoot (first_of (codes "root") (rows_of (found_of matches.now)))) }
     ensures outside { IsErrOf result WordsFault.Outside → (root : Option (List (List ℕ)))
         → IsRoot (first_of (codes "root") (rows_of (found_of matches.now))) root → ⊥ }
