@@ -8,9 +8,9 @@ mod hints;
 mod needs;
 mod serving;
 
-use crate::hints::{hint_at_shared_key, hint_at_slow_key};
+use crate::hints::{hint_at_desk, hint_at_shared_key, hint_at_slow_key};
 use crate::needs::{Needs, needs_of};
-use crate::serving::desk_after;
+use crate::serving::desk_of;
 use command_words::{FrontWords, KeyPlace, after_places};
 use desk_http::serve_store;
 use edge_io::{Failed, FileDisk, MemDisk, OsClock, OsEntropy, StdSink, StdSource};
@@ -116,12 +116,17 @@ fn main(rt: HostRuntime) -> ExitCode {
         Ok(places) => places,
         Err(status) => return ExitCode::from(status),
     };
+    let asked = match desk_of(&rt, places.command) {
+        Ok(asked) => asked,
+        Err(status) => return ExitCode::from(status),
+    };
     let (status, keeper) = match start(&rt, places) {
         Ok(ran) => ran,
         Err(status) => return ExitCode::from(status),
     };
-    let (status, keeper) = match desk_after(&rt, places.command, status) {
-        Ok(asked) => {
+    let (status, keeper) = match asked {
+        Some(asked) if status == 0 => {
+            hint_at_desk(&rt);
             let (keeper, end) = serve_store(
                 &rt,
                 rt.alloc(),
@@ -132,7 +137,7 @@ fn main(rt: HostRuntime) -> ExitCode {
             );
             (say_end(rt.stdout(), rt.stderr(), &end), keeper)
         }
-        Err(status) => (status, keeper),
+        _ => (status, keeper),
     };
     ExitCode::from(end_store(&rt, keeper, status))
 }
