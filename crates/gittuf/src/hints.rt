@@ -29,10 +29,10 @@ pub(crate) fn hint_at_slow_key(rt: &HostRuntime, needs: &Needs) {
     }
 }
 
-/// Tells where the desk is asked, and how it is stopped.
+/// Tells that a desk is about to be opened, and how it is stopped.
 pub(crate) fn hint_at_desk(rt: &HostRuntime) {
     hint(
         rt,
-        b"gittuf: the desk is open on this machine; Ctrl-C stops it\n",
+        b"gittuf: opening the desk on this machine; Ctrl-C stops it\n",
     );
 }
