@@ -64,7 +64,7 @@ def believes_no_damage(repositories):
     path = os.path.join(clones.path("bob"), ".git", "gittuf", "answers")
     moved = clones.commit("bob")
     line = f"tip-differs {MAIN} kept {moved} recorded {clones.tip('bob', 'main~1')}\n".encode()
-    judged = lambda: run("git", "-C", clones.path("bob"), "gittuf", "verify", "main")
+    judged = lambda: clones.asked("bob", "verify", "main")
     want(judged()[:2], (1, line), "the verdict at first")
     with open(path, "rb") as file:
         whole = file.read()
@@ -83,7 +83,7 @@ def believes_no_damage(repositories):
     shutil.copytree(clones.path("bob"), clones.path("copy"))
     objects = os.path.join(clones.path("copy"), ".git", "gittuf", "kept", "objects")
     os.remove(os.path.join(objects, clones.tip("copy", f"{MAIN}^{{tree}}")))
-    _, output, errors = run("git", "-C", clones.path("copy"), "gittuf", "verify", "main")
+    _, output, errors = clones.asked("copy", "verify", "main")
     want((output, b"the store was damaged" in errors), (f"accepted {MAIN} 1 entries\n".encode(), True), "what a copy answers")
 
 

@@ -4,7 +4,7 @@ import json
 import os
 import re
 
-from checking import run, want
+from checking import want
 from guarded_clones import MAIN, another
 
 LOG, POLICY, ATTESTATIONS = "refs/gittuf/reference-state-log", "refs/gittuf/policy", "refs/gittuf/attestations"
@@ -67,7 +67,7 @@ def approves_for_more(repositories):
     clones.gittuf("alice", "policy", "rule", "main", "--persons", "alice,bob,carol", "--threshold", "3")
     applied(clones, "alice")
     tip = clones.commit("alice")
-    _, _, errors = run("git", "-C", clones.path("alice"), "gittuf", "approve", "main")
+    _, _, errors = clones.asked("alice", "approve", "main")
     said = f"rule main wants 3 of alice, bob, carol: with you 1 signed, and missing is bob or carol: git gittuf approve main {tip[:12]}"
     want(said in errors.decode(), True, f"what is told: {errors}")
 
@@ -129,7 +129,7 @@ def applies_nothing_in_vain(repositories):
     number = len(clones.git("rev-list", LOG, who="bob").split())
     line = f"violation {POLICY} {number} not-epoch root-succession 0 of 1\n".encode()
     want(clones.gittuf("bob", "verify", POLICY, status=1), line, "the verdict on a policy that was recorded in vain")
-    _, _, errors = run("git", "-C", clones.path("bob"), "gittuf", "policy", "discard")
+    _, _, errors = clones.asked("bob", "policy", "discard")
     clones.copied("bob", re.search(r"git update-ref \S+ \w+", errors.decode())[0])
     clones.gittuf("bob", "policy", "discard")
     stray = clones.tip("bob", f"{POLICY}~1")

@@ -5,7 +5,7 @@ import os
 import subprocess
 import sys
 
-from checking import Failure, at_terminal, run, want
+from checking import Failure, at_terminal, want
 from guarded_clones import MAIN, another
 from rows_objects import object_id
 
@@ -112,7 +112,7 @@ def refuses_what_does_not_fit(repositories):
         clones.refused("bob", "push", "--desk", port, status=3, part=f"git gittuf fetch --desk {port} brings them")
         clones.gittuf("bob", "note", "1", "-m", "second")
         clones.refused("bob", "push", "--desk", port, status=3, part="has another entry 3 than is here")
-        found, _, said = run("git", "-C", clones.path("bob"), "gittuf", "fetch", "--desk", port)
+        found, _, said = clones.asked("bob", "fetch", "--desk", port)
         want((found, b"of desk went apart" in said), (0, True), f"what bob is told: {said}")
         clones.git("update-ref", "-d", THEIRS, who="bob")
         clones.refused("bob", "push", "--remote", "desk", status=3, part="desk is a desk")
@@ -124,7 +124,7 @@ def takes_nothing_of_a_bad_stream(repositories):
     before = clones.git("for-each-ref", who="bob")
     for name, text, part in made_streams(clones):
         with told(text) as port:
-            found, output, said = run("git", "-C", clones.path("bob"), "gittuf", "fetch", "--desk", port)
+            found, output, said = clones.asked("bob", "fetch", "--desk", port)
         if found not in (3, 4) or output or part not in said.decode():
             raise Failure(f"a stream that is {name} ended with {found}, {output!r} and {said!r}")
         want(clones.git("for-each-ref", who="bob"), before, f"the references after a stream that is {name}")

@@ -141,7 +141,7 @@ def leads_out_where_it_stood(repositories):
     clones.gittuf("bob", "record", "main", "--anyway")
     denied(clones, "bob", "origin", "main", f"{LOG}:{LOG}", part="main stands in violation since entry 3, and this push would not end it")
     clones.git("pull", "--quiet", who="alice")
-    said = run("git", "-C", clones.path("alice"), "gittuf", "recover", "main")[2].decode()
+    said = clones.asked("alice", "recover", "main")[2].decode()
     clones.git("push", "--quiet", "origin", f"{LOG}:{LOG}", who="alice")
     clones.copied("alice", said.partition(" are wanted: ")[2].strip())
     clones.gittuf("alice", "push")

@@ -158,7 +158,7 @@ def follows_and_gives_up(repositories):
     status, _, errors = run("git", "-C", clones.path("bob"), "push", "--quiet")
     want((status, b"rejected" in errors), (1, True), "the status of the second push, and whether it is rejected")
     clones.git("pull", "--quiet", "--no-rebase", "--no-edit", who="bob")
-    status, _, errors = run("git", "-C", clones.path("bob"), "gittuf", "verify", "main")
+    status, _, errors = clones.asked("bob", "verify", "main")
     want((status, b"went apart" in errors), (3, True), "the status of verify, and whether it says that the logs went apart")
     found = clones.gittuf("bob", "doctor", status=1)
     want(b"git gittuf doctor --take origin" in found, True, "whether doctor tells the way out")
@@ -216,7 +216,7 @@ def tells_a_used_key(repositories):
     # Each call first goes on to where the server's log is.
     clones.gittuf("bob", "log")
     before = clones.git("for-each-ref", who="bob")
-    found = run("git", "-C", clones.path("bob"), "gittuf", "record", "--anyway", "main")
+    found = clones.asked("bob", "record", "--anyway", "main")
     want(found, (6, b"", b"exhausted\n"), "the status, output and errors of record")
     want(clones.git("for-each-ref", who="bob"), before, "the references afterwards")
     clones.verdict("bob", f"accepted {MAIN} 1 entries")

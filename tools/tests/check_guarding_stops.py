@@ -47,7 +47,7 @@ def is_mended_after_stops(repositories):
         ended = stopped(clones, whole * (it + 0.5) / stops, it % 2)
         as_before = f"tip-differs {MAIN} kept {kept} recorded {recorded}\n".encode()
         done = b"accepted %s %d entries\n" % (MAIN.encode(), count + 1)
-        status, output, errors = run("git", "-C", clones.path("alice"), "gittuf", "verify", "main")
+        status, output, errors = clones.asked("alice", "verify", "main")
         if (status, output, errors) not in ((1, as_before, b""), (0, done, b"")) or ended and status:
             raise Failure(f"after stop {it} verify ends with {status}, {output!r} and {errors!r}")
         ends["as before" if status else "done"] += 1
@@ -142,7 +142,7 @@ def one_at_a_time(repositories):
     words = (sys.executable, "-B", "-c", script.replace("60", "10"), BRIDGE, "w")
     with subprocess.Popen(words, cwd=clones.path("bob"), stdout=subprocess.PIPE) as first:
         first.stdout.read(1)
-        status, output, errors = run("git", "-C", clones.path("bob"), "gittuf", "verify", "main")
+        status, output, errors = clones.asked("bob", "verify", "main")
     want((status, output, b"waiting for it, up to 30 s" in errors), (0, line, True), f"what a call says that waits: {errors}")
     clones.verdict("bob", f"accepted {MAIN} 1 entries")
 

@@ -87,7 +87,7 @@ def works_in_a_database(repositories):
     clones.gittuf("mallory", "log")
     clones.commit("mallory", "evil")
     clones.gittuf("mallory", "record", "main", "--anyway")
-    status, _, errors = run("git", "-C", clones.path("mallory"), "gittuf", "push", "--anyway")
+    status, _, errors = clones.asked("mallory", "push", "--anyway")
     want((status != 0, b"nothing of this push is taken" in errors), (True, True), f"whether the server refuses a stranger: {errors}")
     clones.git("pull", "--quiet", who="bob")
     words = ("verify", "-v")
@@ -179,7 +179,7 @@ def mends_a_database(repositories):
                 file.write(it)
         else:
             change(place, it)
-        status, output, errors = run("git", "-C", clones.path("bob"), "gittuf", "verify", "main")
+        status, output, errors = clones.asked("bob", "verify", "main")
         want((status, output, errors.endswith(DAMAGED)), (0, ACCEPTED, True), f"what is said after {it[:60]}: {errors}")
         is_sound(place)
     # A row that stands for nothing goes into no stream, and so not into another store.

@@ -26,7 +26,7 @@ def no_entry(clones, who, parent, tree=EMPTY_TREE):
 def told_and_judged(clones, who, part):
     """Holds a verdict on main to accepted, told with a log of the remote that does not fit, and the own log to where it stood."""
     before = clones.tip(who, LOG)
-    status, output, errors = run("git", "-C", clones.path(who), "gittuf", "verify", "main")
+    status, output, errors = clones.asked(who, "verify", "main")
     want((status, output, part in errors), (3, ACCEPTED, True), f"the status, output and sentence of verify: {errors}")
     want(clones.tip(who, LOG), before, "where the own log stands")
 
@@ -113,7 +113,7 @@ def leads_past_odd_approvals(repositories):
     clones.git("push", "--quiet", who="mallory")
     clones.git("fetch", "--quiet", who="bob")
     clones.commit("bob")
-    _, _, errors = run("git", "-C", clones.path("bob"), "gittuf", "approve", "main")
+    _, _, errors = clones.asked("bob", "approve", "main")
     way = errors.decode().strip().rpartition(" goes back by ")[2]
     status, _, errors = run("bash", "-c", way, folder=clones.path("bob"))
     want(status, 0, f"the status of {way}: {errors}")

@@ -4,7 +4,7 @@ import json
 import os
 import re
 
-from checking import run, want
+from checking import want
 from guarded_clones import MAIN, another
 
 LOG, POLICY = "refs/gittuf/reference-state-log", "refs/gittuf/policy"
@@ -49,7 +49,7 @@ def rotates_a_key(repositories):
     clones.refused("alice", "policy", "rotate", "carol", clones.public("bob"), status=3, part="there is no person carol")
     applied(clones, "alice")
     clones.gittuf("alice", "key", "--file", new, "--height", "5")
-    _, _, errors = run("git", "-C", clones.path("alice"), "gittuf", "policy", "rotate", "alice")
+    _, _, errors = clones.asked("alice", "policy", "rotate", "alice")
     want(b"signs this by both keys" in errors, True, f"what is said of both keys: {errors}")
     clones.sign("alice")
     clones.refused("alice", "policy", "apply", status=3, part="policy root-succession 0 of 1")
@@ -100,7 +100,7 @@ def mends_a_damaged_store(repositories):
     place = os.path.join(clones.path("bob"), ".git", "gittuf", "kept", "objects", clones.tip("bob", "main^{tree}"))
     for damage in (os.remove, lambda path: open(path, "wb").close()):
         damage(place)
-        status, output, errors = run("git", "-C", clones.path("bob"), "gittuf", "verify", "main")
+        status, output, errors = clones.asked("bob", "verify", "main")
         want((status, output, b"the store was damaged, and is made again from Git" in errors), (0, accepted, True), f"what is said: {errors}")
 
 

@@ -2,7 +2,7 @@
 
 import os
 
-from checking import run, want
+from checking import want
 from git_gittuf import epochs
 from guarded_clones import MAIN, another
 
@@ -24,7 +24,7 @@ def further(repositories, name):
 
 def told(clones, who, part):
     """Holds a verdict to one over the own log that ends with 3, and says this of the server's."""
-    status, output, errors = run("git", "-C", clones.path(who), "gittuf", "verify", "main")
+    status, output, errors = clones.asked(who, "verify", "main")
     want((status, output.decode(), part in errors.decode()), (3, ACCEPTED, True), f"what verify of {who} says: {errors}")
 
 
@@ -44,7 +44,7 @@ def tells_a_rollback(repositories):
     want(clones.tip("alice", LOG), whole, "where the own log stands")
     clones.gittuf("alice", "doctor", "--take", "origin", "--anyway")
     want(clones.tip("alice", LOG), older, "where it stands once that is given up")
-    want(run("git", "-C", clones.path("alice"), "gittuf", "verify")[0], 1, "the status of verify then")
+    want(clones.asked("alice", "verify")[0], 1, "the status of verify then")
 
 
 def tells_a_dropped_log(repositories):
@@ -105,7 +105,7 @@ def follows_nothing_invented(repositories):
     for name in ("x/reference-state-log", f"targets/{junk}", "targets/x", "anything"):
         clones.git("update-ref", f"refs/gittuf/{name}", junk, who="server.git")
     clones.git("fetch", "--quiet", who="bob")
-    status, output, errors = run("git", "-C", clones.path("bob"), "gittuf", "verify", "main")
+    status, output, errors = clones.asked("bob", "verify", "main")
     want((status, output, errors), (0, f"accepted {MAIN} 1 entries\n".encode(), b""), "what verify says")
     want("origin/x" in clones.gittuf("bob", "doctor").decode(), False, "whether doctor names a remote that is none")
     own = set(clones.git("for-each-ref", "--format=%(refname)", "refs/gittuf/", who="bob").decode().split())
@@ -130,8 +130,8 @@ def takes_no_branch_for_a_log(repositories):
         for who in ("bob", "newcomer"):
             clones.git("fetch", "--quiet", who=who)
             for anew in ((), ("setup", "--anew")):
-                run("git", "-C", clones.path(who), "gittuf", *(anew or ("log",)))
-                status, output, errors = run("git", "-C", clones.path(who), "gittuf", "verify", "main")
+                clones.asked(who, *(anew or ("log",)))
+                status, output, errors = clones.asked(who, "verify", "main")
                 want((status, output, b"damaged" in errors), (3, accepted, False), f"what {who} is told beside {name}: {errors}")
     clones.git("update-ref", LOG, log, who="server.git")
     clones.git("fetch", "--quiet", "--force", who="newcomer")

@@ -152,7 +152,7 @@ def gives_back_what_git_lost(repositories):
     without_targets(clones, "alice")
     forget(clones, "alice")
     want([is_there(clones, "alice", it) for it in (whole, partly)], [False, False], "what Git has of both")
-    status, _, errors = run("git", "-C", clones.path("alice"), "gittuf", "verify", "main")
+    status, _, errors = clones.asked("alice", "verify", "main")
     want((status, f"{whole[:12]}, and has it again from the store" in errors.decode()), (1, True), f"what is told: {errors}")
     want((f"recorded, {partly[:12]}, and it is judged as missing" in errors.decode(), is_there(clones, "alice", partly)), (True, False), "of the other")
     clones.verdict("alice", f"tip-differs {MAIN} kept {before} recorded {whole}")
@@ -197,13 +197,13 @@ def tells_missing_from_damaged(repositories):
     for lost in (clones.tip("bob", LOG), clones.tip("bob", f"{LOG}~1"), clones.tip("bob", f"{MAIN}^{{tree}}")):
         for damage in (os.remove, lambda path: open(path, "wb").close()):
             damage(os.path.join(objects, lost))
-            status, output, errors = run("git", "-C", clones.path("bob"), "gittuf", "verify", "main")
+            status, output, errors = clones.asked("bob", "verify", "main")
             want((status, output, b"the store was damaged, and is made again" in errors), (0, accepted, True), f"what is said of {lost}: {errors}")
     nowhere = f"{'ab' * 32}"
     recorded_by_nobody(clones, "bob", [nowhere])
     clones.git("branch", "many", who="bob")
     number = len(clones.git("rev-list", LOG, who="bob").split())
-    status, output, errors = run("git", "-C", clones.path("bob"), "gittuf", "verify", "many")
+    status, output, errors = clones.asked("bob", "verify", "many")
     line = f"violation {MANY} {number} broken {nowhere}\n".encode()
     want((status, output, b"damaged" in errors), (1, line, False), f"what is said of what is nowhere: {errors}")
 

@@ -36,7 +36,7 @@ def keeps_what_was_seen(repositories):
     clones = another(repositories, "seen")
     clones.clone("newcomer", key=False)
     alice = key_of(clones, "alice")
-    first, second = (run("git", "-C", clones.path("newcomer"), "gittuf", "verify", "main") for _ in range(2))
+    first, second = (clones.asked("newcomer", "verify", "main") for _ in range(2))
     told = (
         "the first policy seen here is that of alice, and each later one is to come from it: ask them for the ids of their keys,"
         f" and git gittuf setup --root {alice} pins it"

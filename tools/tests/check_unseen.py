@@ -3,7 +3,7 @@
 import json
 import os
 
-from checking import at_terminal, run, want
+from checking import at_terminal, want
 from guarded_clones import MAIN, another
 
 LOG, POLICY = "refs/gittuf/reference-state-log", "refs/gittuf/policy"
@@ -12,7 +12,7 @@ LAWFUL = f"accepted {POLICY} 1 entries"
 
 def said(clones, who, *words, status=0):
     """What git gittuf says beside what it prints."""
-    found, _, errors = run("git", "-C", clones.path(who), "gittuf", *words)
+    found, _, errors = clones.asked(who, *words)
     want(found, status, f"the status of git gittuf {' '.join(words)} of {who}: {errors}")
     return errors.decode()
 

@@ -3,7 +3,7 @@
 import os
 import re
 
-from checking import at_terminal, run, want
+from checking import at_terminal, want
 from guarded_clones import MAIN, SMALL, another
 
 LOG, ATTESTATIONS = "refs/gittuf/reference-state-log", "refs/gittuf/attestations"
@@ -17,7 +17,7 @@ def with_mallory(repositories, name):
 
 
 def told(clones, who, *words, status):
-    found, _, errors = run("git", "-C", clones.path(who), "gittuf", *words)
+    found, _, errors = clones.asked(who, *words)
     want(found, status, f"the status of git gittuf {' '.join(words)}: {errors}")
     return errors.decode()
 

@@ -48,10 +48,14 @@ def programs():
 PROGRAM, SMALL_PROGRAM = programs()
 
 
+# What calls took of the processor that were no programs of their own, as others than this process counted it.
+counted = []
+
+
 def processor_seconds():
     """What the programs that have ended so far took of the processor, of which other work on the machine changes little."""
     used = resource.getrusage(resource.RUSAGE_CHILDREN)
-    return used.ru_utime + used.ru_stime
+    return used.ru_utime + used.ru_stime + sum(counted)
 
 
 @contextlib.contextmanager

@@ -4,13 +4,17 @@ import os
 import shutil
 import sys
 
-from checking import GIT_TO_STREAM, LAUNCHER, TOP, Failure, alone, run, shared_folder, want
+import loaded
+from checking import PROGRAM, Failure, alone, run, shared_folder, want
 
-TOOL = os.path.join(TOP, "tools", "git-gittuf")
+TOOL = loaded.TOOL
 MAIN = "refs/heads/main"
 # A key that is made at once and signs at once, and how often it signs: no check but one wants more.
 SMALL, SIGNATURES = ("--height", "5", "--width", "1"), 32
 LARGER = ("--height", "10", "--width", "1")
+# Whose clones are alike, and what Git has begun so far: a word of git gittuf, and whether it was in one of these.
+MAINTAINERS = ("alice", "bob")
+begun = set()
 
 
 class Clones:
@@ -46,24 +50,35 @@ class Clones:
             raise Failure(f"git {' '.join(words)} of {who}: {errors.decode().strip()}")
         return output
 
+    def asked(self, who, *words):
+        """The status, the output and the errors of git gittuf, which Git begins at the first call of each word in a topic."""
+        kind = (words[:1], who in MAINTAINERS)
+        if kind not in begun:
+            begun.add(kind)
+            return run("git", "-C", self.path(who), "gittuf", *words)
+        return loaded.git_gittuf(self.path(who), *words)
+
     def gittuf(self, who, *words, status=0):
         """What git gittuf prints for these words, which are to end with this status."""
-        found, output, errors = run("git", "-C", self.path(who), "gittuf", *words)
+        found, output, errors = self.asked(who, *words)
         if found != status:
             raise Failure(f"git gittuf {' '.join(words)} of {who} ended with {found}: {output.decode()}{errors.decode()}")
         return output
 
     def refused(self, who, *words, status, part, environment=None):
         """Holds what git gittuf refuses to its status and a part of its one line."""
-        more = tuple(f"{name}={value}" for name, value in (environment or {}).items())
-        found, output, errors = run("env", *more, "git", "-C", self.path(who), "gittuf", *words)
+        if environment:
+            more = (f"{name}={value}" for name, value in environment.items())
+            found, output, errors = run("env", *more, "git", "-C", self.path(who), "gittuf", *words)
+        else:
+            found, output, errors = self.asked(who, *words)
         lines = errors.decode().splitlines()
         if (found, output, len(lines)) != (status, b"", 1) or part not in lines[0]:
             raise Failure(f"git gittuf {' '.join(words)} ended with {found}, {output!r} and {errors!r}, and wanted is {part!r}")
 
     def refused_after(self, who, *words, status, part):
         """The same where what is asked for is shown before it is refused. Returns what is said."""
-        found, _, errors = run("git", "-C", self.path(who), "gittuf", *words)
+        found, _, errors = self.asked(who, *words)
         if found != status or part not in errors.decode():
             raise Failure(f"git gittuf {' '.join(words)} ended with {found} and {errors!r}, and wanted is {part!r}")
         return errors.decode()
@@ -127,8 +142,8 @@ class Clones:
         """Holds the verdict of a clone to this line, and the program's on its whole stream to the same."""
         status = 0 if line.startswith("accepted") else 1
         want(self.gittuf(who, "verify", name, *words, status=status).decode(), f"{line}\n", f"the verdict of {who}")
-        stream = run(GIT_TO_STREAM, self.path(who))[1]
-        found = run(LAUNCHER, "-", "-", "verify-ref", name, *words, "--stdin", input=stream)
+        stream = loaded.stream_of(self.path(who))
+        found = run(PROGRAM, "-", "-", "verify-ref", name, *words, "--stdin", input=stream)
         want(found[:2], (status, f"{line}\n".encode()), f"the verdict on the whole stream of {who}")
 
     def sound(self, *clones):

@@ -36,7 +36,7 @@ class Days:
 
     def gittuf(self, who, *words):
         """Calls a word of git gittuf, which may be refused, by a status and in sentences."""
-        status, output, errors = run("git", "-C", self.clones.path(who), "gittuf", *words)
+        status, output, errors = self.clones.asked(who, *words)
         if status not in STATUSES or b"Traceback" in errors:
             raise Failure(f"after {self.did} git gittuf {' '.join(words)} of {who} ended with {status}: {errors.decode()[-400:]}")
         return output.decode()

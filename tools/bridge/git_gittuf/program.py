@@ -10,6 +10,8 @@ from stream_format import Git
 
 TOP = os.path.dirname(os.path.dirname(os.path.dirname(os.path.dirname(os.path.realpath(__file__)))))
 LAUNCHER = os.path.join(TOP, "gittuf")
+# What a command of the program is asked of.
+CALLED = LAUNCHER
 # What the launcher looks at, in each of the places where a program may be.
 NAMES = ("gittuf", "gittuf-x86-64-v2", "gittuf-x86-64-v3", "gittuf.cpu", "gittuf.sources", "version")
 # A person waits so many seconds before something is said.
@@ -73,7 +75,7 @@ def told(store, key, *words, input=b""):
 
 def offered(store, pieces, *words):
     """The same as `told` for standard input in pieces, which is not held as a whole. The program may take it for none early."""
-    command = (LAUNCHER, store, "-", *words)
+    command = (CALLED, store, "-", *words)
     how = {"stdin": subprocess.PIPE, "stdout": subprocess.PIPE, "stderr": subprocess.PIPE, "pass_fds": Git.kept_open}
     with subprocess.Popen(command, **how) as ran:
         try:
@@ -94,8 +96,8 @@ def offered(store, pieces, *words):
 def piped(first, second):
     """Gives what the program prints for these words to it for others, and returns what either says that failed, or nothing."""
     how = {"stdout": subprocess.PIPE, "stderr": subprocess.PIPE, "pass_fds": Git.kept_open}
-    with subprocess.Popen((LAUNCHER, *first), stdin=subprocess.DEVNULL, **how) as gives:
-        with subprocess.Popen((LAUNCHER, *second), stdin=gives.stdout, **how) as takes:
+    with subprocess.Popen((CALLED, *first), stdin=subprocess.DEVNULL, **how) as gives:
+        with subprocess.Popen((CALLED, *second), stdin=gives.stdout, **how) as takes:
             # Where nobody takes any more, who gives is to be told.
             gives.stdout.close()
             said = takes.communicate()[1], gives.stderr.read()
@@ -104,7 +106,7 @@ def piped(first, second):
 
 
 def ended(store, key, words, input, output, errors):
-    command = (LAUNCHER, store, key, *words)
+    command = (CALLED, store, key, *words)
     sys.stdout.flush()
     started, progress = time.monotonic(), Progress()
     # Where the program itself writes on the terminal a line would stand among its own.
@@ -112,7 +114,7 @@ def ended(store, key, words, input, output, errors):
     try:
         ran = subprocess.Popen(command, stdin=subprocess.PIPE, stdout=output, stderr=errors, pass_fds=Git.kept_open)
     except OSError as error:
-        raise Stopped(f"{LAUNCHER} does not run: {error.strerror}") from None
+        raise Stopped(f"{CALLED} does not run: {error.strerror}") from None
     with ran:
         while True:
             try:
