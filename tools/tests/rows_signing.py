@@ -5,7 +5,12 @@ number 0xfffd. Nothing here may guard anything: a key's seed is its name.
 """
 
 import functools
-import hashlib
+
+try:
+    # Of short texts Python's own makes the most in a time: what hashlib calls takes longer to begin.
+    from _sha256 import sha256 as hash_of
+except ImportError:
+    from hashlib import sha256 as hash_of
 
 HEIGHT, LEAVES, CHAINS, LAST = 5, 32, 34, 255
 LMS_TYPE, OTS_TYPE = (5).to_bytes(4, "big"), (4).to_bytes(4, "big")
@@ -15,7 +20,7 @@ RANDOMIZER, MESSAGE, PUBLIC, LEAF, INNER = 0xFFFD, 0x8181, 0x8080, 0x8282, 0x838
 
 
 def sha256(*parts):
-    return hashlib.sha256(b"".join(parts)).digest()
+    return hash_of(b"".join(parts)).digest()
 
 
 def short(number):
@@ -29,7 +34,7 @@ def long(number):
 def walked_on(front, value, first, end):
     """The value of a chain after the steps from the first up to the end."""
     for step in STEPS[first:end]:
-        value = hashlib.sha256(front + step + value).digest()
+        value = hash_of(front + step + value).digest()
     return value
 
 
@@ -139,7 +144,7 @@ class OneLeaf:
         front = self.identifier + long(self.leaf) + short(chain)
         value = sha256(front, b"\xff", self.seed)
         for step in range(steps):
-            value = hashlib.sha256(front + bytes((step,)) + value).digest()
+            value = hash_of(front + bytes((step,)) + value).digest()
         return value
 
     def sign(self, _leaf, message):
