@@ -5,7 +5,7 @@ import os
 
 from check_keys import ENTRY_LINE, KEY_LINE, line_of
 from check_snapshots import listing_of, seal, take_snapshot
-from checking import LAUNCHER, TOP, ZEROS
+from checking import LAUNCHER, PROGRAM, TOP, ZEROS
 from checking import Failure, run, want, want_run
 from made_folders import command, object_file
 
@@ -35,7 +35,7 @@ class Guarded:
         self.place, self.keys, self.ids, self.publics, self.entries = repositories.path(name), {}, {}, {}, []
         for who in PEOPLE:
             self.keys[who] = repositories.path(f"{name}-{who}.key")
-            found = line_of(KEY_LINE, (LAUNCHER, "-", self.keys[who], "key-gen", "5", "8"))
+            found = line_of(KEY_LINE, (PROGRAM, "-", self.keys[who], "key-gen", "5", "8"))
             _, self.ids[who], self.publics[who] = found[0].decode().split()
         self.propose("owner")
         self.sign("owner", "policy-apply")
@@ -65,7 +65,7 @@ class Guarded:
 
     def sign(self, who, *words):
         """Adds an entry to the log by a person's key, and holds its number to the next one."""
-        found = line_of(ENTRY_LINE, (LAUNCHER, f"{self.place}/", self.keys[who], *words))
+        found = line_of(ENTRY_LINE, (PROGRAM, f"{self.place}/", self.keys[who], *words))
         self.entries.append(found[2].decode())
         want(int(found[1]), len(self.entries), "the number of the entry")
 
@@ -92,7 +92,7 @@ class Guarded:
         want_run(command(self.place, "verify-ref", name, *words), status, line)
         exported, stream, _ = run(*command(self.place, "export"))
         want(exported, 0, "the status of export")
-        want_run((LAUNCHER, "-", "-", "verify-ref", name, *words, "--stdin"), status, line, input=stream)
+        want_run((PROGRAM, "-", "-", "verify-ref", name, *words, "--stdin"), status, line, input=stream)
 
 
 def accepts_what_is_lawful(repositories):
@@ -180,12 +180,12 @@ def approves_by_command(repositories):
     commit = take_snapshot(guarded.place, FIRST, TWO)
     line = f"approval {ZEROS} {tree_of(TEXT)}\n".encode()
     for who in ("keeper", "owner", "keeper"):
-        want_run((LAUNCHER, f"{guarded.place}/", guarded.keys[who], "approve", TWO, commit), 0, line)
+        want_run((PROGRAM, f"{guarded.place}/", guarded.keys[who], "approve", TWO, commit), 0, line)
     guarded.sign("owner", "record", ATTESTATIONS)
     guarded.sign("maintainer", "record", TWO)
     guarded.wants(f"accepted {TWO} 1 entries", name=TWO)
     missing = "1" * 64
-    words = (LAUNCHER, f"{guarded.place}/", guarded.keys["keeper"], "approve", TWO, missing)
+    words = (PROGRAM, f"{guarded.place}/", guarded.keys["keeper"], "approve", TWO, missing)
     want_run(words, 3, errors=f"object {missing}\n".encode())
 
 
@@ -203,7 +203,7 @@ def keeps_the_policy_in_force(repositories):
     """a policy that too few signed is refused, and one that was recorded all the same changes nothing"""
     guarded = Guarded(repositories, "policies")
     guarded.propose("stranger")
-    words = (LAUNCHER, f"{guarded.place}/", guarded.keys["owner"], "policy-apply")
+    words = (PROGRAM, f"{guarded.place}/", guarded.keys["owner"], "policy-apply")
     want_run(words, 3, errors=b"policy root-threshold 0 of 1\n")
     guarded.sign("stranger", "record", POLICY)
     guarded.change("maintainer", FIRST)

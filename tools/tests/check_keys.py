@@ -6,7 +6,7 @@ import re
 import shutil
 import stat
 
-from checking import ACCEPTED, LAUNCHER, ZEROS
+from checking import ACCEPTED, PROGRAM, ZEROS
 from checking import Failure, run, want, want_run
 from made_folders import IMPORTED, command
 
@@ -20,9 +20,9 @@ def bytes_of(path):
         return file.read()
 
 
-def line_of(form, words):
+def line_of(form, words, input=b""):
     """Runs a command that is to succeed with one line of this form, and returns the line's match."""
-    status, output, errors = run(*words)
+    status, output, errors = run(*words, input=input)
     want((status, errors), (0, b""), f"the status and errors of {words[3]}")
     found = form.fullmatch(output)
     if not found:
@@ -33,7 +33,7 @@ def line_of(form, words):
 def makes_a_key_once(repositories):
     """key-gen makes a key file that is its owner's alone, and leaves one that is there"""
     key = repositories.path("once.key")
-    words = (LAUNCHER, "-", key, "key-gen", "5", "8")
+    words = (PROGRAM, "-", key, "key-gen", "5", "8")
     line_of(KEY_LINE, words)
     want(stat.S_IMODE(os.stat(key).st_mode), 0o600, "the rights on the key file")
     made = bytes_of(key)
@@ -47,15 +47,15 @@ def keeps_a_second_signer_out(repositories):
     key = repositories.path("locked.key")
     with open(key, "wb") as file:
         fcntl.flock(file, fcntl.LOCK_EX)
-        want_run((LAUNCHER, "-", key, "key-gen", "5", "8"), 4, errors=b"fault\n")
+        want_run((PROGRAM, "-", key, "key-gen", "5", "8"), 4, errors=b"fault\n")
     want(bytes_of(key), b"", "the key file")
 
 
 def makes_no_key_file_unasked(repositories):
     """a command that uses no key, and words outside the grammar, make no key file"""
     key = repositories.path("unasked.key")
-    want_run((LAUNCHER, "-", key, "verify-ref", "refs/heads/main"), 0, ACCEPTED)
-    want_run((LAUNCHER, "-", key, "key-gen", "5", "3"), 2, errors=b"words refused\n")
+    want_run((PROGRAM, "-", key, "verify-ref", "refs/heads/main"), 0, ACCEPTED)
+    want_run((PROGRAM, "-", key, "key-gen", "5", "3"), 2, errors=b"words refused\n")
     want(os.path.exists(key), False, "whether the key file is there")
 
 
@@ -64,11 +64,11 @@ def records_a_log(repositories):
     repositories.needed()
     place, key = repositories.path("logged"), repositories.path("log.key")
     want_run(command(place, "import"), 0, IMPORTED, input=repositories.stream_of())
-    line_of(KEY_LINE, (LAUNCHER, "-", key, "key-gen", "5", "4"))
+    line_of(KEY_LINE, (PROGRAM, "-", key, "key-gen", "5", "4"))
     tip = repositories.git("rev-parse", "refs/heads/main").decode().strip()
     lines, ids = b"", []
     for number, (name, target) in enumerate((("refs/heads/main", tip), ("refs/heads/gone", ZEROS)), start=1):
-        found = line_of(ENTRY_LINE, (LAUNCHER, f"{place}/", key, "record", name))
+        found = line_of(ENTRY_LINE, (PROGRAM, f"{place}/", key, "record", name))
         want(int(found[1]), number, "the number of the entry")
         ids.append(found[2].decode())
         lines += f"entry {number} {ids[-1]} ref {name} {target}\n".encode()

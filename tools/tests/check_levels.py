@@ -8,7 +8,7 @@ import shutil
 import struct
 
 from check_keys import bytes_of, line_of
-from checking import LAUNCHER, Skip, TOP
+from checking import PROGRAM, Skip, TOP
 from checking import run, want, want_run
 from git_gittuf.signatures import digest, is_good, leaf_of, length_of, root_of
 
@@ -33,7 +33,7 @@ def leaves_in(public, message, signature):
 
 def sealed(key, public, payload):
     """Seals a payload, and returns the bytes that were signed and the signature."""
-    status, output, errors = run(LAUNCHER, "-", key, "seal", input=payload)
+    status, output, errors = run(PROGRAM, "-", key, "seal", input=payload)
     want((status, errors), (0, b""), "the status and errors of seal")
     envelope = json.loads(output)
     kind, signature = envelope["payloadType"].encode(), envelope["signatures"][0]
@@ -44,7 +44,7 @@ def sealed(key, public, payload):
 def signs_over_a_change_of_the_key_below(repositories):
     """signatures 31 and 32 of a key of two levels are good by RFC 8554, and carry different keys below"""
     key = repositories.path("levels.key")
-    found = line_of(KEY_LINE, (LAUNCHER, "-", key, "key-gen", "5", "4", "--bottom", "5"))
+    found = line_of(KEY_LINE, (PROGRAM, "-", key, "key-gen", "5", "4", "--bottom", "5"))
     public = bytes.fromhex(found[2].decode())
     want(digest(public).hex(), found[1].decode(), "the id of the key")
     made = bytes_of(key)
@@ -62,7 +62,7 @@ def reads_signatures_of_each_width(repositories):
     """git gittuf reads the leaf of a signature of each width, and takes it for its message and key alone"""
     for width in ("1", "2", "4", "8"):
         key = repositories.path(f"width-{width}.key")
-        found = line_of(ONE_LEVEL_LINE, (LAUNCHER, "-", key, "key-gen", "5", width))
+        found = line_of(ONE_LEVEL_LINE, (PROGRAM, "-", key, "key-gen", "5", width))
         public = bytes.fromhex(found[2].decode())
         for leaf in range(2):
             text, signature = sealed(key, public, b"what is sealed")
@@ -81,13 +81,13 @@ def reads_signatures_of_each_width(repositories):
 def takes_no_taller_levels(repositories):
     """two heights of 10 are outside the grammar, and a header that has them is none"""
     key = repositories.path("taller.key")
-    want_run((LAUNCHER, "-", key, "key-gen", "10", "4", "--bottom", "10"), 2, errors=b"words refused\n")
-    line_of(KEY_LINE, (LAUNCHER, "-", key, "key-gen", "10", "4", "--bottom", "5"))
+    want_run((PROGRAM, "-", key, "key-gen", "10", "4", "--bottom", "10"), 2, errors=b"words refused\n")
+    line_of(KEY_LINE, (PROGRAM, "-", key, "key-gen", "10", "4", "--bottom", "5"))
     want(len(bytes_of(key)), 72 + 2**15, "the bytes of the key file")
     with open(key, "r+b") as file:
         file.seek(67)
         file.write(b"\6")
-    want_run((LAUNCHER, "-", key, "seal"), 3, errors=b"key file\n", input=b"{}")
+    want_run((PROGRAM, "-", key, "seal"), 3, errors=b"key file\n", input=b"{}")
 
 
 def another_implementation_takes_signatures(repositories):
@@ -99,7 +99,7 @@ def another_implementation_takes_signatures(repositories):
     judge = ("java", "-cp", f"{made}:{CASTLE}", "org.bouncycastle.pqc.crypto.lms.LmsVectors", "check")
     for heights in (("5", "5"), ("5", "10"), ("10", "5")):
         key = repositories.path(f"{'-'.join(heights)}.key")
-        found = line_of(KEY_LINE, (LAUNCHER, "-", key, "key-gen", heights[0], "4", "--bottom", heights[1]))
+        found = line_of(KEY_LINE, (PROGRAM, "-", key, "key-gen", heights[0], "4", "--bottom", heights[1]))
         public = bytes.fromhex(found[2].decode())
         text, signature = sealed(key, public, b"what is sealed")
         for message, output in ((text, b"true\n"), (text + b".", b"false\n")):

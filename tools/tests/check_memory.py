@@ -6,7 +6,7 @@ import subprocess
 
 from check_keys import ENTRY_LINE, KEY_LINE, bytes_of, line_of
 from check_snapshots import listing_of, take_snapshot
-from checking import LAUNCHER, PROGRAM, Failure, Skip, want
+from checking import PROGRAM, Failure, Skip, want
 from made_folders import expect_same, files_below
 
 MAIN = "refs/heads/main"
@@ -94,8 +94,8 @@ def loses_a_leaf_at_most(repositories):
     library = refusing_library(repositories)
     whole, key = repositories.path("scarce"), repositories.path("scarce.key")
     take_snapshot(whole, listing_of(((b"100644", b"README", b"A project.\n"),)), MAIN)
-    line_of(KEY_LINE, (LAUNCHER, "-", key, "key-gen", "5", "8"))
-    line_of(ENTRY_LINE, (LAUNCHER, f"{whole}/", key, "record", MAIN))
+    line_of(KEY_LINE, (PROGRAM, "-", key, "key-gen", "5", "8"))
+    line_of(ENTRY_LINE, (PROGRAM, f"{whole}/", key, "record", MAIN))
     before, place, copy = files_below(whole), repositories.path("scarce copy"), repositories.path("scarce copy.key")
     lost = free = 0
     for call in range(1, MOST_CALLS):

@@ -7,7 +7,7 @@ import re
 
 from check_folders import command, expect_same, files_below
 from check_keys import KEY_LINE, line_of
-from checking import LAUNCHER
+from checking import PROGRAM
 from checking import Failure, run, want, want_run
 
 COMMIT_LINE = re.compile(rb"commit ([0-9a-f]{64})\n")
@@ -76,7 +76,7 @@ def refuses_other_listings(repositories):
 
 def seal(key, *words, input):
     """Seals with a key file, and returns the envelope."""
-    status, output, errors = run(LAUNCHER, "-", key, "seal", *words, input=input)
+    status, output, errors = run(PROGRAM, "-", key, "seal", *words, input=input)
     want((status, errors), (0, b""), "the status and errors of seal")
     return output
 
@@ -86,7 +86,7 @@ def seals_for_each_key(repositories):
     ids, keys = [], []
     for name in ("first.key", "second.key"):
         keys.append(repositories.path(name))
-        found = line_of(KEY_LINE, (LAUNCHER, "-", keys[-1], "key-gen", "5", "8"))
+        found = line_of(KEY_LINE, (PROGRAM, "-", keys[-1], "key-gen", "5", "8"))
         ids.append(found[0].split()[1].decode())
     text = seal(keys[0], input=b"{}")
     once = json.loads(text)

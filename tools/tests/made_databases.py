@@ -4,7 +4,7 @@ import contextlib
 import os
 import sqlite3
 
-from checking import LAUNCHER, want, want_run
+from checking import PROGRAM, want, want_run
 from made_folders import END, HEADER, IMPORTED, object_file, stream_of
 
 FAULT = b"fault\n"
@@ -21,7 +21,7 @@ ASKED = (("export",), ("verify-ref", "refs/heads/main"))
 
 def command(place, *words):
     """The words of a command over the store in this database file."""
-    return (LAUNCHER, place, "-", *words)
+    return (PROGRAM, place, "-", *words)
 
 
 def rows_of(place, query):

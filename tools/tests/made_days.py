@@ -6,7 +6,8 @@ status that the pages tell. Where the server has the hook, nothing on it is ever
 
 import random
 
-from checking import GIT_TO_STREAM, LAUNCHER, Failure, run, want
+import loaded
+from checking import PROGRAM, Failure, run, want
 from guarded_clones import MAIN, another
 
 LOG = "refs/gittuf/reference-state-log"
@@ -123,9 +124,9 @@ class Days:
         before, self.log = self.log, self.clones.tip("server.git", LOG)
         goes_on = run("git", "-C", self.clones.path("server.git"), "merge-base", "--is-ancestor", before, self.log)[0]
         want(goes_on, 0, f"whether the log of the server goes on after {self.did}")
-        stream = run(GIT_TO_STREAM, self.clones.path("server.git"))[1]
+        stream = loaded.stream_of(self.clones.path("server.git"))
         for name in (MAIN, "refs/gittuf/policy", "refs/gittuf/attestations"):
-            status, line, _ = run(LAUNCHER, "-", "-", "verify-ref", name, "--stdin", input=stream)
+            status, line, _ = run(PROGRAM, "-", "-", "verify-ref", name, "--stdin", input=stream)
             want(status, 0, f"the server's verdict {line} after {self.did}")
             self.verdicts += 1
 
@@ -134,10 +135,10 @@ class Days:
         # What was fetched is followed first.
         self.gittuf(who, "log")
         names = self.clones.git("for-each-ref", "--format=%(refname)", "refs/heads", "refs/tags", who=who).decode().split()
-        stream = run(GIT_TO_STREAM, self.clones.path(who))[1]
+        stream = loaded.stream_of(self.clones.path(who))
         for name in names:
             found = self.gittuf(who, "verify", name)
-            whole = run(LAUNCHER, "-", "-", "verify-ref", name, "--stdin", input=stream)[1].decode()
+            whole = run(PROGRAM, "-", "-", "verify-ref", name, "--stdin", input=stream)[1].decode()
             want(found, whole, f"the verdict of {who} on {name} after {self.did}")
             self.verdicts += 1
 

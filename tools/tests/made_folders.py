@@ -3,7 +3,7 @@
 import hashlib
 import os
 
-from checking import LAUNCHER, want, want_run
+from checking import PROGRAM, want, want_run
 
 HEADER, END = b"gittuf-stream 1\n", b"end\n"
 IMPORTED = b"imported\n"
@@ -11,7 +11,7 @@ IMPORTED = b"imported\n"
 
 def command(place, *words):
     """The words of a command over the store in this folder."""
-    return (LAUNCHER, f"{place}/", "-", *words)
+    return (PROGRAM, f"{place}/", "-", *words)
 
 
 def files_below(folder):
