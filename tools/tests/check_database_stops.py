@@ -97,19 +97,20 @@ def seconds_of(*words, input=b""):
     return time.monotonic() - start
 
 
-def is_sound_to_others(repositories, place, count):
-    """Holds a copy of a database, with its log, to what the C library and its shell find: nothing wrong, and so many references."""
+def is_sound_to_others(repositories, place, *counts):
+    """Holds a copy of a database, with its log, to what the C library and its shell find: nothing wrong, and one of these counts of references."""
     copy = repositories.path("copy.db")
     for it in ("", "-wal", "-shm"):
         with contextlib.suppress(FileNotFoundError):
             os.remove(copy + it)
         if os.path.exists(place + it):
             shutil.copyfile(place + it, copy + it)
+    is_sound(copy)
+    ((count,),) = rows_of(copy, "SELECT count(*) FROM refs")
+    want(count in counts, True, f"whether the {count} references that the C library finds are as many as of {counts}")
     if shutil.which("sqlite3"):
         words = ("sqlite3", copy, "PRAGMA integrity_check; SELECT count(*) FROM refs")
         want_run(words, 0, b"ok\n%d\n" % count)
-    is_sound(copy)
-    want(rows_of(copy, "SELECT count(*) FROM refs"), [(count,)], "the references that the C library finds")
 
 
 def stop_imports(repositories, kills, drawn):

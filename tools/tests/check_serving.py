@@ -1,4 +1,4 @@
-"""The checks of tools/test on the desk that `serve` opens: its page's lines, entries that it takes, and stops."""
+"""The checks of tools/test on the desk that `serve` opens: its page's lines, and entries that it takes."""
 
 import contextlib
 import http.client
@@ -17,7 +17,7 @@ from rows_objects import object_id
 GUARDED = os.path.join(TOP, "examples", "guarded.stream")
 PAGE = os.path.join(TOP, "docs", "DESK.md")
 MAIN = "refs/heads/main"
-KILLS, TRIES = 8, 2000
+TRIES = 2000
 
 
 def free_port():
@@ -76,11 +76,11 @@ def wait_for_listener(port, ran):
 
 
 def imported(place, stream):
-    want_run((LAUNCHER, place, "-", "import"), 0, b"imported\n", input=stream)
+    want_run((PROGRAM, place, "-", "import"), 0, b"imported\n", input=stream)
 
 
 def exported(place):
-    status, stream, errors = run(LAUNCHER, place, "-", "export")
+    status, stream, errors = run(PROGRAM, place, "-", "export")
     want((status, errors), (0, b""), "the status and errors of export")
     return stream
 
@@ -108,7 +108,7 @@ def entry_more(repositories, name, stream, key):
     """The text of a push of one entry more on the log of a stream, with its number, its id, and the stream with it."""
     place = repositories.path(name)
     imported(place, stream)
-    found = line_of(ENTRY_LINE, (LAUNCHER, place, key, "record", MAIN))
+    found = line_of(ENTRY_LINE, (PROGRAM, place, key, "record", MAIN))
     after = exported(place)
     before = objects_in(stream)
     new = {id: it for id, it in objects_in(after).items() if id not in before}
@@ -118,7 +118,7 @@ def entry_more(repositories, name, stream, key):
 
 def made_key(repositories, name):
     key = repositories.path(name)
-    line_of(KEY_LINE, (LAUNCHER, "-", key, "key-gen", "5", "8"))
+    line_of(KEY_LINE, (PROGRAM, "-", key, "key-gen", "5", "8"))
     return key
 
 
@@ -144,7 +144,7 @@ def answers_by_its_page(repositories):
 
 def line_of_log(place):
     """How many entries the log of a store has, and the id of the last."""
-    lines = run(LAUNCHER, place, "-", "log")[1].splitlines()
+    lines = run(PROGRAM, place, "-", "log")[1].splitlines()
     return len(lines), lines[-1].split()[2] if lines else ZEROS.encode()
 
 
@@ -162,9 +162,9 @@ def takes_an_entry_once(repositories):
             want(push(port, other), (409, b"stale %d %s\n" % (number, entry)), "the reply to another one of its number")
             want(tip_of(port), b"tip %d %s\n" % (number, entry), "the tip")
             want(ask(port, "GET", "/v1/stream"), (200, after), "the stream")
-            line = run(LAUNCHER, "-", "-", "verify-ref", MAIN, "--stdin", input=after)[1]
+            line = run(PROGRAM, "-", "-", "verify-ref", MAIN, "--stdin", input=after)[1]
             want(ask(port, "GET", f"/v1/verify/{MAIN}"), (200, line), "the verdict")
-            want_run((LAUNCHER, place, "-", "verify-ref", MAIN), 4, b"", b"fault\n")
+            want_run((PROGRAM, place, "-", "verify-ref", MAIN), 4, b"", b"fault\n")
             ran.send_signal(signal.SIGKILL)
         with contextlib.suppress(FileNotFoundError, NotADirectoryError):
             os.remove(os.path.join(place, "open.lock"))
@@ -183,28 +183,6 @@ def ends_after_its_connections(repositories):
         want(exported(place), guarded(), "what the store has then")
 
 
-def keeps_what_it_took(repositories):
-    """whenever a desk is killed, what it said that it took is in the store, and a push that is sent again is taken once"""
-    key = made_key(repositories, "kills.key")
-    place, stream = repositories.path("kills.db"), guarded()
-    imported(place, stream)
-    for turn in range(KILLS):
-        text, number, entry, after = entry_more(repositories, f"kills {turn}.db", stream, key)
-        told = None
-        with desk(place) as (ran, port), contextlib.suppress(OSError, http.client.HTTPException):
-            pusher = subprocess.Popen(("sh", "-c", f"sleep 0.00{turn}; kill -9 {ran.pid}"))
-            told = push(port, text)
-        pusher.wait(60)
-        with desk(place) as (_, port):
-            again = push(port, text)
-            if told == (201, b"done %d %s\n" % (number, entry)):
-                want(again, (200, b"already %d\n" % number), "the reply to an entry that was taken before the stop")
-            elif again not in ((201, b"done %d %s\n" % (number, entry)), (200, b"already %d\n" % number)):
-                raise Failure(f"the reply to an entry after a stop is {again}")
-        want(exported(place), after, "what the store has")
-        stream = after
-
-
 def is_refused_a_port(repositories):
     """a port that another program has is a fault, words outside the limits are refused, and a broken log is named"""
     place = repositories.path("ports.db")
@@ -213,9 +191,9 @@ def is_refused_a_port(repositories):
         listener.bind(("127.0.0.1", 0))
         listener.listen()
         port = str(listener.getsockname()[1])
-        want_run((LAUNCHER, place, "-", "serve", port, "1", "1"), 4, b"ready %d entries\n" % line_of_log(place)[0], b"fault\n")
+        want_run((PROGRAM, place, "-", "serve", port, "1", "1"), 4, b"ready %d entries\n" % line_of_log(place)[0], b"fault\n")
     for words in (("0", "1", "1"), ("65536", "1", "1"), ("1", "0", "1"), ("1", "65", "1"), ("1", "1", "0"), ("1", "1", "1000001"), ("1", "1")):
-        want_run((LAUNCHER, place, "-", "serve", *words), 2, b"", b"words refused\n")
+        want_run((PROGRAM, place, "-", "serve", *words), 2, b"", b"words refused\n")
 
 
-CHECKS = (answers_by_its_page, takes_an_entry_once, ends_after_its_connections, keeps_what_it_took, is_refused_a_port)
+CHECKS = (answers_by_its_page, takes_an_entry_once, ends_after_its_connections, is_refused_a_port)
