@@ -1,6 +1,7 @@
 """The checks of tools/test on the page for an auditor: what it has, that it fetches and runs nothing, and how a browser takes it."""
 
 import html.parser
+import json
 import os
 import re
 import shutil
@@ -81,6 +82,9 @@ def tells_all(repositories):
     want([it[0] for it in entries], [str(it) for it in range(1, 8)], "the entries")
     want([it[2] for it in entries][:4], ["alice", "alice", "bob", "bob"], "who signed the first four")
     want([it[3] for it in entries], ["", "", "", "bob", "", "", ""], "who approved")
+    logged = [json.loads(it).get("approved") for it in clones.gittuf("mallory", "log", "--json").splitlines()]
+    want(logged, [[], [], [], ["bob"], [], [], None], "who approved by the log's lines")
+    want(b"\n  by bob, approved by bob, " in clones.gittuf("mallory", "log", "-v"), True, "whether the log says it in words")
     want(f"refs/heads/{ODD}" in entries[4][4], True, f"how a name is shown: {entries[4]}")
     want([it[4].rpartition(", and ")[2] for it in entries[3:6:2]], [entries[3][4], entries[5][4]], "what a stranger's skip skips")
 

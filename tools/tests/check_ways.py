@@ -1,5 +1,6 @@
 """The checks of tools/test that each way of git gittuf leads out: recoveries, pushes, races, and what is refused before."""
 
+import json
 import os
 import re
 
@@ -41,6 +42,9 @@ def leads_out_of_a_violation(repositories):
     clones.copied("alice", said.partition(" are wanted: ")[2].strip())
     clones.verdict("alice", f"accepted {MAIN} 4 entries")
     want(os.path.exists(os.path.join(clones.path("alice"), "evil")), False, "whether the stranger's file is there")
+    skipped = [json.loads(it).get("skipped") for it in clones.gittuf("alice", "log", "--json").splitlines()]
+    want(skipped, [None, None, 5, 5, None, None], "by which entry each is skipped")
+    want(clones.gittuf("alice", "log", "-v").count(b"Z, and entry 5 says skip\n"), 2, "how many entries are said to be skipped")
     clones.refused("alice", "recover", "main", status=3, part="nothing is to be recovered of main")
     clones.gittuf("alice", "policy", "rule", "releases", "refs/heads/release-*", "--persons", "alice")
     clones.sign("alice")

@@ -1,4 +1,4 @@
-"""The log for a person and for a machine: beside the program's line who signed an entry, when, and what it says."""
+"""The log for a person and for a machine: beside the program's line who signed an entry and approved it, when, and what it says."""
 
 import json
 import re
@@ -63,8 +63,10 @@ class Listing:
 
 
 def in_words(told, line, people):
-    """The program's line, and below it who signed, when, and what is said."""
-    lines = [line, f"  by {people.shown(told['key'])}, {told['time'] or 'at no time'}"]
+    """The program's line, and below it who signed and approved it, when, what skips it, and what is said."""
+    approved = f", approved by {', '.join(map(plain, told['approved']))}" if told.get("approved") else ""
+    skipped = f", and entry {told['skipped']} says skip" if told.get("skipped") else ""
+    lines = [line, f"  by {people.shown(told['key'])}{approved}, {told['time'] or 'at no time'}{skipped}"]
     if "entries" in told:
         what = ", ".join(f"entry {it}" if isinstance(it, int) else str(it)[:12] for it in told["entries"])
         lines.append(f"  of {what}{': ' + plain(told['message']) if told['message'] else ''}")
@@ -77,9 +79,15 @@ def log(work, words):
     if status or not (words.verbose or words.json):
         show(printed)
         return status
+    # It stands on this.
+    from git_gittuf import accounts
+
     found, lines = Listing(work, printed), printed.decode(errors="surrogateescape").splitlines()
+    account = accounts.Accounts(work, found)
     for entry, line in zip(found.entries, lines):
         told = found.of(entry)
+        if told["kind"] == "ref":
+            told.update(approved=account.approvals.get(entry[0], []), skipped=account.skipped_by(entry))
         if words.json:
             print(json.dumps(told, sort_keys=True))
         else:

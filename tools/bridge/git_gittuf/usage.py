@@ -67,7 +67,8 @@ Every day
   skip ENTRY .. [-m TEXT]       sign that entries, by number or id, are to be skipped
       [--anyway]
   note ENTRY .. [-m TEXT]       sign a note on entries
-  log [-v | --json]             print the log, a line for each entry; -v and --json say who signed it, when, and what it says
+  log [-v | --json]             print the log, a line for each entry; -v and --json say who signed it and who approved the
+                                change, when, what it says, and which entry skips it
   report [-o FILE]              write a page of HTML for an auditor: the verdicts, the log with who signed it, the policy,
       [--root ..] [--pinned]    and what this rests on
       [--entry ..] [--remote R]
