@@ -50,7 +50,7 @@ class Fetched(Repository):
     def __init__(self, folder):
         self.git_dir = self.common = os.path.join(folder, "fetched.git")
         self.top, self.folder = None, folder
-        self.listed, self.pushed, self.settings, self.epochs = None, {}, None, {}
+        self.listed, self.pushed, self.settings, self.epochs, self.speakable = None, {}, None, {}, (None, {})
 
     def make(self):
         status, _, said = git("init", "--quiet", "--bare", "--template=", "--object-format=sha256", self.git_dir)
