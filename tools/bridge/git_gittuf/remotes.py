@@ -65,7 +65,6 @@ def set_up_desk(repository, remote, port):
         return
     repository.set(f"remote.{remote}.skipFetchAll", "true")
     repository.set(f"remote.{remote}.{DESK}", str(port))
-    repository.forget_remotes()
 
 
 def remote_named(repository, word):

@@ -217,10 +217,6 @@ class Repository:
         named = (it.removeprefix("remote.").rpartition(".") for it in self.all_settings() if it.startswith("remote."))
         return sorted({name for name, dot, _ in named if dot})
 
-    def forget_remotes(self):
-        """Lets the remotes be listed anew, after one was made."""
-        Repository.remotes.cache_clear()
-
     def head(self):
         """The reference that HEAD names, or nothing where it names a commit alone."""
         status, found, _ = self.git("symbolic-ref", "--quiet", "HEAD")
