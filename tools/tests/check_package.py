@@ -12,7 +12,7 @@ from git_gittuf.usage import help_of
 from guarded_clones import MAIN, SMALL, TOOL
 
 PACKAGE = os.path.join(TOP, "tools", "package")
-WORDS = ("setup", "key", "policy", "record", "approve", "verify", "recover", "push", "sync", "skip", "note", "log", "explain", "report", "export")
+WORDS = ("setup", "key", "policy", "record", "approve", "verify", "recover", "push", "fetch", "sync", "skip", "note", "log", "explain", "report", "export")
 WORDS += ("mirror", "evidence", "doctor", "hook")
 # What git gittuf and the launcher call, and no toolchain among it.
 NEEDED = ("sh", "cat", "env", "git", "readlink", "sync")
@@ -112,7 +112,7 @@ def has_pages(repositories):
         want(bool(re.search(rf"^  {it}\b", use, re.MULTILINE)), True, f"whether -h has the word {it}")
     listed = text_of("gittuf").split("Commands:\n")[1].split("\n\n")[0]
     commands = re.findall(r"^  ([a-z-]+) ", listed, re.MULTILINE)
-    want(len(set(commands)), 16, "how many commands --help lists")
+    want(len(set(commands)), 18, "how many commands --help lists")
     for it in commands:
         want(bool(re.search(rf"^\.It Cm {it}\b", text_of("man", "gittuf-program.1"), re.MULTILINE)), True, f"whether the page has {it}")
     return "by mandoc" if shutil.which("mandoc") else "by groff"

@@ -35,6 +35,19 @@ def common(repository, commits):
     return base
 
 
+def place_in(target):
+    """Where global rules stand in a policy, as git names it."""
+    return f"{target.decode()}:{policies.GLOBAL_PATH.decode()}"
+
+
+def are_there(repository, entries):
+    """Whether something stands there in a policy that one of these entries recorded."""
+    asked = {place_in(rest[1]) for _, _, kind, rest in entries if kind == b"ref" and rest[0] == POLICY}
+    given = "".join(f"{it}\n" for it in sorted(asked)).encode()
+    told = repository.asked("look files up", "cat-file", "--batch-check=%(objecttype)", input=given) if asked else b""
+    return any(not it.endswith(b" missing") for it in told.splitlines())
+
+
 class GlobalVerdicts:
     """The verdicts of a log by global rules, each reference once, under a first policy of these keys."""
 
@@ -45,9 +58,11 @@ class GlobalVerdicts:
     def texts(self):
         """What stands at the place of global rules in each policy that came into force, oldest first, or nothing there."""
         repository = self.work.repository
-        entries = history.entries(self.work.asked("log")) if LOG in repository.references() else []
-        path = policies.GLOBAL_PATH.decode()
-        asked = [("cat-file", "blob", f"{it.decode()}:{path}") for _, it in epochs.of_entries(repository, entries, self.root)]
+        status, printed = self.work.read("log") if LOG in repository.references() else (0, b"")
+        entries = [] if status else history.entries(printed)
+        if not are_there(repository, entries):
+            return []
+        asked = [("cat-file", "blob", place_in(it)) for _, it in epochs.of_entries(repository, entries, self.root)]
         found = [repository.git(*it) for it in asked]
         return [None if status else text for status, text, _ in found]
 
