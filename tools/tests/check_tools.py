@@ -125,7 +125,7 @@ def leaves_nothing(repositories):
 
 # What each word of git gittuf wants beside it at least.
 NEEDED = {it: ["x"] for it in ("record", "approve", "recover", "explain", "mirror", "init", "person", "rotate", "rule")}
-NEEDED |= {"skip": ["1"], "note": ["1"], "hook": ["install"]}
+NEEDED |= {"skip": ["1"], "note": ["1"], "hook": ["install"], "fetch": ["--desk", "1"]}
 
 
 def taken_of_modules(tree):
