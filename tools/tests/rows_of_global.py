@@ -279,7 +279,7 @@ def the_policys_own_reference():
 
 
 def a_log_that_breaks():
-    """Where the log breaks there is no verdict by global rules either."""
+    """Where the log breaks there is no verdict by global rules either, and a sink that fails at its line has a front of it."""
     history = ruled(TWO)
     history.record(MAIN, history.commit(BEFORE), MAINTAINER)
     gone = history.ids[0]
@@ -288,7 +288,7 @@ def a_log_that_breaks():
     return asks(
         history,
         Run(f"verify-global {MAIN}", (3, line, "")),
-        Run(f"verify-global {MAIN}", (4, "", "fault\n"), over=[room("sink", len(line) - 1)]),
+        Run(f"verify-global {MAIN}", (4, line[:-1], "fault\n"), over=[room("sink", len(line) - 1)]),
     )
 
 
