@@ -49,9 +49,9 @@ fn fares(
     let mut failing = failing_at(alloc, letters, call, is_made)?;
     let answer = offered(alloc, &scene.text, &mut failing);
     let mut kept = MemKeeper::failing(failing, Vec::new(alloc), Vec::new(alloc));
-    let is_right = match answer {
-        Ok(found) => found == scene.answer && holds(alloc, &mut kept, &scene.after)?,
-        Err(fault) => fault == MirrorFault::Failed && is_old_or_new(alloc, scene, &mut kept)?,
+    let is_right = match &answer {
+        Ok(found) => *found == scene.answer && holds(alloc, &mut kept, &scene.after)?,
+        Err(fault) => *fault == MirrorFault::Failed && is_old_or_new(alloc, scene, &mut kept)?,
     };
     if !is_right {
         return Ok(Fared::Wrong);
