@@ -17,6 +17,7 @@ use commands_stream::laws::{one_of_stream, stream_over_world};
 use commands_verify::laws::{one_of_verify, verify_over_world};
 use demo::laws::{demo_over_world, one_of_demo};
 use edge_io::{Clock, Disk, Entropy, Sink, Source};
+use links::Peer;
 use keeper_api::Keeper;
 use log_appending::laws::one_of_log;
 use worlds::{Kinds, Objects, Of};
@@ -26,8 +27,8 @@ use worlds::{Kinds, Objects, Of};
 /// wanting, which is said; or the stream is refused, which is said by its number, and nothing is printed; or the
 /// repository that is held, or that the stream spells, is judged: exactly the line of the one verdict on the reference
 /// is printed, with its status, or exactly the line that names the commit at which its log breaks.
-pub fn headline<S: Source, K: Sink, R: Keeper, D: Disk, E: Entropy, C: Clock>()
-    ensures { Headline (ways S.Source K.Sink R.Keeper D.Disk E.Entropy C.Clock) }
+pub fn headline<S: Source, K: Sink, R: Keeper, D: Disk, E: Entropy, C: Clock, P: Peer>()
+    ensures { Headline (ways S.Source K.Sink R.Keeper D.Disk E.Entropy C.Clock P.Peer) }
 {
     one_command();
 }

@@ -23,6 +23,7 @@ use demo::demo;
 use edge_io::{Clock, Disk, Entropy, Sink, Source, write_all};
 use endings::{Ending, Refusal};
 use keeper_api::Keeper;
+use links::Peer;
 use std::alloc::Global;
 use worlds::{Kinds, Lent, Objects, Of, Outside};
 
@@ -121,18 +122,18 @@ fn say<F: Sink>(ending: &Ending, faults_out: &mut F)
 /// that is broken the line that says so; at the others `faults_out` gains the line of the refusal, or a front of it
 /// where it counted a fault, which changes neither status nor anything else. An object that a command does not use is
 /// unchanged.
-pub fn run<S: Source, K: Sink, F: Sink, R: Keeper, D: Disk, E: Entropy, C: Clock>(
+pub fn run<S: Source, K: Sink, F: Sink, R: Keeper, D: Disk, E: Entropy, C: Clock, P: Peer>(
     alloc: Global,
     words: &[String],
-    outside: &mut Outside<S, K, F, R, D, E, C>,
+    outside: &mut Outside<S, K, F, R, D, E, C, P>,
 ) -> u8
-    ensures ran { Ran (ways S.Source K.Sink R.Keeper D.Disk E.Entropy C.Clock) (map string_bytes words.now)
+    ensures ran { Ran (ways S.Source K.Sink R.Keeper D.Disk E.Entropy C.Clock P.Peer) (map string_bytes words.now)
         (world_of outside.old) (world_of outside.new)
         (F.contents outside.old.faults_out) (F.contents outside.new.faults_out)
         (F.faults outside.old.faults_out) (F.faults outside.new.faults_out) result }
-    ensures bound { result ≤ 6 }
+    ensures bound { result ≤ 7 }
 {
-    let ending = obey::<Kinds<S, K, F, R, D, E, C>>(alloc, words, outside);
+    let ending = obey::<Kinds<S, K, F, R, D, E, C, P>>(alloc, words, outside);
     say(&ending, &mut outside.faults_out);
     ending.status()
 }

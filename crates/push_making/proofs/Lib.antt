@@ -1,0 +1,8 @@
+mod Visiting
+mod Values
+mod Firsts
+mod Gathered
+mod Lengths
+mod Written
+mod Made
+mod OneMakings
