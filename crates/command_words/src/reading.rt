@@ -15,6 +15,7 @@ use crate::first_words::{named, split_first};
 use crate::key_types::read_key_gen;
 use crate::references::read_reference;
 use crate::sealing::read_seal;
+use crate::pushing::read_push;
 use crate::serving::read_serve;
 use crate::verify_global::read_verify_global;
 use crate::verify_ref::read_verify_ref;
@@ -69,6 +70,7 @@ fn read_rest(alloc: Global, first: CommandName, words: &[String]) -> Result<Comm
             Ok(Command::EvidenceCheck)
         }
         CommandName::Serve => read_serve(alloc, words),
+        CommandName::Push => read_push(alloc, words),
     }
 }
 

@@ -12,6 +12,7 @@ use commands_keys::laws::{keys_over_world, one_of_keys};
 use commands_log::laws::{log_over_world, one_of_history};
 use commands_mirror::laws::{mirror_over_world, one_of_mirror};
 use commands_policy::laws::{one_of_policy, policy_over_world};
+use commands_push::laws::{one_of_push, push_over_world};
 use commands_snapshot::outcome_laws::{one_of_trees, snapshot_over_world};
 use commands_stream::laws::{one_of_stream, stream_over_world};
 use commands_verify::laws::{one_of_verify, verify_over_world};
@@ -48,6 +49,7 @@ pub fn tells_outcome<W: Objects>()
     approve_over_world::<W>();
     mirror_over_world::<W>();
     serve_over_world::<W>();
+    push_over_world::<W>();
     demo_over_world::<W>();
 }
 
@@ -68,5 +70,6 @@ pub fn one_outcome()
     one_of_approvals();
     one_of_mirror();
     one_of_serve();
+    one_of_push();
     one_of_demo();
 }

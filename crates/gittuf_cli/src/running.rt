@@ -16,6 +16,7 @@ use commands_keys::seal;
 use commands_log::{annotate, log, record};
 use commands_mirror::{evidence_check, evidence_make, mirror};
 use commands_policy::{explain, policy_apply};
+use commands_push::push;
 use commands_snapshot::snapshot;
 use commands_stream::{export, import};
 use commands_verify::verify_ref;
@@ -69,6 +70,7 @@ fn carry_out<W: Objects>(alloc: Global, command: &Command, outside: &mut Lent<W>
             workers: _,
             connections: _,
         } => serve::<W>(alloc, outside),
+        Command::Push { port, number } => push::<W>(alloc, *port, *number as u64, outside),
     }
 }
 
