@@ -1,0 +1,12 @@
+use Rattle.std.proofs.Common.{All, subst}
+use Rattle.desk_lock.specs.Seats.{IsIdle}
+use Rattle.tests_shops.proofs.Seating.{all_but_last, all_last}
+use Rattle.tests_shops.proofs.seats.last_of.Goals as goal
+
+pub returns : goal.returns
+returns c =
+    let items = c.pop.ensures.items in
+    let left = c.pop.new.self.items in record {
+      left = λ t all. all_but_last (IsIdle t) left c.pop.result (subst (All (IsIdle t)) items all);
+      seat = λ t all. all_last (IsIdle t) left c.pop.result (subst (All (IsIdle t)) items all);
+    }
