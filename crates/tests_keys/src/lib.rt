@@ -6,6 +6,12 @@
 #![tactic(auto)]
 
 #[cfg(test)]
+mod digit_rows;
+#[cfg(test)]
+mod dossier_rows;
+#[cfg(test)]
+mod finding_rows;
+#[cfg(test)]
 mod level_rows;
 #[cfg(test)]
 mod lms_rows;

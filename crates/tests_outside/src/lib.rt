@@ -8,7 +8,11 @@
 #[cfg(test)]
 mod clock_rows;
 #[cfg(test)]
+mod damaged_stores;
+#[cfg(test)]
 mod disk_rows;
+#[cfg(test)]
+mod failing_stores;
 #[cfg(test)]
 mod folder_rows;
 #[cfg(test)]
@@ -22,7 +26,27 @@ mod lane_rows;
 #[cfg(test)]
 mod line_rows;
 #[cfg(test)]
+mod mirror_logs;
+#[cfg(test)]
+mod mirror_offers;
+#[cfg(test)]
+mod mirror_refusals;
+#[cfg(test)]
+mod mirror_scenes;
+#[cfg(test)]
+mod mirror_stores;
+#[cfg(test)]
+mod overlays;
+#[cfg(test)]
 mod reading_rows;
+#[cfg(test)]
+mod reply_rows;
+#[cfg(test)]
+mod request_answers;
+#[cfg(test)]
+mod request_edges;
+#[cfg(test)]
+mod request_rows;
 #[cfg(test)]
 mod rows;
 #[cfg(test)]

@@ -7,7 +7,13 @@
 #![tactic(auto)]
 
 #[cfg(test)]
+mod descent_rows;
+#[cfg(test)]
 mod encoding_rows;
+#[cfg(test)]
+mod global_file_rows;
+#[cfg(test)]
+mod histories;
 #[cfg(test)]
 mod limit_rows;
 #[cfg(test)]

@@ -1,6 +1,6 @@
 //! Stores in memory that have a log and references, and what they hold, as one text.
 
-use crate::logs::{log_of, name_of, target_of};
+use crate::mirror_logs::{log_of, name_of, target_of};
 use clone_stream::write_stream;
 use edge_io::MemSink;
 use git_object::{ObjectId, Objects};

@@ -4,9 +4,9 @@ ghost use Rattle.std.specs.Prelude.{◌≡◌, None, true, false};
 ghost use Rattle.std.proofs.lemmas.Bool.{false≢true};
 ghost use Rattle.keeper_api.specs.Keepers.{same_tells};
 
-use crate::logs::{entry_at, id_at};
-use crate::scenes::{offered, want};
-use crate::stores::{kept_store, stream_of};
+use crate::mirror_logs::{entry_at, id_at};
+use crate::mirror_scenes::{offered, want};
+use crate::mirror_stores::{kept_store, stream_of};
 use git_object::{Kind, Object, ObjectId, RefName};
 use keeper_api::{Change, Keeper, KeeperFault, MemKeeper, RefChanges, RefValue};
 use mirror::MirrorFault;

@@ -1,7 +1,9 @@
 //! An offer to a store, what it is answered, and what the store holds before and then.
 
-use crate::logs::{entry_at, id_at};
-use crate::stores::{kept_refs, kept_store, offered_refs, stand, stream_of, taken_refs, text_of};
+use crate::mirror_logs::{entry_at, id_at};
+use crate::mirror_stores::{
+    kept_refs, kept_store, offered_refs, stand, stream_of, taken_refs, text_of,
+};
 use edge_io::MemSource;
 use git_object::Objects;
 use keeper_api::{Change, Keeper, RefChanges};

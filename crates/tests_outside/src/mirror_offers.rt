@@ -1,8 +1,8 @@
 //! What each offer is answered, and what the store holds then.
 
-use crate::logs::id_at;
-use crate::scenes::{Scene, ending_early, going_on, offered, parting, the_same, want};
-use crate::stores::{holds, kept_store, store_of, stream_of};
+use crate::mirror_logs::id_at;
+use crate::mirror_scenes::{Scene, ending_early, going_on, offered, parting, the_same, want};
+use crate::mirror_stores::{holds, kept_store, store_of, stream_of};
 use keeper_api::{Keeper, MemKeeper, RefChanges};
 use std::alloc::Global;
 use std::test::Fail;

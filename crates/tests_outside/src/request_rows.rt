@@ -1,4 +1,4 @@
-use crate::answers::{Wanted, is_asked, want};
+use crate::request_answers::{Wanted, is_asked, want};
 use desk_requests::{Refusal, read_request};
 use edge_io::MemSource;
 use octets::{Memory, Octets};

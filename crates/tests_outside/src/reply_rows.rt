@@ -1,4 +1,4 @@
-use crate::answers::want;
+use crate::request_answers::want;
 use desk_replies::{write_answer, write_refusal, write_reply, write_tip};
 use desk_requests::Refusal;
 use desk_steps::Reply;

@@ -1,7 +1,7 @@
 //! A kept store of whose calls one fails.
 
-use crate::scenes::{Scene, ending_early, going_on, offered, parting, the_same, want};
-use crate::stores::{holds, kept_store};
+use crate::mirror_scenes::{Scene, ending_early, going_on, offered, parting, the_same, want};
+use crate::mirror_stores::{holds, kept_store};
 use keeper_api::MemKeeper;
 use mirror::MirrorFault;
 use std::alloc::Global;

@@ -1,8 +1,8 @@
 //! What is refused: texts that are no streams, logs that break, and a source that fails.
 
-use crate::logs::{log_of, target_of};
-use crate::scenes::{offered, want};
-use crate::stores::{holds, kept_refs, kept_store, store_with, stream_of, text_of};
+use crate::mirror_logs::{log_of, target_of};
+use crate::mirror_scenes::{offered, want};
+use crate::mirror_stores::{holds, kept_refs, kept_store, store_with, stream_of, text_of};
 use clone_stream::StreamFault;
 use edge_io::MemSource;
 use git_object::{Kind, ObjectId, Objects, id_of};
