@@ -17,14 +17,14 @@ PROGRAM = os.path.join(TOP, "crates", "gittuf", "out", "gittuf")
 SMALL_PROGRAM = os.path.join(TOP, "crates", "source_check", "out", "source_check")
 RELEASE = os.path.join(TOP, "release")
 PLAIN, NEWER = "x86-64-v2", "x86-64-v3"
-# The program gittuf-inspect, its name in a package, and what stands there beside it.
-INSPECT_PROGRAM = os.path.join(TOP, "crates", "gittuf_inspect", "out", "gittuf_inspect")
+# The name of the program gittuf-inspect in a package, and what stands there beside it.
 INSPECT = "gittuf-inspect"
 INSPECT_COMPLETION = {
     "share/bash-completion/completions/gittuf-inspect": "gittuf.bash",
     "share/zsh/vendor-completions/_gittuf-inspect": "_gittuf-inspect",
 }
 INSPECT_PAGE = "gittuf-inspect.1"
+SMALLEST = 9 | lzma.PRESET_EXTREME
 # The folder of the programs and of the launcher.
 FRONT = "lib/gittuf"
 TOOLS = ("git-gittuf", "git-to-stream", "stream-to-git")
@@ -60,6 +60,11 @@ def stripped(body):
     at, size, count = struct.unpack_from("<Q", body, 32) + struct.unpack_from("<HH", body, 54)
     headers = (struct.unpack_from("<8xQ16xQ", body, at + size * it) for it in range(count))
     return body[:40] + bytes(8) + body[48:60] + bytes(4) + body[64 : max(map(sum, headers))]
+
+
+def stripped_file(path):
+    with open(path, "rb") as file:
+        return stripped(file.read())
 
 
 def asked(*words):
@@ -99,10 +104,14 @@ def released():
         return {}
 
 
+def archive_name(number):
+    return f"gittuf-{number}.tar.xz"
+
+
 def released_program(name):
     """A program from the archive of the release."""
     number = released()["version"]
-    with tarfile.open(os.path.join(RELEASE, f"gittuf-{number}.tar.gz")) as archive:
+    with tarfile.open(os.path.join(RELEASE, archive_name(number))) as archive:
         return archive.extractfile(f"gittuf-{number}/{FRONT}/{name}").read()
 
 
@@ -175,7 +184,7 @@ def deb_of(number, says, files, links, seconds):
     members = {
         "debian-binary": b"2.0\n",
         "control.tar.xz": lzma.compress(archive(control, {}, seconds, "./")),
-        "data.tar.xz": lzma.compress(archive(files, links, seconds, "./usr/"), preset=9 | lzma.PRESET_EXTREME),
+        "data.tar.xz": lzma.compress(archive(files, links, seconds, "./usr/"), preset=SMALLEST),
     }
     made = b"!<arch>\n"
     for name, body in members.items():
@@ -194,7 +203,7 @@ def packages_of(programs, number, commit, kit, changed=""):
     seconds = int(asked("log", "-1", "--format=%ct", commit))
     return {
         f"gittuf_{number}_amd64.deb": deb_of(number, says[0].upper() + says[1:], files, links, seconds),
-        f"gittuf-{number}.tar.gz": gzip.compress(archive(files, links, seconds, f"gittuf-{number}/"), mtime=0),
+        archive_name(number): lzma.compress(archive(files, links, seconds, f"gittuf-{number}/"), preset=SMALLEST),
     }
 
 

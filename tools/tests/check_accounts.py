@@ -6,8 +6,8 @@ import sys
 import tempfile
 from itertools import count
 
-from check_inspecting import INSPECT, told
-from checking import ZEROS, Failure, Skip, want
+from check_inspecting import told
+from checking import INSPECT, ZEROS, Failure, Skip, want
 from rows_histories import POLICY, History
 from rows_objects import AUTHOR
 from slow_verdicts import KEYS, LOST, Move, Note, Policy

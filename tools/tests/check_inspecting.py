@@ -6,9 +6,8 @@ import os
 import re
 import shutil
 
-from checking import LAUNCHER, TOP, ZEROS, Skip, run, want
+from checking import INSPECT, LAUNCHER, TOP, ZEROS, Skip, run, want
 
-INSPECT = os.path.join(TOP, "crates", "gittuf_inspect", "out", "gittuf_inspect")
 KEPT = os.path.join(TOP, "crates", "gittuf_inspect", "data", "guarded")
 MAIN, POLICY, ATTESTATIONS, NONE = "refs/heads/main", "refs/gittuf/policy", "refs/gittuf/attestations", "refs/heads/none"
 NAMES = (MAIN, POLICY, ATTESTATIONS, NONE)

@@ -11,8 +11,10 @@ from checking import on_terminal, processor_seconds, run, want, want_run
 # Where a built program and the small one stand in a checkout, and what stands beside a program.
 BUILT, SMALL_BUILT = "crates/gittuf/out/gittuf", "crates/source_check/out/source_check"
 LIST, SOURCES = (os.path.join(os.path.dirname(PROGRAM), f"gittuf.{it}") for it in ("files", "sources"))
+# What unpacks a release, of the two that can.
+UNPACKS = "xz" if shutil.which("xz") else "python3"
 # What the launcher and the build call where nothing is built.
-SYSTEM = ("bash", "sh", "cat", "mkdir", "mktemp", "mv", "rm", "sha256sum", "tar", "gzip", "touch", "readlink", "nproc", "tail")
+SYSTEM = ("bash", "sh", "cat", "mkdir", "mktemp", "mv", "rm", "sha256sum", "tar", UNPACKS, "touch", "readlink", "nproc", "tail")
 # The launcher adds about 2.5 ms on a busy machine. A busier one is allowed more, and the figure is printed.
 MOST_MS = 20
 RUNS = 31

@@ -43,7 +43,7 @@ def installed(repositories):
             packed.extractall(root)
     unpacked = os.path.join(folder, "unpacked")
     os.mkdir(unpacked)
-    want(run("tar", "-xzf", archive, "-C", unpacked)[0], 0, "the status of tar")
+    want(run("tar", "-xf", archive, "-C", unpacked)[0], 0, "the status of tar")
     (top,) = os.listdir(unpacked)
     return os.path.join(root, "usr"), os.path.join(unpacked, top)
 

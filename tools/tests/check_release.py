@@ -58,7 +58,7 @@ def runs_the_one_for_the_processor(repositories):
     place = repositories.path("by processor package")
     with tarfile.open(checkout.path("release", ARCHIVE)) as packed:
         packed.extractall(place)
-    program = os.path.join(place, ARCHIVE.removesuffix(".tar.gz"), "bin", "gittuf")
+    program = os.path.join(place, ARCHIVE.removesuffix(".tar.xz"), "bin", "gittuf")
     for cpu, taken in named.items():
         words = {**environment, **({"GITTUF_CPU": cpu} if cpu else {})}
         ran = subprocess.run((program, "hello"), capture_output=True, env=words)

@@ -36,16 +36,17 @@ SHARED, PROGRAMS, LONG = "GITTUF_TEST_SHARED", "GITTUF_TEST_PROGRAMS", "GITTUF_T
 
 
 def programs():
-    """The program that the launcher runs, and the small one that it asks: those that are built here, or the released ones."""
+    """The program that the launcher runs, the small one that it asks, and gittuf-inspect: those that are built here, or the
+    released ones."""
     if SHARED in os.environ and PROGRAMS in os.environ:
         return os.environ[PROGRAMS].split("\n")
     told = subprocess.run((BUILD_PROGRAM, "--programs"), stdin=subprocess.DEVNULL, capture_output=True, check=True).stdout.decode()
     found = dict(line.split(" ", 1) for line in told.splitlines())
-    built = (os.path.join(TOP, "crates", it, "out", it) for it in ("gittuf", "source_check"))
-    return [found.get(word, path) for word, path in zip(("program", "small"), built)]
+    built = (os.path.join(TOP, "crates", it, "out", it) for it in ("gittuf", "source_check", "gittuf_inspect"))
+    return [found.get(word, path) for word, path in zip(("program", "small", "inspect"), built)]
 
 
-PROGRAM, SMALL_PROGRAM = programs()
+PROGRAM, SMALL_PROGRAM, INSPECT = programs()
 
 
 # What calls took of the processor that were no programs of their own, as others than this process counted it.

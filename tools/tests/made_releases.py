@@ -6,7 +6,7 @@ import shutil
 import subprocess
 import sys
 
-from checking import PROGRAM, SMALL_PROGRAM, TOP, run, want
+from checking import INSPECT, PROGRAM, SMALL_PROGRAM, TOP, run, want
 
 sys.path.insert(1, os.path.join(TOP, "tools", "build"))
 
@@ -14,7 +14,7 @@ import packages
 import releases
 
 VERSION = packages.version()
-ARCHIVE = f"gittuf-{VERSION}.tar.gz"
+ARCHIVE = packages.archive_name(VERSION)
 RELEASED = "crates/gittuf/out/released"
 KIT = "a kit that is none"
 # What no launcher and no build reads, and half of a checkout is.
@@ -28,12 +28,10 @@ def paths_of_the_checkout():
 
 
 def programs_here():
-    """The program that is here, under the name of each processor, and the small one."""
-    bodies = []
-    for path in (SMALL_PROGRAM, PROGRAM):
-        with open(path, "rb") as file:
-            bodies.append(packages.stripped(file.read()))
-    return dict(zip(releases.PROGRAMS, (*bodies, bodies[1])))
+    """The program that is here, under the name of each processor, the small one, and gittuf-inspect or what stands for it."""
+    small, program = map(packages.stripped_file, (SMALL_PROGRAM, PROGRAM))
+    inspect = packages.stripped_file(INSPECT) if os.path.exists(INSPECT) else b"#!/bin/sh\nexit 4\n"
+    return dict(zip(releases.PROGRAMS, (small, program, program, inspect)))
 
 
 def stand_ins(text="$1"):
