@@ -15,7 +15,7 @@ _gittuf() {
     case $COMP_CWORD in
         1) _gittuf_reply -d -S / -W '- --help --version'; compopt -o nospace 2> /dev/null ;;
         2) _gittuf_reply -f -W - ;;
-        3) _gittuf_reply -W 'key-gen seal snapshot record annotate approve policy-apply explain log import export demo mirror evidence-make evidence-check serve verify-global verify-ref' ;;
+        3) _gittuf_reply -W 'key-gen seal snapshot record annotate approve policy-apply explain log import export demo mirror evidence-make evidence-check serve push verify-global verify-ref' ;;
         *)
             case ${COMP_WORDS[3]} in
                 key-gen) [ "$COMP_CWORD" -eq 4 ] && _gittuf_reply -W '5 10 15' || _gittuf_reply -W '1 2 4 8' ;;

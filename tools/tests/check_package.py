@@ -112,7 +112,7 @@ def has_pages(repositories):
         want(bool(re.search(rf"^  {it}\b", use, re.MULTILINE)), True, f"whether -h has the word {it}")
     listed = text_of("gittuf").split("Commands:\n")[1].split("\n\n")[0]
     commands = re.findall(r"^  ([a-z-]+) ", listed, re.MULTILINE)
-    want(len(set(commands)), 18, "how many commands --help lists")
+    want(len(set(commands)), 19, "how many commands --help lists")
     for it in commands:
         want(bool(re.search(rf"^\.It Cm {it}\b", text_of("man", "gittuf-program.1"), re.MULTILINE)), True, f"whether the page has {it}")
     return "by mandoc" if shutil.which("mandoc") else "by groff"

@@ -3,6 +3,7 @@
 import contextlib
 import http.client
 import os
+import re
 import shutil
 import signal
 import socket
@@ -196,4 +197,25 @@ def is_refused_a_port(repositories):
         want_run((PROGRAM, place, "-", "serve", *words), 2, b"", b"words refused\n")
 
 
-CHECKS = (answers_by_its_page, takes_an_entry_once, ends_after_its_connections, is_refused_a_port)
+def takes_what_push_sends(repositories):
+    """`push` sends a desk each entry of a store's log with what it needs, is told what became of it, and where there is no desk"""
+    key = made_key(repositories, "sending.key")
+    _, number, entry, after = entry_more(repositories, "sending.db", guarded(), key)
+    other = entry_more(repositories, "other sending.db", guarded(), key)[2]
+    source, place = repositories.path("sending.db"), repositories.path("sent-to.db")
+    send = lambda store, port, it: (PROGRAM, store, "-", "push", str(port), str(it))
+    with desk(place) as (_, port):
+        for it, id in enumerate(re.findall(rb"entry \d+ ([0-9a-f]{64})", run(PROGRAM, source, "-", "log")[1]), 1):
+            want_run(send(source, port, it), 0, b"done %d %s\n" % (it, id))
+        want_run(send(source, port, number), 0, b"already %d\n" % number)
+        stale = b"stale %d %s\n" % (number, entry)
+        want_run(send(repositories.path("other sending.db"), port, number), 7, stale, b"desk refused\n")
+        want(tip_of(port), b"tip %d %s\n" % (number, entry), f"the tip, which is not {other.decode()}")
+        want_run(send(source, port, number + 1), 3, b"", b"input\n")
+    reached = exported(place)
+    want([it for it in objects_in(reached) if it not in objects_in(after)], [], "what the desk has beside the store")
+    want(run(PROGRAM, place, "-", "verify-ref", MAIN), run(PROGRAM, source, "-", "verify-ref", MAIN), "the verdict there")
+    want_run(send(source, free_port(), 1), 4, b"", b"fault\n")
+
+
+CHECKS = (answers_by_its_page, takes_an_entry_once, takes_what_push_sends, ends_after_its_connections, is_refused_a_port)

@@ -26,6 +26,7 @@ LINES = {
     4: rb"fault\n",
     5: rb"memory\n",
     6: rb"exhausted\n",
+    7: rb"desk refused\n",
 }
 LINES = {status: re.compile(it) for status, it in LINES.items()}
 VERDICT = re.compile(

@@ -61,6 +61,11 @@ def random(body):
     return sized(b"random", body)
 
 
+def answer(body):
+    """A peer answers this to the next command."""
+    return sized(b"answer", body)
+
+
 class Run:
     """A command, how it is run, and the endings that must be seen: a status, what is printed, and what is said. What is
     told of a key file and of standard input is for this run and for those after it in the row; each of them finds the
@@ -99,6 +104,19 @@ class Held:
 
     def lines(self, name):
         return f"{name} {quoted(self.body)}\n"
+
+
+class Sent:
+    """What the command before must have sent, and the port at which; without a port, that it connected to none."""
+
+    def __init__(self, port=None, body=b""):
+        self.text = b"" if port is None else b"port %d\n" % port + body
+
+    def record(self, _name):
+        return b"sent\n"
+
+    def lines(self, name):
+        return f"{name} {quoted(self.text)}\n"
 
 
 class Endless:

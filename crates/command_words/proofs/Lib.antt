@@ -2,6 +2,7 @@ pub mod LetterFirst
 pub mod SameName
 pub mod OneCommand
 pub mod ServeWords
+pub mod PushWords
 pub mod GlobalWords
 pub mod PlainWords
 pub mod ValueWords

@@ -18,7 +18,7 @@ use Rattle.command_words.specs.FirstWords.{AsksFor, AsksForNone, IsCommand, IsNo
 use Rattle.command_words.specs.Grammars.{value_of}
 use Rattle.command_words.specs.Laws.{OneCommand}
 use Rattle.command_words.specs.declared.commands.Command.{Command}
-use Rattle.command_words.specs.declared.commands.Command.TheVariants.{VerifyRef, VerifyGlobal, KeyGen, Record, Seal, Snapshot, Explain, Annotate, Approve, Demo, EvidenceMake, Serve}
+use Rattle.command_words.specs.declared.commands.Command.TheVariants.{VerifyRef, VerifyGlobal, KeyGen, Record, Seal, Snapshot, Explain, Annotate, Approve, Demo, EvidenceMake, Serve, Push}
 use Rattle.command_words.specs.declared.commands.CommandName.{CommandName}
 use Rattle.command_words.specs.declared.commands.CommandName.TheVariants as name
 use Rattle.command_words.specs.declared.commands.Height.{Height}
@@ -215,6 +215,12 @@ one_after name.Serve rest a b is other =
     let named : a ≡ Serve is.0 is.1 is.2 = is.3 in
     let named_so : b ≡ Serve other.0 other.1 other.2 = other.3 in
     cc
+one_after name.Push rest a b is other =
+    let ports : is.0 ≡ other.0 = same_number 65535 (omega arith) _ is.0 other.0 is.3.is_port other.3.is_port in
+    let numbers : is.1 ≡ other.1 = same_number 1000000 (omega arith) _ is.1 other.1 is.3.is_number other.3.is_number in
+    let named : a ≡ Push is.0 is.1 = is.2 in
+    let named_so : b ≡ Push other.0 other.1 = other.2 in
+    cc
 
 pub one_command : OneCommand
 one_command words a b is other =
@@ -271,3 +277,5 @@ within_after name.EvidenceMake rest command asks = subst IsWithinLimits (sym ask
 within_after name.EvidenceCheck rest command asks = subst IsWithinLimits (sym asks.0) tt
 within_after name.Serve rest command asks =
     subst IsWithinLimits (sym asks.3) (up_to 65535 _ asks.0 asks.4.is_port, up_to 64 _ asks.1 asks.4.are_workers, up_to 1000000 _ asks.2 asks.4.are_connections)
+within_after name.Push rest command asks =
+    subst IsWithinLimits (sym asks.2) (up_to 65535 _ asks.0 asks.3.is_port, up_to 1000000 _ asks.1 asks.3.is_number)

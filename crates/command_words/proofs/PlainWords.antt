@@ -16,6 +16,7 @@ use Rattle.command_words.specs.Laws.{PlainWords, flag_words}
 use Rattle.command_words.specs.declared.commands.CommandName.TheVariants as name
 use Rattle.command_words.proofs.GlobalWords.{global_asks}
 use Rattle.command_words.proofs.LetterFirst.{letter_first}
+use Rattle.command_words.proofs.PushWords.{push_asks}
 use Rattle.command_words.proofs.ServeWords.{serve_asks}
 use Rattle.command_words.proofs.ValueWords.{annotate_asks, approve_asks, demo_asks, evidence_asks}
 use Rattle.command_words.specs.declared.commands.Height.{Height}
@@ -268,5 +269,11 @@ plain_words = record {
     rest = decimal port ∷ decimal workers ∷ decimal connections ∷ [];
     are = refl;
     asks = (port, workers, connections, refl, serve_asks port workers connections p w c);
+  };
+  push = λ port number p n. record {
+    first = name.Push;
+    rest = decimal port ∷ decimal number ∷ [];
+    are = refl;
+    asks = (port, number, refl, push_asks port number p n);
   };
 }

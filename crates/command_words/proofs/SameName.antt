@@ -25,7 +25,8 @@ named_by word = if bytes_eq word (name_text name.VerifyRef) then Some name.Verif
     else (if bytes_eq word (name_text name.Mirror) then Some name.Mirror
     else (if bytes_eq word (name_text name.EvidenceMake) then Some name.EvidenceMake
     else (if bytes_eq word (name_text name.EvidenceCheck) then Some name.EvidenceCheck
-    else Some name.Serve))))))))))))))))
+    else (if bytes_eq word (name_text name.Serve) then Some name.Serve
+    else Some name.Push)))))))))))))))))
 
 named_by-text : (n : CommandName) → named_by (name_text n) ≡ Some n
 unfolding named_by
@@ -47,6 +48,7 @@ named_by-text name.Mirror = refl
 named_by-text name.EvidenceMake = refl
 named_by-text name.EvidenceCheck = refl
 named_by-text name.Serve = refl
+named_by-text name.Push = refl
 
 pub same_some : {X : Type 0} (x y : X) → Some x ≡ Some y → x ≡ y
 same_some x y e = cc

@@ -11,13 +11,13 @@ use Rattle.command_words.specs.Grammars.{Takes, value_of}
 use Rattle.command_words.proofs.ValueWords.{Begins, of_number}
 
 -- a number from 1 on begins with a digit
-begun : (most count : ℕ) → most < 2 ^ 64 → IsUpTo most count → Begins (decimal count)
+pub begun : (most count : ℕ) → most < 2 ^ 64 → IsUpTo most count → Begins (decimal count)
 begun most count low is = of_number (decimal count) (first_decimal count (omega (arith, is.some)) (omega (arith, low, is.few)))
 
-counted : (most count : ℕ) → IsUpTo most count → IsCount most (decimal count) count
+pub counted : (most count : ℕ) → IsUpTo most count → IsCount most (decimal count) count
 counted most count is = record { some = is.some; few = is.few; written = refl }
 
-given_so : (most count : ℕ) (given : Option (List ℕ)) (text : List ℕ) → given ≡ Some text → IsCount most text count → IsSomeAnd given (λ t. IsCount most t count)
+pub given_so : (most count : ℕ) (given : Option (List ℕ)) (text : List ℕ) → given ≡ Some text → IsCount most text count → IsSomeAnd given (λ t. IsCount most t count)
 given_so most count given text e is = subst (λ (g : Option (List ℕ)). IsSomeAnd g (λ t. IsCount most t count)) (sym e) is
 
 -- ---- serve

@@ -213,3 +213,15 @@ pub record AsksService (port workers connections : ℕ) (words : List (List ℕ)
   pub are_workers : IsSomeAnd (value_of serve_app (codes "workers") words) (λ text. IsCount 64 text workers)
   pub are_connections : IsSomeAnd (value_of serve_app (codes "connections") words)
       (λ text. IsCount 1000000 text connections)
+
+-- ---- push <port> <number>
+
+abbrev pub push_app : App
+push_app = with_rule (with_rule (bare_app (codes "push")) (positional_rule (codes "port")))
+    (positional_rule (codes "number"))
+
+-- a port, from 1 to 65,535, and the number of an entry, from 1 to 1,000,000
+pub record AsksPush (port number : ℕ) (words : List (List ℕ)) : Type 0 where
+  pub takes : Takes push_app words
+  pub is_port : IsSomeAnd (value_of push_app (codes "port") words) (λ text. IsCount 65535 text port)
+  pub is_number : IsSomeAnd (value_of push_app (codes "number") words) (λ text. IsCount 1000000 text number)

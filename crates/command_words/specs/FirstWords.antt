@@ -5,14 +5,16 @@ use Rattle.git_object.specs.References.{policy_name}
 use Rattle.ref_patterns.specs.declared.space.Space.{Space}
 use Rattle.evidence.specs.Dossiers.{IsPublic}
 use Rattle.command_words.specs.Commands.{AreTwo, AsksApproval, AsksDemo, AsksDossier, AsksGlobal, AsksKey, AsksNote}
-use Rattle.command_words.specs.Commands.{AsksReasons, AsksReference, AsksSeal, AsksService, AsksVerdict}
+use Rattle.command_words.specs.Commands.{AsksPush, AsksReasons, AsksReference, AsksSeal, AsksService}
+use Rattle.command_words.specs.Commands.{AsksVerdict}
 use Rattle.command_words.specs.Numbers.{IsUpTo}
 use Rattle.command_words.specs.Grammars.{Takes, bare_app}
 use Rattle.command_words.specs.declared.commands.Command.{Command}
 use Rattle.command_words.specs.declared.commands.Command.TheVariants.{VerifyRef, Export, Import, KeyGen, Log, Record}
 use Rattle.command_words.specs.declared.commands.Command.TheVariants.{Seal, Snapshot, PolicyApply, Explain, Annotate}
 use Rattle.command_words.specs.declared.commands.Command.TheVariants.{Approve, Demo, Mirror}
-use Rattle.command_words.specs.declared.commands.Command.TheVariants.{EvidenceMake, EvidenceCheck, Serve, VerifyGlobal}
+use Rattle.command_words.specs.declared.commands.Command.TheVariants.{EvidenceMake, EvidenceCheck, Serve, Push}
+use Rattle.command_words.specs.declared.commands.Command.TheVariants.{VerifyGlobal}
 use Rattle.command_words.specs.declared.commands.CommandName.{CommandName}
 use Rattle.command_words.specs.declared.commands.CommandName.TheVariants as name
 use Rattle.command_words.specs.declared.commands.Height.{Height}
@@ -37,6 +39,7 @@ name_text name.Mirror = codes "mirror"
 name_text name.EvidenceMake = codes "evidence-make"
 name_text name.EvidenceCheck = codes "evidence-check"
 name_text name.Serve = codes "serve"
+name_text name.Push = codes "push"
 
 -- the words behind this first one ask for the command
 abbrev pub AsksFor : CommandName → List (List ℕ) → Command → Type 0
@@ -68,6 +71,7 @@ AsksFor name.EvidenceMake rest command = (public : List ℕ) × (left : List ℕ
 AsksFor name.EvidenceCheck rest command = (command ≡ EvidenceCheck) × Takes (bare_app (codes "evidence-check")) rest
 AsksFor name.Serve rest command = (port : ℕ) × (workers : ℕ) × (connections : ℕ)
     × (command ≡ Serve port workers connections) × AsksService port workers connections rest
+AsksFor name.Push rest command = (port : ℕ) × (number : ℕ) × (command ≡ Push port number) × AsksPush port number rest
 
 abbrev pub AsksForNone : CommandName → List (List ℕ) → Type 0
 AsksForNone first rest = (command : Command) → AsksFor first rest command → ⊥
@@ -110,3 +114,4 @@ IsWithinLimits Mirror = Unit {0}
 IsWithinLimits (EvidenceMake public left right) = IsPublic public
 IsWithinLimits EvidenceCheck = Unit {0}
 IsWithinLimits (Serve port workers connections) = IsUpTo 65535 port × IsUpTo 64 workers × IsUpTo 1000000 connections
+IsWithinLimits (Push port number) = IsUpTo 65535 port × IsUpTo 1000000 number

@@ -15,7 +15,8 @@ use Rattle.command_words.specs.declared.commands.Command.{Command}
 use Rattle.command_words.specs.declared.commands.Command.TheVariants.{VerifyRef, Export, Import, KeyGen, Log, Record}
 use Rattle.command_words.specs.declared.commands.Command.TheVariants.{Seal, Snapshot, PolicyApply, Explain, Annotate}
 use Rattle.command_words.specs.declared.commands.Command.TheVariants.{Approve, Demo, Mirror}
-use Rattle.command_words.specs.declared.commands.Command.TheVariants.{EvidenceMake, EvidenceCheck, Serve, VerifyGlobal}
+use Rattle.command_words.specs.declared.commands.Command.TheVariants.{EvidenceMake, EvidenceCheck, Serve, Push}
+use Rattle.command_words.specs.declared.commands.Command.TheVariants.{VerifyGlobal}
 use Rattle.command_words.specs.declared.commands.Height.{Height}
 use Rattle.command_words.specs.declared.commands.Width.{Width}
 
@@ -65,3 +66,5 @@ pub record PlainWords : Type 0 where
   pub serve : (port workers connections : ℕ) → IsUpTo 65535 port → IsUpTo 64 workers → IsUpTo 1000000 connections
       → IsCommand (codes "serve" ∷ decimal port ∷ decimal workers ∷ decimal connections ∷ [])
       (Serve port workers connections)
+  pub push : (port number : ℕ) → IsUpTo 65535 port → IsUpTo 1000000 number
+      → IsCommand (codes "push" ∷ decimal port ∷ decimal number ∷ []) (Push port number)

@@ -103,6 +103,11 @@ pub enum Command {
         workers: u32,
         connections: u32,
     },
+    /// To send the entry of this number, from 1 to 1,000,000, to the desk on this port of the machine, from 1 to 65,535.
+    Push {
+        port: u16,
+        number: u32,
+    },
 }
 
 /// The first word of a command.
@@ -126,4 +131,5 @@ pub enum CommandName {
     EvidenceMake,
     EvidenceCheck,
     Serve,
+    Push,
 }

@@ -80,5 +80,8 @@ pub(crate) fn named(word: &str) -> Option<CommandName>
     if is_word(word, "serve") {
         return Some(CommandName::Serve);
     }
+    if is_word(word, "push") {
+        return Some(CommandName::Push);
+    }
     None
 }

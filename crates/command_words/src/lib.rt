@@ -18,6 +18,7 @@ mod key_types;
 pub mod laws;
 mod numbers;
 mod places;
+mod pushing;
 mod reading;
 mod references;
 mod sealing;

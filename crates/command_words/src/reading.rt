@@ -13,6 +13,7 @@ use crate::evidence_words::read_evidence;
 use crate::explaining::read_explain;
 use crate::first_words::{named, split_first};
 use crate::key_types::read_key_gen;
+use crate::pushing::read_push;
 use crate::references::read_reference;
 use crate::sealing::read_seal;
 use crate::serving::read_serve;
@@ -69,6 +70,7 @@ fn read_rest(alloc: Global, first: CommandName, words: &[String]) -> Result<Comm
             Ok(Command::EvidenceCheck)
         }
         CommandName::Serve => read_serve(alloc, words),
+        CommandName::Push => read_push(alloc, words),
     }
 }
 

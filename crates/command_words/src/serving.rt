@@ -45,8 +45,8 @@ fn take_serve<'a>(alloc: Global, words: &'a [String]) -> Result<ArgMatches<'a>, 
     take_words(command, words)
 }
 
-// The number from 1 to `most` that is given under this name; None where none is given.
-fn number_in(matches: &ArgMatches, id: &str, most: u32) -> Option<u32>
+/// The number from 1 to `most` that is given under this name; None where none is given.
+pub(crate) fn number_in(matches: &ArgMatches, id: &str, most: u32) -> Option<u32>
     ensures few { IfSome result (λ count. count ≤ most) }
     ensures found { IfSome result (λ count. IsSomeAnd (first_of id.now (rows_of (found_of matches.now)))
         (λ text. IsCount most text count)) }
@@ -56,8 +56,8 @@ fn number_in(matches: &ArgMatches, id: &str, most: u32) -> Option<u32>
     read_count(value_in(matches, id)?.as_bytes(), most)
 }
 
-// The port that is given; None where none is.
-fn port_in(matches: &ArgMatches) -> Option<u16>
+/// The port that is given; None where none is.
+pub(crate) fn port_in(matches: &ArgMatches) -> Option<u16>
     ensures found { IfSome result (λ port. IsSomeAnd (first_of (codes "port") (rows_of (found_of matches.now)))
         (λ text. IsCount 65535 text port)) }
     ensures none { IfNone result ((port : ℕ) → IsSomeAnd (first_of (codes "port") (rows_of (found_of matches.now)))

@@ -28,19 +28,19 @@ module _ (f : Faults) (source keeper : ℕ) where
   quiet_step : (ending : Ending) → part_of ending ≡ None → f.source ≤ source → source ≡ f.source → f.keeper ≤ keeper → keeper ≡ f.keeper → IsCounted ending f (stepped f source keeper)
   quiet_step ending none source_later source_same keeper_later keeper_same = record {
     is = (λ i. record f { source = source_same i; keeper = keeper_same i }) ∙ ap (λ (p : _). with_fault p f) (sym none);
-    later = record { source = source_later; sink = le_refl f.sink; keeper = keeper_later; disk = le_refl f.disk; entropy = le_refl f.entropy; clock = le_refl f.clock };
+    later = record { source = source_later; sink = le_refl f.sink; keeper = keeper_later; disk = le_refl f.disk; entropy = le_refl f.entropy; clock = le_refl f.clock; peer = le_refl f.peer };
   }
 
   source_step : f.source ≤ source → source ≡ one_more f.source → f.keeper ≤ keeper → keeper ≡ f.keeper → IsCounted (refused_ending (Stream stream.SourceFailed)) f (stepped f source keeper)
   source_step source_later source_more keeper_later keeper_same = record {
     is = λ i. record f { source = source_more i; keeper = keeper_same i };
-    later = record { source = source_later; sink = le_refl f.sink; keeper = keeper_later; disk = le_refl f.disk; entropy = le_refl f.entropy; clock = le_refl f.clock };
+    later = record { source = source_later; sink = le_refl f.sink; keeper = keeper_later; disk = le_refl f.disk; entropy = le_refl f.entropy; clock = le_refl f.clock; peer = le_refl f.peer };
   }
 
   keeper_step : f.source ≤ source → source ≡ f.source → f.keeper ≤ keeper → keeper ≡ one_more f.keeper → IsCounted (refused_ending Failed) f (stepped f source keeper)
   keeper_step source_later source_same keeper_later keeper_more = record {
     is = λ i. record f { source = source_same i; keeper = keeper_more i };
-    later = record { source = source_later; sink = le_refl f.sink; keeper = keeper_later; disk = le_refl f.disk; entropy = le_refl f.entropy; clock = le_refl f.clock };
+    later = record { source = source_later; sink = le_refl f.sink; keeper = keeper_later; disk = le_refl f.disk; entropy = le_refl f.entropy; clock = le_refl f.clock; peer = le_refl f.peer };
   }
 
   stream_counted : (fault : StreamFault) → IsOfInput fault → HasCause {T = Offer} mirror_source_failed f.source source (Err (Stream fault)) → HasCause {T = Offer} mirror_keeper_failed f.keeper keeper (Err (Stream fault))

@@ -33,13 +33,13 @@ unmade_counted held left right f now make.Memory ends cause = keeper_quiet _ f n
 source_quiet : (ending : Ending) (f : Faults) (now : ℕ) → part_of ending ≡ None → f.source ≤ now → now ≡ f.source → IsCounted ending f (record f { source = now })
 source_quiet ending f now none later same = record {
   is = (λ i. record f { source = same i }) ∙ ap (λ (p : _). with_fault p f) (sym none);
-  later = record { source = later; sink = le_refl f.sink; keeper = le_refl f.keeper; disk = le_refl f.disk; entropy = le_refl f.entropy; clock = le_refl f.clock };
+  later = record { source = later; sink = le_refl f.sink; keeper = le_refl f.keeper; disk = le_refl f.disk; entropy = le_refl f.entropy; clock = le_refl f.clock; peer = le_refl f.peer };
 }
 
 source_failed : (f : Faults) (now : ℕ) → f.source ≤ now → now ≡ one_more f.source → IsCounted (Refused (refusal.Fault part.Source)) f (record f { source = now })
 source_failed f now later more = record {
   is = λ i. record f { source = more i };
-  later = record { source = later; sink = le_refl f.sink; keeper = le_refl f.keeper; disk = le_refl f.disk; entropy = le_refl f.entropy; clock = le_refl f.clock };
+  later = record { source = later; sink = le_refl f.sink; keeper = le_refl f.keeper; disk = le_refl f.disk; entropy = le_refl f.entropy; clock = le_refl f.clock; peer = le_refl f.peer };
 }
 
 -- no dossier was read

@@ -26,5 +26,5 @@ module _ (f : Faults) (s k d c : ℕ) where
       recording.counted f s k d c (untold fault) (record { later = sink.later; is = sink.is }) (record { later = keeper.later; is = keeper.is }) (record { later = disk.later; is = disk.is }) (record { later = clock.later; is = clock.is })
   counted (Err (Refused why line)) sink keeper disk clock = record {
     is = λ i. record f { sink = sink.is i; keeper = keeper.is i; disk = disk.is i; clock = clock.is i };
-    later = record { source = le_refl f.source; sink = sink.later; keeper = keeper.later; disk = disk.later; entropy = le_refl f.entropy; clock = clock.later };
+    later = record { source = le_refl f.source; sink = sink.later; keeper = keeper.later; disk = disk.later; entropy = le_refl f.entropy; clock = clock.later; peer = le_refl f.peer };
   }

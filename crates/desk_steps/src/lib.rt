@@ -14,6 +14,6 @@ mod rows;
 
 pub use changing::change_of;
 pub use log_replies::{early, id_or_zeros, same_tip, tip_of};
-pub use needing::first_missing;
+pub use needing::{first_missing, is_done, is_kept, put_names};
 pub use replies::Reply;
 pub use rows::Row;

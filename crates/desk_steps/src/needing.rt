@@ -27,8 +27,8 @@ fn is_zeros(id: &ObjectId) -> bool
     id.as_bytes() == ObjectId::zeros().as_bytes()
 }
 
-// Whether an id is not visited any more, or never.
-fn is_done(seen: &Placed<ObjectId>, id: &ObjectId) -> bool
+/// Whether an id is not visited any more, or never.
+pub fn is_done(seen: &Placed<ObjectId>, id: &ObjectId) -> bool
     ensures { result ≡ is_done seen.now id.now }
 {
     if is_zeros(id) {
@@ -37,8 +37,8 @@ fn is_done(seen: &Placed<ObjectId>, id: &ObjectId) -> bool
     seen.has(id)
 }
 
-// Puts what an object names in front of what is ahead, whose front is at its end.
-fn put_names(alloc: Global, object: &Object, ahead: &mut Vec<ObjectId>) -> Result<(), Memory>
+/// Puts what an object names in front of what is ahead, whose front is at its end.
+pub fn put_names(alloc: Global, object: &Object, ahead: &mut Vec<ObjectId>) -> Result<(), Memory>
     ensures { OnOk result (reverse ahead.new.items ≡ names_of object.now ++ reverse ahead.old.items) }
 {
     let mut names = names_of(alloc, object)?;
@@ -47,8 +47,8 @@ fn put_names(alloc: Global, object: &Object, ahead: &mut Vec<ObjectId>) -> Resul
     Ok(())
 }
 
-// Whether the store has an object of this id.
-fn is_kept<R: Keeper>(alloc: Global, keeper: &mut R, id: &ObjectId) -> Result<bool, KeeperFault>
+/// Whether the store has an object of this id.
+pub fn is_kept<R: Keeper>(alloc: Global, keeper: &mut R, id: &ObjectId) -> Result<bool, KeeperFault>
     ensures there { IfOk result (λ kept. IsTrue kept → (r : Repository) → R.content keeper.new ≡ Some r
         → object_at r id.now ≡ None → ⊥) }
     ensures none { IfOk result (λ kept. kept ≡ false → (r : Repository) → R.content keeper.new ≡ Some r

@@ -14,6 +14,7 @@ pub record Faults : Type 0 where
   pub disk : ℕ
   pub entropy : ℕ
   pub clock : ℕ
+  pub peer : ℕ
 
 -- one fault more of this object, and of no other
 abbrev pub with_fault_of : Part → Faults → Faults
@@ -23,6 +24,7 @@ with_fault_of part.Keeper f = record f { keeper = one_more f.keeper }
 with_fault_of part.Disk f = record f { disk = one_more f.disk }
 with_fault_of part.Entropy f = record f { entropy = one_more f.entropy }
 with_fault_of part.Clock f = record f { clock = one_more f.clock }
+with_fault_of part.Peer f = record f { peer = one_more f.peer }
 
 -- one fault more of the object that failed, if one did
 abbrev pub with_fault : Option Part → Faults → Faults
@@ -37,6 +39,7 @@ pub record NoneFalls (before after : Faults) : Type 0 where
   pub disk : before.disk ≤ after.disk
   pub entropy : before.entropy ≤ after.entropy
   pub clock : before.clock ≤ after.clock
+  pub peer : before.peer ≤ after.peer
 
 -- the object that failed counted one fault, and no other object any
 pub record IsCounted (ending : Ending) (before after : Faults) : Type 0 where

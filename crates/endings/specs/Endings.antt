@@ -6,7 +6,7 @@ use Rattle.endings.specs.declared.ending.Ending.TheVariants.{Done, Differs, Brok
 use Rattle.endings.specs.declared.ending.Part.{Part}
 use Rattle.endings.specs.declared.ending.Refusal.{Refusal}
 use Rattle.endings.specs.declared.ending.Refusal.TheVariants.{Words, Stream, Object, TooLarge, NotEmpty, KeyFile}
-use Rattle.endings.specs.declared.ending.Refusal.TheVariants.{Policy, Input, Fault, Memory, Exhausted}
+use Rattle.endings.specs.declared.ending.Refusal.TheVariants.{Policy, Input, Fault, Memory, Exhausted, Desk}
 use Rattle.endings.specs.declared.messages.Line.{Line}
 use Rattle.endings.specs.declared.messages.Line.TheVariants.{Made, Held}
 
@@ -23,6 +23,7 @@ refusal_status Input = 3
 refusal_status (Fault part) = 4
 refusal_status Memory = 5
 refusal_status Exhausted = 6
+refusal_status Desk = 7
 
 -- the status of the program
 abbrev pub status_of : Ending → ℕ
@@ -44,6 +45,7 @@ refusal_line Input = codes "input\n"
 refusal_line (Fault part) = codes "fault\n"
 refusal_line Memory = codes "memory\n"
 refusal_line Exhausted = codes "exhausted\n"
+refusal_line Desk = codes "desk refused\n"
 
 -- the bytes of a line
 abbrev pub line_bytes : Line → List ℕ
@@ -63,6 +65,7 @@ part_in Input = None
 part_in (Fault part) = Some part
 part_in Memory = None
 part_in Exhausted = None
+part_in Desk = None
 
 abbrev pub part_of : Ending → Option Part
 part_of Done = None
@@ -83,6 +86,7 @@ IsStop Input = ⊥
 IsStop (Fault part) = Unit {0}
 IsStop Memory = Unit {0}
 IsStop Exhausted = ⊥
+IsStop Desk = ⊥
 
 abbrev pub IsStopped : Ending → Type 0
 IsStopped Done = ⊥

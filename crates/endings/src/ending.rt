@@ -15,6 +15,7 @@ pub enum Part {
     Disk,
     Entropy,
     Clock,
+    Peer,
 }
 
 /// Why a command is refused, in the order of its statuses: one variant for each line that the program can say there.
@@ -41,6 +42,8 @@ pub enum Refusal {
     Memory,
     /// Each leaf of the key file is used.
     Exhausted,
+    /// The desk took nothing: it gave no reply that can be read, or one that refuses, which was printed.
+    Desk,
 }
 
 /// How a command ends.
@@ -60,7 +63,7 @@ impl Refusal {
     /// The status with which the program then ends.
     pub fn status(&self) -> u8
         ensures status { result ≡ refusal_status self.now }
-        ensures bound { result ≤ 6 }
+        ensures bound { result ≤ 7 }
     {
         match self {
             Refusal::Words => 2,
@@ -74,6 +77,7 @@ impl Refusal {
             Refusal::Fault { part: _ } => 4,
             Refusal::Memory => 5,
             Refusal::Exhausted => 6,
+            Refusal::Desk => 7,
         }
     }
 }
@@ -83,7 +87,7 @@ impl Ending {
     /// broken, and that of the refusal where there is none.
     pub fn status(&self) -> u8
         ensures status { result ≡ status_of self.now }
-        ensures bound { result ≤ 6 }
+        ensures bound { result ≤ 7 }
     {
         match self {
             Ending::Done => 0,

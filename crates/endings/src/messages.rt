@@ -128,6 +128,7 @@ impl Refusal {
             Refusal::Fault { part: _ } => line_of(b"fault", b""),
             Refusal::Memory => line_of(b"memory", b""),
             Refusal::Exhausted => line_of(b"exhausted", b""),
+            Refusal::Desk => line_of(b"desk refused", b""),
         })
     }
 }

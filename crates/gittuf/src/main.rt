@@ -17,6 +17,7 @@ use edge_io::{Failed, FileDisk, MemDisk, OsClock, OsEntropy, StdSink, StdSource}
 use either_kind::EitherDisk;
 use endings::{Part, Refusal};
 use gittuf_cli::{Outside, run};
+use links::TcpPeer;
 use octets::Octets;
 use program_desk::say_end;
 use program_start::words_of;
@@ -60,7 +61,8 @@ fn open_key(rt: &HostRuntime, key: KeyPlace, needs: &Needs) -> Result<AnyDisk, R
     }
 }
 
-// Runs the command of the words over a store, a key file and the standard streams, and gives the store back.
+// Runs the command of the words over a store, a key file, the standard streams and the programs at ports of this machine,
+// and gives the store back.
 fn run_over(
     rt: &HostRuntime,
     command: &[String],
@@ -75,6 +77,7 @@ fn run_over(
         disk,
         entropy: OsEntropy::new(rt),
         clock: OsClock::new(rt),
+        peer: TcpPeer::new(rt),
     };
     let status = run(rt.alloc(), command, &mut outside);
     (status, outside.keeper)
@@ -106,7 +109,8 @@ fn start(rt: &HostRuntime, places: FrontWords) -> Result<(u8, AnyKeeper), u8> {
     }
 }
 
-// The handles for threads and sockets are those of this function alone, and so a desk is served here.
+// The handles for threads, and for a port that is listened at, are those of this function alone, and so a desk is served
+// here.
 fn main(rt: HostRuntime) -> ExitCode {
     let words = match words_of(&rt) {
         Ok(words) => words,

@@ -59,6 +59,7 @@ pub(crate) fn needs_of(alloc: Global, command: &[String]) -> Result<Needs, Refus
                 connections: _,
             },
         ) => (true, false, false),
+        Ok(Command::Push { port: _, number: _ }) => (false, false, false),
         Ok(
             Command::KeyGen {
                 height,

@@ -11,6 +11,8 @@ use Rattle.demo.specs.Demos.{demo_ending}
 use Rattle.demo.specs.Laws.{OneOfDemo}
 use Rattle.commands_desk.specs.Laws.{OneOfServe, ServeComes}
 use Rattle.commands_desk.specs.Readying.{serve_ending}
+use Rattle.commands_push.specs.Contents.{OneOfPush, PushComes}
+use Rattle.commands_push.specs.Faults.{push_ending}
 use Rattle.commands_global.specs.Contents.{GlobalComes}
 use Rattle.commands_global.specs.Laws.{OneOfGlobal}
 use Rattle.commands_global.specs.Verifying.{global_ending}
@@ -40,7 +42,7 @@ use Rattle.worlds.specs.Telling.{Content}
 use Rattle.gittuf_cli.specs.Contents.{Comes, IsSettledFor, OneOutcome}
 
 module _ (verifying : OneOfVerify) (globals : OneOfGlobal) (stream : OneOfStream) (keys : OneOfKeys) (history : OneOfHistory) (log : OneOfLog) (trees : OneOfTrees)
-    (policy : OneOfPolicy) (approvals : OneOfApprovals) (mirrors : OneOfMirror) (serves : OneOfServe) (demos : OneOfDemo) where
+    (policy : OneOfPolicy) (approvals : OneOfApprovals) (mirrors : OneOfMirror) (serves : OneOfServe) (sends : OneOfPush) (demos : OneOfDemo) where
   one_comes : (c : Command) (content : Content) → IsSettledFor c content → (x y : Ending) → Comes c content x → Comes c content y → x ≡ y
   one_comes (command.VerifyRef name root stdin) content settled =
       one_ending verify_ending (VerifyComes name root stdin content.held content.bytes) (verifying.verify name root stdin content.held content.bytes)
@@ -64,6 +66,8 @@ module _ (verifying : OneOfVerify) (globals : OneOfGlobal) (stream : OneOfStream
   one_comes (command.EvidenceMake public left right) content settled = one_ending make_ending (MakeComes content.held left right) (mirrors.make content.held left right)
   one_comes command.EvidenceCheck content settled = one_ending check_ending (CheckComes content.bytes) (mirrors.check content.bytes)
   one_comes (command.Serve port workers connections) content settled = one_ending serve_ending (ServeComes content.held) (serves content.held)
+  one_comes (command.Push port number) content settled =
+      one_ending push_ending (PushComes content.held content.come number) (sends content.held content.come number)
 
   pub same_outcome : OneCommand → OneOutcome
   same_outcome commands words content a b settled (inl none) (inl also) = none.0 ∙ sym also.0

@@ -12,6 +12,7 @@ use Rattle.commands_keys.specs.Runs as keys
 use Rattle.commands_log.specs.Runs as log
 use Rattle.commands_mirror.specs.Runs as mirroring
 use Rattle.commands_policy.specs.Runs as policy
+use Rattle.commands_push.specs.Runs as pushing
 use Rattle.commands_snapshot.specs.Runs as trees
 use Rattle.commands_stream.specs.Runs as stream
 use Rattle.commands_verify.specs.Runs as verifying
@@ -22,7 +23,7 @@ use Rattle.gittuf_cli.specs.Runs.{EndsOf, touched}
 
 module _ {types : Types} (ways : Ways types) (verifies : verifying.TellsOfWorld ways) (judges : globals.TellsOfWorld ways) (streams : stream.TellsOfWorld ways)
     (signs : keys.TellsOfWorld ways) (logs : log.TellsOfWorld ways) (snaps : trees.TellsOfWorld ways)
-    (applies : policy.TellsOfWorld ways) (approves : approving.TellsOfWorld ways) (mirrors : mirroring.TellsOfWorld ways) (serves : desks.TellsOfWorld ways)
+    (applies : policy.TellsOfWorld ways) (approves : approving.TellsOfWorld ways) (mirrors : mirroring.TellsOfWorld ways) (serves : desks.TellsOfWorld ways) (sends : pushing.TellsOfWorld ways)
     (shows : demos.TellsOfWorld ways) where
   told_comes : (c : Command) → TellsEnding ways (touched c) (EndsOf ways c) (Comes c)
   told_comes (command.VerifyRef name root stdin) = verifies.verify name root stdin
@@ -43,6 +44,7 @@ module _ {types : Types} (ways : Ways types) (verifies : verifying.TellsOfWorld 
   told_comes (command.EvidenceMake public left right) = mirrors.make public left right
   told_comes command.EvidenceCheck = mirrors.check
   told_comes (command.Serve port workers connections) = serves
+  told_comes (command.Push port number) = sends port number
 
   pub told_outcome : TellsOutcome ways
   told_outcome words before after ending content tells (inl none) = elim none.why [

@@ -16,6 +16,7 @@ use Rattle.commands_keys.specs.Runs.{KeyGenAnswers, SealAnswers}
 use Rattle.commands_log.specs.Runs.{LogAnswers, RecordAnswers}
 use Rattle.commands_mirror.specs.Runs.{CheckAnswers, MakeAnswers, MirrorAnswers}
 use Rattle.commands_policy.specs.Runs.{ApplyAnswers, ExplainAnswers}
+use Rattle.commands_push.specs.Runs.{PushAnswers}
 use Rattle.commands_snapshot.specs.Contents.{IsSettled}
 use Rattle.commands_snapshot.specs.Runs.{SnapshotAnswers}
 use Rattle.commands_stream.specs.Runs.{ExportAnswers, ImportAnswers}
@@ -43,6 +44,7 @@ Comes command.Mirror = MirrorAnswers
 Comes (command.EvidenceMake public left right) = MakeAnswers left right
 Comes command.EvidenceCheck = CheckAnswers
 Comes (command.Serve port workers connections) = ServeAnswers
+Comes (command.Push port number) = PushAnswers number
 
 -- what is settled of the content where a command has one ending: nothing, but for the trees of a listing
 abbrev pub IsSettledFor : Command → Content → Type 0

@@ -10,7 +10,7 @@ use Rattle.endings.specs.declared.ending.Ending.{Ending}
 use Rattle.endings.specs.declared.ending.Ending.TheVariants.{Done, Differs, Broken, Refused}
 use Rattle.endings.specs.declared.ending.Refusal.TheVariants as refusal
 use Rattle.worlds.specs.Running.{CountsFaults}
-use Rattle.worlds.specs.Touching.{Touched, on_key, on_listing, on_log, on_new_key, on_store, on_stream}
+use Rattle.worlds.specs.Touching.{Touched, on_key, on_listing, on_log, on_new_key, on_peer, on_store, on_stream}
 use Rattle.worlds.specs.Worlds.{Types, Ways, World}
 use Rattle.commands_approve.specs.Runs.{ApproveRuns}
 use Rattle.commands_desk.specs.Runs.{ServeRuns}
@@ -19,6 +19,7 @@ use Rattle.commands_keys.specs.Runs.{KeyGenRuns, SealRuns}
 use Rattle.commands_log.specs.Runs.{AnnotateRuns, LogRuns, RecordRuns}
 use Rattle.commands_mirror.specs.Runs.{CheckRuns, MakeRuns, MirrorRuns, on_text}
 use Rattle.commands_policy.specs.Runs.{ApplyRuns, ExplainRuns}
+use Rattle.commands_push.specs.Runs.{PushRuns}
 use Rattle.commands_snapshot.specs.Runs.{SnapshotRuns}
 use Rattle.commands_stream.specs.Runs.{ExportRuns, ImportRuns}
 use Rattle.commands_verify.specs.Runs.{VerifyRuns}
@@ -58,6 +59,7 @@ touched command.Mirror = on_stream
 touched (command.EvidenceMake public left right) = on_store
 touched command.EvidenceCheck = on_text
 touched (command.Serve port workers connections) = on_store
+touched (command.Push port number) = on_peer
 
 -- what it means that a command ran to an ending
 abbrev pub EndsOf : {types : Types} → Ways types → Command → World types → World types → Ending → Type 0
@@ -79,6 +81,7 @@ EndsOf ways command.Mirror = MirrorRuns ways
 EndsOf ways (command.EvidenceMake public left right) = MakeRuns ways public left right
 EndsOf ways command.EvidenceCheck = CheckRuns ways
 EndsOf ways (command.Serve port workers connections) = ServeRuns ways
+EndsOf ways (command.Push port number) = PushRuns ways port number
 
 module _ {types : Types} (ways : Ways types) where
   -- the words ask for this command, and it ran to this ending

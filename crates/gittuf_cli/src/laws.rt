@@ -12,12 +12,14 @@ use commands_keys::laws::{keys_over_world, one_of_keys};
 use commands_log::laws::{log_over_world, one_of_history};
 use commands_mirror::laws::{mirror_over_world, one_of_mirror};
 use commands_policy::laws::{one_of_policy, policy_over_world};
+use commands_push::laws::{one_of_push, push_over_world};
 use commands_snapshot::outcome_laws::{one_of_trees, snapshot_over_world};
 use commands_stream::laws::{one_of_stream, stream_over_world};
 use commands_verify::laws::{one_of_verify, verify_over_world};
 use demo::laws::{demo_over_world, one_of_demo};
 use edge_io::{Clock, Disk, Entropy, Sink, Source};
 use keeper_api::Keeper;
+use links::Peer;
 use log_appending::laws::one_of_log;
 use worlds::{Kinds, Objects, Of};
 
@@ -26,8 +28,8 @@ use worlds::{Kinds, Objects, Of};
 /// wanting, which is said; or the stream is refused, which is said by its number, and nothing is printed; or the
 /// repository that is held, or that the stream spells, is judged: exactly the line of the one verdict on the reference
 /// is printed, with its status, or exactly the line that names the commit at which its log breaks.
-pub fn headline<S: Source, K: Sink, R: Keeper, D: Disk, E: Entropy, C: Clock>()
-    ensures { Headline (ways S.Source K.Sink R.Keeper D.Disk E.Entropy C.Clock) }
+pub fn headline<S: Source, K: Sink, R: Keeper, D: Disk, E: Entropy, C: Clock, P: Peer>()
+    ensures { Headline (ways S.Source K.Sink R.Keeper D.Disk E.Entropy C.Clock P.Peer) }
 {
     one_command();
 }
@@ -47,6 +49,7 @@ pub fn tells_outcome<W: Objects>()
     approve_over_world::<W>();
     mirror_over_world::<W>();
     serve_over_world::<W>();
+    push_over_world::<W>();
     demo_over_world::<W>();
 }
 
@@ -67,5 +70,6 @@ pub fn one_outcome()
     one_of_approvals();
     one_of_mirror();
     one_of_serve();
+    one_of_push();
     one_of_demo();
 }

@@ -16,6 +16,7 @@ use commands_keys::seal;
 use commands_log::{annotate, log, record};
 use commands_mirror::{evidence_check, evidence_make, mirror};
 use commands_policy::{explain, policy_apply};
+use commands_push::push;
 use commands_snapshot::snapshot;
 use commands_stream::{export, import};
 use commands_verify::verify_ref;
@@ -23,6 +24,7 @@ use demo::demo;
 use edge_io::{Clock, Disk, Entropy, Sink, Source, write_all};
 use endings::{Ending, Refusal};
 use keeper_api::Keeper;
+use links::Peer;
 use std::alloc::Global;
 use worlds::{Kinds, Lent, Objects, Of, Outside};
 
@@ -68,6 +70,7 @@ fn carry_out<W: Objects>(alloc: Global, command: &Command, outside: &mut Lent<W>
             workers: _,
             connections: _,
         } => serve::<W>(alloc, outside),
+        Command::Push { port, number } => push::<W>(alloc, *port, *number as u64, outside),
     }
 }
 
@@ -117,22 +120,22 @@ fn say<F: Sink>(ending: &Ending, faults_out: &mut F)
 /// grammar; 3 where the input, the log, a policy, an object or the key file is refused, or there is no room where a
 /// store or a key file is to be made; 4 exactly where an object outside but `faults_out` counted a fault, and then one
 /// of them counted one and the others none; 5 for want of memory, and only where the first word is the name of a
-/// command; 6 where each leaf of the key file is used. At 0 and 1 the sink gains the whole answer, and at 3 for a log
-/// that is broken the line that says so; at the others `faults_out` gains the line of the refusal, or a front of it
-/// where it counted a fault, which changes neither status nor anything else. An object that a command does not use is
-/// unchanged.
-pub fn run<S: Source, K: Sink, F: Sink, R: Keeper, D: Disk, E: Entropy, C: Clock>(
+/// command; 6 where each leaf of the key file is used; 7 where a desk does not take a push. At 0, 1 and 7 the sink gains
+/// the whole answer, and at 3 for a log that is broken the line that says so; at 2 to 7, but for such a log,
+/// `faults_out` gains the line of the refusal, or a front of it where it counted a fault, which changes neither status
+/// nor anything else. An object that a command does not use is unchanged.
+pub fn run<S: Source, K: Sink, F: Sink, R: Keeper, D: Disk, E: Entropy, C: Clock, P: Peer>(
     alloc: Global,
     words: &[String],
-    outside: &mut Outside<S, K, F, R, D, E, C>,
+    outside: &mut Outside<S, K, F, R, D, E, C, P>,
 ) -> u8
-    ensures ran { Ran (ways S.Source K.Sink R.Keeper D.Disk E.Entropy C.Clock) (map string_bytes words.now)
+    ensures ran { Ran (ways S.Source K.Sink R.Keeper D.Disk E.Entropy C.Clock P.Peer) (map string_bytes words.now)
         (world_of outside.old) (world_of outside.new)
         (F.contents outside.old.faults_out) (F.contents outside.new.faults_out)
         (F.faults outside.old.faults_out) (F.faults outside.new.faults_out) result }
-    ensures bound { result ≤ 6 }
+    ensures bound { result ≤ 7 }
 {
-    let ending = obey::<Kinds<S, K, F, R, D, E, C>>(alloc, words, outside);
+    let ending = obey::<Kinds<S, K, F, R, D, E, C, P>>(alloc, words, outside);
     say(&ending, &mut outside.faults_out);
     ending.status()
 }

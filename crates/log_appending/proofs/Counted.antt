@@ -13,7 +13,7 @@ use Rattle.log_appending.specs.declared.telling.RecordFault.TheVariants.{Unread,
 
 module _ (f : Faults) (s k d c : ℕ) where
   falls : (outcome : Result (Unit {0}) RecordFault) → HasCause sink_failed f.sink s outcome → HasCause keeper_failed f.keeper k outcome → HasCause disk_failed f.disk d outcome → HasCause clock_failed f.clock c outcome → NoneFalls f (record f { sink = s; keeper = k; disk = d; clock = c })
-  falls outcome sink keeper disk clock = record { source = le_refl f.source; sink = sink.later; keeper = keeper.later; disk = disk.later; entropy = le_refl f.entropy; clock = clock.later }
+  falls outcome sink keeper disk clock = record { source = le_refl f.source; sink = sink.later; keeper = keeper.later; disk = disk.later; entropy = le_refl f.entropy; clock = clock.later; peer = le_refl f.peer }
 
   pub counted : (outcome : Result (Unit {0}) RecordFault) → HasCause sink_failed f.sink s outcome → HasCause keeper_failed f.keeper k outcome → HasCause disk_failed f.disk d outcome → HasCause clock_failed f.clock c outcome → IsCounted (record_ending outcome) f (record f { sink = s; keeper = k; disk = d; clock = c })
   counted (Ok done) sink keeper disk clock = record { is = λ i. record f { sink = sink.is i; keeper = keeper.is i; disk = disk.is i; clock = clock.is i }; later = falls (Ok done) sink keeper disk clock }

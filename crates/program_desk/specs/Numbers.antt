@@ -6,7 +6,7 @@ use Rattle.command_words.specs.declared.commands.Command.{Command}
 use Rattle.command_words.specs.declared.commands.Command.TheVariants.{VerifyRef, Export, Import, KeyGen, Log, Record}
 use Rattle.command_words.specs.declared.commands.Command.TheVariants.{Seal, Snapshot, PolicyApply, Explain, Annotate}
 use Rattle.command_words.specs.declared.commands.Command.TheVariants.{Approve, Demo, Mirror}
-use Rattle.command_words.specs.declared.commands.Command.TheVariants.{EvidenceMake, EvidenceCheck, Serve, VerifyGlobal}
+use Rattle.command_words.specs.declared.commands.Command.TheVariants.{EvidenceMake, EvidenceCheck, Push, Serve, VerifyGlobal}
 use Rattle.program_desk.specs.declared.words.ServeWords.{ServeWords}
 
 -- the numbers of the desk that a command asks for; none where it asks for no desk
@@ -29,6 +29,7 @@ numbers_of Mirror = None
 numbers_of (EvidenceMake public left right) = None
 numbers_of EvidenceCheck = None
 numbers_of (Serve p w c) = Some (record { port = p; workers = w; connections = c })
+numbers_of (Push port number) = None
 
 -- the words ask for a command with these numbers, or for none
 abbrev pub AreOfWords : List (List ℕ) → Option ServeWords → Type 0

@@ -12,6 +12,7 @@ use edge_io::{Failed, MemClock, MemDisk, MemEntropy, MemSink, MemSource, Sink};
 use git_object::{Kind, Object, ObjectId, RefName};
 use gittuf_cli::{Outside, run};
 use keeper_api::{Change, Keeper, KeeperFault, RefValue};
+use links::MemPeer;
 use octets::{Copied, Memory, Octets};
 use std::alloc::Global;
 
@@ -138,6 +139,7 @@ pub fn export(alloc: Global, size: usize) -> Result<Seen, Memory> {
         disk: MemDisk::new(Octets::new(alloc), 0, 0)?,
         entropy: MemEntropy::new(Octets::new(alloc)),
         clock: MemClock::new(Vec::new(alloc)),
+        peer: MemPeer::new(Octets::new(alloc), 0)?,
     };
     let words = vec![in alloc; String::from_str(alloc, "export")?]?;
     let status = run(alloc, words.as_slice(), &mut outside);

@@ -133,6 +133,7 @@ fn step<'a, K: Sink>(
             }
         }
         Record::Held => tell_text(alloc, scene.name(), scene.held(), out)?,
+        Record::Sent => tell_text(alloc, scene.name(), scene.sent(), out)?,
         Record::Endless { size } => tell_endless(alloc, scene.name(), size, out)?,
         Record::Run { way, words } => {
             let (seen, later) = scene.run(alloc, way, words)?;

@@ -1,17 +1,25 @@
 //! The records that rows are written in.
 //!
-//! row <name> LF                         begins a row: an empty store, no bytes, an empty key file bytes <size> LF
-//! <bytes> LF            adds to what the source gives to each command of the row from here on piece <name> <size> LF
-//! <bytes> LF     keeps bytes under a name for all rows take <name> LF                        adds the bytes that are
-//! kept under a name times <count> <name> LF               adds them so many times source <size> LF <bytes> LF
-//! what the source gives to each command of the row from here on key <size> LF <bytes> LF              what the key
-//! file holds for the next command of the row; what is signed over the row's store changes it for those after room
-//! <object> <bytes> LF              the room of an object for the next command failing <object> <call> <call> .. LF
-//! the calls of an object that fail in the next command random <size> LF <bytes> LF           the random bytes for the
-//! next command moments <moment> <moment> .. LF       what the clock gives to the next command <way> <word> <word> ..
-//! LF             runs the command of these words in one of the ways held LF                               tells what
-//! the key file holds endless <size> LF                     exports a store without an end, of blobs of so many bytes
-//! <question> ..                         tells what a call below the commands answers (`questions.rt`)
+//! ```text
+//! row <name> LF                     begins a row: an empty store, no bytes, an empty key file
+//! bytes <size> LF <bytes> LF        adds to what the source gives to each command of the row from here on
+//! piece <name> <size> LF <bytes> LF keeps bytes under a name for all rows
+//! take <name> LF                    adds the bytes that are kept under a name
+//! times <count> <name> LF           adds them so many times
+//! source <size> LF <bytes> LF       what the source gives to each command of the row from here on
+//! key <size> LF <bytes> LF          what the key file holds for the next command of the row; what is signed over the
+//!                                   row's store changes it for those after
+//! room <object> <bytes> LF          the room of an object for the next command
+//! failing <object> <call> .. LF     the calls of an object that fail in the next command
+//! random <size> LF <bytes> LF       the random bytes for the next command
+//! answer <size> LF <bytes> LF       what a peer answers to the next command
+//! moments <moment> .. LF            what the clock gives to the next command
+//! <way> <word> <word> .. LF         runs the command of these words in one of the ways
+//! held LF                           tells what the key file holds
+//! sent LF                           tells what the last command sent to a peer, and to which port
+//! endless <size> LF                 exports a store without an end, of blobs of so many bytes
+//! <question> ..                     tells what a call below the commands answers (`questions.rt`)
+//! ```
 
 use crate::conditions::Part;
 use crate::questions::{Question, question_of};
@@ -43,6 +51,7 @@ pub enum Condition<'a> {
     Failing { part: Part, calls: &'a [u8] },
     Random { bytes: &'a [u8] },
     Moments { moments: &'a [u8] },
+    Answer { bytes: &'a [u8] },
 }
 
 /// One of the records.
@@ -57,6 +66,7 @@ pub enum Record<'a> {
     Condition { condition: Condition<'a> },
     Run { way: Way, words: &'a [u8] },
     Held,
+    Sent,
     Endless { size: usize },
     Ask { question: Question<'a> },
 }
@@ -81,6 +91,7 @@ fn part_of(word: &[u8]) -> Option<Part> {
         b"disk" => Some(Part::Disk),
         b"random" => Some(Part::Random),
         b"clock" => Some(Part::Clock),
+        b"peer" => Some(Part::Peer),
         _ => None,
     }
 }
@@ -118,6 +129,10 @@ fn condition_of<'a>(
             Some((Condition::Random { bytes }, after))
         }
         b"moments" => Some((Condition::Moments { moments: rest }, after)),
+        b"answer" => {
+            let (bytes, after) = sized(rest, after)?;
+            Some((Condition::Answer { bytes }, after))
+        }
         _ => None,
     }
 }
@@ -164,6 +179,7 @@ fn setting_of<'a>(word: &[u8], rest: &'a [u8], after: &'a [u8]) -> Option<(Recor
 fn run_of<'a>(word: &[u8], rest: &'a [u8]) -> Option<Record<'a>> {
     match word {
         b"held" => Some(Record::Held),
+        b"sent" => Some(Record::Sent),
         b"endless" => Some(Record::Endless {
             size: size_of(rest)?,
         }),

@@ -23,6 +23,7 @@ pub struct Scene {
     name: Octets,
     bytes: Octets,
     key: Octets,
+    sent: Octets,
     keeper: MemKeeper,
     conditions: Conditions,
 }
@@ -46,6 +47,7 @@ impl Scene {
             name: Octets::from_slice(alloc, name)?,
             bytes: Octets::new(alloc),
             key: Octets::new(alloc),
+            sent: Octets::new(alloc),
             keeper: MemKeeper::new(alloc),
             conditions: Conditions::usual(alloc)?,
         })
@@ -58,6 +60,11 @@ impl Scene {
     /// What the key file holds.
     pub fn held(&self) -> &[u8] {
         self.key.as_slice()
+    }
+
+    /// What the last command over the row's store sent to a peer, behind its port.
+    pub fn sent(&self) -> &[u8] {
+        self.sent.as_slice()
     }
 
     pub fn add_bytes(&mut self, bytes: &[u8]) -> Result<(), Memory> {
@@ -94,6 +101,10 @@ impl Scene {
                 Some(moments) => self.conditions.set_moments(moments),
                 None => return Ok(false),
             },
+            Condition::Answer { bytes } => {
+                self.conditions
+                    .set_answer(Octets::from_slice(alloc, bytes)?);
+            }
         }
         Ok(true)
     }
@@ -116,25 +127,20 @@ impl Scene {
             name,
             bytes,
             key,
+            sent: _,
             keeper,
             conditions: usual,
         } = self;
         let source = bytes.copy()?;
-        let (one, keeper, key) = run_over(
-            alloc,
-            words,
-            conditions,
-            source,
-            keeper,
-            key.as_slice(),
-        )?;
-        let status = one.status;
-        add(seen, one)?;
+        let left = run_over(alloc, words, conditions, source, keeper, key.as_slice())?;
+        let status = left.seen.status;
+        add(seen, left.seen)?;
         let scene = Scene {
             name,
             bytes,
-            key,
-            keeper,
+            key: left.key,
+            sent: left.sent,
+            keeper: left.keeper,
             conditions: usual,
         };
         Ok((status, scene))
@@ -174,7 +180,7 @@ impl Scene {
         let (front, _) = bytes.split_at(len.min(bytes.len()));
         let source = Octets::from_slice(alloc, front)?;
         let keeper = MemKeeper::new(alloc);
-        let (one, ..) = run_over(
+        let left = run_over(
             alloc,
             words,
             conditions,
@@ -182,8 +188,8 @@ impl Scene {
             keeper,
             self.key.as_slice(),
         )?;
-        let status = one.status;
-        add(seen, one)?;
+        let status = left.seen.status;
+        add(seen, left.seen)?;
         Ok(status)
     }
 

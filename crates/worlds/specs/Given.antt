@@ -2,7 +2,7 @@
 use Rattle.worlds.specs.Worlds.{World, types_of}
 use Rattle.worlds.specs.declared.outside.Outside.{Outside}
 
-abbrev pub world_of : {S K F R D E C : Type 0} → Outside S K F R D E C → World (types_of S K R D E C)
+abbrev pub world_of : {S K F R D E C P : Type 0} → Outside S K F R D E C P → World (types_of S K R D E C P)
 world_of outside = record {
   source = outside.source;
   sink = outside.sink;
@@ -10,4 +10,5 @@ world_of outside = record {
   disk = outside.disk;
   entropy = outside.entropy;
   clock = outside.clock;
+  peer = outside.peer;
 }

@@ -11,6 +11,7 @@ pub record Content : Type 0 where
   pub held : Repository
   pub bytes : List ℕ
   pub file : List ℕ
+  pub come : List ℕ
 
 -- this is so where the object is touched
 abbrev pub Where : Bool → Type 0 → Type 0
@@ -34,11 +35,16 @@ module _ {types : Types} (ways : Ways types) where
     pub now : List ℕ
     pub holds : ways.disk.seen after.disk ≡ Some now
 
+  -- the peer tells these bytes
+  abbrev pub TellsPeer : World types → Content → Type 0
+  TellsPeer before content = ways.peer.left before.peer ≡ Some content.come
+
   -- the touched objects that hold something tell it
   pub record Tells (touched : Touched) (before after : World types) (content : Content) : Type 0 where
     pub source : Where touched.source (TellsSource before content)
     pub store : Where touched.keeper (TellsStore before after content)
     pub disk : Where touched.disk (TellsDisk before after content)
+    pub peer : Where touched.peer (TellsPeer before content)
 
   -- where they do, what ended in this way is what is come to over that content, or it stopped
   abbrev pub TellsEnding : Touched → (World types → World types → Ending → Type 0) → (Content → Ending → Type 0)

@@ -10,9 +10,18 @@ pub record Touched : Type 0 where
   pub disk : Bool
   pub entropy : Bool
   pub clock : Bool
+  pub peer : Bool
 
 abbrev pub nothing : Touched
-nothing = record { source = false; sink = false; keeper = false; disk = false; entropy = false; clock = false }
+nothing = record {
+  source = false;
+  sink = false;
+  keeper = false;
+  disk = false;
+  entropy = false;
+  clock = false;
+  peer = false;
+}
 
 -- the store is used, and the answer printed
 abbrev pub on_store : Touched
@@ -38,6 +47,10 @@ on_key = record nothing { source = true; sink = true; disk = true }
 abbrev pub on_new_key : Touched
 on_new_key = record nothing { sink = true; disk = true; entropy = true }
 
+-- an entry of the store is sent, and the answer printed
+abbrev pub on_peer : Touched
+on_peer = record nothing { sink = true; keeper = true; peer = true }
+
 -- the object afterwards where it is touched, and else the one before
 abbrev pub pick : {X : Type 0} → Bool → X → X → X
 pick touched before after = (if touched then after else before)
@@ -52,6 +65,7 @@ module _ {types : Types} where
     disk = pick touched.disk before.disk after.disk;
     entropy = pick touched.entropy before.entropy after.entropy;
     clock = pick touched.clock before.clock after.clock;
+    peer = pick touched.peer before.peer after.peer;
   }
 
   -- no other object is touched

@@ -5,6 +5,7 @@ use Rattle.edge_io.specs.declared.entropies.Entropy as entropy
 use Rattle.edge_io.specs.declared.sinks.Sink as sink
 use Rattle.edge_io.specs.declared.sources.Source as source
 use Rattle.keeper_api.specs.declared.keepers.Keeper as keeper
+use Rattle.links.specs.declared.peers.Peer as peer
 use Rattle.endings.specs.Counts.{Faults}
 
 -- the types of the objects outside
@@ -15,9 +16,10 @@ pub record Types : Type 1 where
   pub disk : Type 0
   pub entropy : Type 0
   pub clock : Type 0
+  pub peer : Type 0
 
-abbrev pub types_of : Type 0 → Type 0 → Type 0 → Type 0 → Type 0 → Type 0 → Types
-types_of S K R D E C = record { source = S; sink = K; keeper = R; disk = D; entropy = E; clock = C }
+abbrev pub types_of : Type 0 → Type 0 → Type 0 → Type 0 → Type 0 → Type 0 → Type 0 → Types
+types_of S K R D E C P = record { source = S; sink = K; keeper = R; disk = D; entropy = E; clock = C; peer = P }
 
 -- the objects outside
 pub record World (types : Types) : Type 0 where
@@ -27,6 +29,7 @@ pub record World (types : Types) : Type 0 where
   pub disk : types.disk
   pub entropy : types.entropy
   pub clock : types.clock
+  pub peer : types.peer
 
 -- how each of them tells what it holds
 pub record Ways (types : Types) : Type 1 where
@@ -36,16 +39,18 @@ pub record Ways (types : Types) : Type 1 where
   pub disk : disk.Ghosts types.disk
   pub entropy : entropy.Ghosts types.entropy
   pub clock : clock.Ghosts types.clock
+  pub peer : peer.Ghosts types.peer
 
-abbrev pub ways : {S K R D E C : Type 0} → source.Ghosts S → sink.Ghosts K → keeper.Ghosts R → disk.Ghosts D
-    → entropy.Ghosts E → clock.Ghosts C → Ways (types_of S K R D E C)
-ways of_source of_sink of_keeper of_disk of_entropy of_clock = record {
+abbrev pub ways : {S K R D E C P : Type 0} → source.Ghosts S → sink.Ghosts K → keeper.Ghosts R → disk.Ghosts D
+    → entropy.Ghosts E → clock.Ghosts C → peer.Ghosts P → Ways (types_of S K R D E C P)
+ways of_source of_sink of_keeper of_disk of_entropy of_clock of_peer = record {
   source = of_source;
   sink = of_sink;
   keeper = of_keeper;
   disk = of_disk;
   entropy = of_entropy;
   clock = of_clock;
+  peer = of_peer;
 }
 
 -- how many faults these have counted
@@ -57,4 +62,5 @@ faults_of ways world = record {
   disk = ways.disk.faults world.disk;
   entropy = ways.entropy.faults world.entropy;
   clock = ways.clock.faults world.clock;
+  peer = ways.peer.faults world.peer;
 }

@@ -29,3 +29,6 @@ returns-in-EvidenceMake-clause-outside c = rw c.in-EvidenceMake.is c.read_eviden
 
 pub returns-in-Serve-clause-outside : goal.returns-in-Serve-clause-outside
 returns-in-Serve-clause-outside c = rw c.in-Serve.is c.read_serve.ensures.outside
+
+pub returns-in-Push-clause-outside : goal.returns-in-Push-clause-outside
+returns-in-Push-clause-outside c = rw c.in-Push.is c.read_push.ensures.outside

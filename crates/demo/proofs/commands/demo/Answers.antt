@@ -7,7 +7,7 @@ use Rattle.demo.proofs.commands.demo.Goals as goal
 
 pub returns-clause-runs : goal.returns-clause-runs
 returns-clause-runs g c =
-    let told = ways g.W.Source.Source g.W.Sink.Sink g.W.Keeper.Keeper g.W.Disk.Disk g.W.Entropy.Entropy g.W.Clock.Clock in
+    let told = ways g.W.Source.Source g.W.Sink.Sink g.W.Keeper.Keeper g.W.Disk.Disk g.W.Entropy.Entropy g.W.Clock.Clock g.W.Peer.Peer in
     let counted = as_ended _ _ c.demo_ending.result (demo_ending c.demo-outcome.result) c.demo_ending.ensures
     (c.demo-outcome.ensures.counted (faults_of told (world_of c.args.outside.now))) in
     search rules

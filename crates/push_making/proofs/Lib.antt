@@ -1,0 +1,12 @@
+mod Visiting
+mod Reached
+mod Values
+mod Firsts
+mod Ordered
+mod Gathered
+mod Lengths
+mod Written
+mod Made
+mod Causes
+mod OneMakings
+mod Lacking
