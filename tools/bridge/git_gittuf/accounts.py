@@ -58,11 +58,8 @@ class Accounts:
 
     def looked_up(self, rows):
         """The ids of what Git has by these words, each with the number of an entry."""
-        if not rows:
-            return {}
-        given = b"".join(b"%s\n" % it for _, it in rows)
-        lines = self.work.repository.asked("look objects up", "cat-file", "--batch-check=%(objectname)", input=given).splitlines()
-        return {number: it for (number, _), it in zip(rows, lines) if b" " not in it}
+        found = self.work.repository.rows([it for _, it in rows]) if rows else []
+        return {number: it[0] for (number, _), it in zip(rows, found) if it}
 
     def persons_in(self, row, text):
         """The persons who signed an approval of the change of an entry."""

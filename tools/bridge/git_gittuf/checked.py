@@ -1,6 +1,7 @@
 """Which entries were found signed by the key that they name, so that each is looked at once: by a sum of the key and the entry.
 
 What is kept says who is named, and no more: whether a signature suffices is the program's to say, which reads nothing of it.
+Of many at once gittuf-inspect tells it, where that is here: it looks at them in one pass, and many times as quickly.
 """
 
 import hashlib
@@ -53,7 +54,17 @@ class Checked:
         sums = [sum_of(*it) for it in asked]
         new = {it: one for it, one in zip(sums, asked) if it not in self.found}
         if new:
-            self.found.update(zip(new, looked_at([*new.values()])))
-            lines = [f"{'+' if good else '-'} {it}\n" for it, good in sorted(self.found.items())]
-            notes.write(self.path, "".join(lines).encode())
+            self.keep(zip(new, looked_at([*new.values()])))
         return [self.found[it] for it in sums]
+
+    def is_new(self, public, body):
+        return sum_of(public, body) not in self.found
+
+    def learn(self, told):
+        """Keeps what the program told of these: the public key, the entry, and whether its signature is good by that key."""
+        self.keep((sum_of(public, body), is_good) for public, body, is_good in told)
+
+    def keep(self, found):
+        self.found.update(found)
+        lines = [f"{'+' if good else '-'} {it}\n" for it, good in sorted(self.found.items())]
+        notes.write(self.path, "".join(lines).encode())

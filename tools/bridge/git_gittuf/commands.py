@@ -68,10 +68,11 @@ def expect_one_log(work, anyway):
 
 def expect_no_step_back(work, name, value):
     """Refuses to record that a branch goes back to what the log has left behind, which a fetch without a merge looks like."""
-    repository, last = work.repository, history.last_recorded(work.repository, name)[1]
+    repository, listed = work.repository, looking.entries_of(work)
+    entry, last = history.last_recorded(listed, name)
     if value is None or last in (None, ZEROS, value) or not repository.are_commits([last, value]) or not is_before(repository, value, last):
         return
-    if history.last_recorded(repository, name)[0] in skipping.skips(work, looking.entries_of(work)):
+    if entry in skipping.skips(work, listed):
         return
     meant = names.Meant(name)
     line = ["tip-differs", os.fsdecode(name), "kept", value.decode(), "recorded", last.decode()]
@@ -88,7 +89,8 @@ def expect_own(name):
 def recorded_by(work, name, value, path, anyway=False):
     """Records where a reference stands, where that is lawful, and returns the program's line."""
     work.bring(maybe=[value] if value else [])
-    kept = history.kept_targets(work.repository, name, value, skipping.skips(work, looking.entries_of(work)))
+    listed = looking.entries_of(work)
+    kept = history.kept_targets(work.repository, history.last_recorded(listed, name), name, value, skipping.skips(work, listed))
     key = looking.key_id(path)
     if not anyway:
         looking.expect_lawful(work, name, value, key)
@@ -108,7 +110,7 @@ def record(work, words):
     name = names.own_name(repository, words.branch)
     expect_own(name)
     value = repository.references().get(name)
-    if value is None and history.last_recorded(repository, name)[1] is None:
+    if value is None and history.last_recorded(looking.entries_of(work), name)[1] is None:
         raise names.no_such(repository, words.branch, history.recorded_names(work))
     path = leaves.signing_key(repository)
     expect_one_log(work, words.anyway)

@@ -1,13 +1,13 @@
 """What an approval or a skip would count for, looked at before a leaf is used.
 
 An approval is a signature for an entry that somebody else records. So the program judges that entry without a signature on
-top of the log, and says whether one is wanted and which rule wants it. Who may skip an entry are those whom the rules of
-its reference ask, as the program names these rules.
+top of the log, and says whether one is wanted and which rule wants it. Who may skip an entry gittuf-inspect tells; where
+that is not here, they are those whom the rules of its reference ask, as the program names these rules.
 """
 
 import os
 
-from git_gittuf import looking, policies, skipping
+from git_gittuf import inspecting, looking, policies, settings, skipping
 from git_gittuf.looking import ANYWAY, COUNTS, FAULT
 from git_gittuf.names import short
 from git_gittuf.repository import Stopped
@@ -74,6 +74,7 @@ def expect_skips(work, ids, key):
     looking.expect_person(work, key, "a skip by it")
     listed = looking.entries_of(work)
     gone, policy = skipping.skips(work, listed), policies.in_force(work)
+    told = inspecting.skips(work, ids, key, settings.held_to(work.repository))
     for number, entry_id, kind, rest in listed:
         if entry_id.decode() not in ids:
             continue
@@ -82,7 +83,8 @@ def expect_skips(work, ids, key):
         if entry_id in gone:
             refuse("skipped", f"entry {number} is skipped already")
         rules = looking.rules_for(work, f"git:{os.fsdecode(rest[0])}")
-        if rules and key not in policy.keys_in(rules):
+        counts = not rules or key in policy.keys_in(rules) if told is None else told[entry_id.decode()]
+        if not counts:
             asked = sorted({name for it in rules for name in it.get("persons", [])})
             said = f"entry {number} is of {plain(short(rest[0]))}, which {looking.listing(asked)} may change, and not you"
             refuse("skipped", f"{said}: git gittuf recover {quoted(short(rest[0]))} by one of them")

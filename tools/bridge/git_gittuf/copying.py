@@ -70,9 +70,8 @@ def states_of(repository, ids):
 
 def files_of(repository, targets):
     """The ids of the files that are read of policies and approvals, of which these are targets with their references."""
-    given = b"".join(b"%s:%s\n" % (target, folder) for name, target in targets for folder in FOLDERS[name])
-    found = [it.split(b" ") for it in repository.asked("look folders up", "cat-file", "--batch-check", input=given).splitlines()]
-    trees = [it[0] for it in found if len(it) == 3 and it[1] == b"tree"]
+    found = repository.rows(b"%s:%s" % (target, folder) for name, target in targets for folder in FOLDERS[name])
+    trees = [it[0] for it in found if it and it[1] == b"tree"]
     return listed(repository, trees, f"--filter=blob:limit={MAX_FILE + 1}")
 
 
@@ -138,8 +137,7 @@ def bring(repository, kept, progress, extra=(), maybe=()):
 
 def is_takeable(repository, object_id, of_log):
     """Whether Git has this object, and the store would: an entry where it is of a log, and else what states are of, and not too large."""
-    how = "--batch-check=%(objecttype) %(objectsize)"
-    found = repository.asked("look an object up", "cat-file", how, input=b"%s\n" % object_id).split()
-    if len(found) != 2 or found[0] not in (b"commit", b"tree", b"tag") or int(found[1]) > MAX_BODY:
+    (found,) = repository.rows([object_id])
+    if not found or found[1] not in (b"commit", b"tree", b"tag") or int(found[2]) > MAX_BODY:
         return False
     return not of_log or any(is_entry(kind, body) for _, kind, body in repository.bodies([object_id]))

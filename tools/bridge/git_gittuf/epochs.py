@@ -31,9 +31,8 @@ def entry(number, parent, target, name=POLICY):
 
 def files_of(repository, target):
     """The ids of the files that the program reads of a policy."""
-    status, listed, _ = repository.git("ls-tree", "-z", "-l", f"{target.decode()}:metadata")
-    rows = [it.partition(b"\t")[0].split() for it in listed.split(b"\0") if it.endswith(b".json")] if not status else []
-    return [it[2] for it in rows if it[1] == b"blob" and int(it[3]) <= MAX_FILE]
+    named = [object_id for _, name, object_id in repository.tree(b"%s:metadata" % target) if name.endswith(b".json")]
+    return [it[0] for it in repository.rows(named) if it and it[1] == b"blob" and int(it[2]) <= MAX_FILE]
 
 
 def objects_of(repository, targets):

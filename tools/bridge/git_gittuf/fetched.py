@@ -51,6 +51,7 @@ class Fetched(Repository):
         self.git_dir = self.common = os.path.join(folder, "fetched.git")
         self.top, self.folder = None, folder
         self.listed, self.pushed, self.settings, self.epochs, self.speakable = None, {}, None, {}, (None, {})
+        self.begin_reading()
 
     def make(self):
         status, _, said = git("init", "--quiet", "--bare", "--template=", "--object-format=sha256", self.git_dir)
@@ -80,6 +81,7 @@ class Fetched(Repository):
         if not os.path.isdir(os.path.join(self.git_dir, "objects")):
             self.drop()
             self.make()
+        self.readers.close()
         self.unlock()
         self.take_settings(repository)
         words = ("--quiet", "--prune", "--no-tags", "--no-write-fetch-head")
@@ -90,6 +92,7 @@ class Fetched(Repository):
 
     def drop(self):
         """Lets all go that was fetched."""
+        self.readers.close()
         shutil.rmtree(self.git_dir, ignore_errors=True)
 
     def stream(self, progress):

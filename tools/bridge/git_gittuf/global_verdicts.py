@@ -37,15 +37,13 @@ def common(repository, commits):
 
 def place_in(target):
     """Where global rules stand in a policy, as git names it."""
-    return f"{target.decode()}:{policies.GLOBAL_PATH.decode()}"
+    return b"%s:%s" % (target, policies.GLOBAL_PATH)
 
 
 def are_there(repository, entries):
     """Whether something stands there in a policy that one of these entries recorded."""
     asked = {place_in(rest[1]) for _, _, kind, rest in entries if kind == b"ref" and rest[0] == POLICY}
-    given = "".join(f"{it}\n" for it in sorted(asked)).encode()
-    told = repository.asked("look files up", "cat-file", "--batch-check=%(objecttype)", input=given) if asked else b""
-    return any(not it.endswith(b" missing") for it in told.splitlines())
+    return any(repository.rows(sorted(asked)))
 
 
 class GlobalVerdicts:
@@ -62,9 +60,9 @@ class GlobalVerdicts:
         entries = [] if status else history.entries(printed)
         if not are_there(repository, entries):
             return []
-        asked = [("cat-file", "blob", place_in(it)) for _, it in epochs.of_entries(repository, entries, self.root)]
-        found = [repository.git(*it) for it in asked]
-        return [None if status else text for status, text, _ in found]
+        asked = [place_in(it) for _, it in epochs.of_entries(repository, entries, self.root)]
+        # What is too large to be read is there all the same.
+        return [(repository.body(b"blob", it) or b"") if row else None for it, row in zip(asked, repository.rows(asked))]
 
     def bring_history(self, name):
         """Lets the store have the commits between the targets of a reference, where a rule asks whether it goes back."""

@@ -7,44 +7,29 @@ import re
 from git_gittuf.repository import LOG, OWN, TARGETS, ZEROS
 from git_gittuf.remotes import fetched, is_before
 
-SPECIAL = re.compile(rb"([.*\[\]^$\\])")
-TARGET = re.compile(rb"^targetID: ([0-9a-f]{64})$", re.MULTILINE)
+
+def last_recorded(entries, name):
+    """The id of the last of these entries that is of a reference and the target that it recorded, or nothing."""
+    return next(((it, rest[1]) for _, it, kind, rest in reversed(entries) if kind == b"ref" and rest[0] == name), (None, None))
 
 
-def last_with(repository, line):
-    """The id and the message of the last entry with this line, or nothing."""
-    text = SPECIAL.sub(rb"\\\1", line)
-    # What the user set for git log changes nothing here.
-    how = ("--encoding=UTF-8", "--no-show-signature", "--basic-regexp")
-    words = ("log", "-1", *how, "--format=%H%n%B", b"--grep=^" + text + b"$", LOG.decode(), "--")
-    status, found, _ = repository.git(*words)
-    return found.partition(b"\n")[::2] if not status and found else (None, b"")
-
-
-def last_recorded(repository, name):
-    """The id of the last entry of a reference and the target that it recorded, or nothing."""
-    entry, message = last_with(repository, b"ref: " + name)
-    found = TARGET.search(message)
-    return entry, found[1] if found else None
-
-
-def kept_targets(repository, name, value, skipped):
-    """The references that keep what is recorded, and what was recorded last where no reference reaches that any more.
+def kept_targets(repository, last, name, value, skipped):
+    """The references that keep what is recorded, and what was recorded last, by that entry, where no reference reaches it any more.
 
     Whoever judges the next entry compares with what was recorded last, also in a clone that never had it.
     """
-    kept = last_target(repository, name, value, skipped)
+    kept = last_target(repository, last, value, skipped)
     if value is not None and not name.startswith(OWN):
         kept[TARGETS + value] = value
     return kept
 
 
-def last_target(repository, name, value, skipped):
+def last_target(repository, last, value, skipped):
     """The reference that keeps what was recorded last, where no branch will reach it once this value is recorded.
 
     What no remote has was kept by who recorded it, or is nobody else's.
     """
-    entry, last = last_recorded(repository, name)
+    entry, last = last
     if last in (None, ZEROS) or not repository.there([last]):
         return {}
     if value is not None and is_before(repository, last, value) or entry in skipped:

@@ -96,6 +96,7 @@ def hold(work, moves):
 
     So what was judged is what the next push goes on from, also where two come at once.
     """
+    work.repository.readers.close()
     receiver = os.getppid()
     if os.fork():
         return

@@ -68,10 +68,7 @@ def readable_objects(repository, tips, looked):
     lines = b"".join(b"%s\n" % it for it in (*tips, *(b"^" + it for it in repository.there(looked))))
     words = ("rev-list", "--objects", "--no-object-names", "--stdin")
     ids = repository.lines("list what is signed, as git fsck may say", *words, input=lines)
-    given = b"".join(b"%s\n" % it for it in ids)
-    how = "--batch-check=%(objectname) %(objecttype) %(objectsize)"
-    listed = [it.split() for it in repository.lines("look objects up", "cat-file", how, input=given)]
-    return [it[0] for it in listed if it[1] == b"commit" or it[1] == b"blob" and int(it[2]) <= MAX_ENVELOPE]
+    return [it[0] for it in repository.rows(ids) if it and (it[1] == b"commit" or it[1] == b"blob" and int(it[2]) <= MAX_ENVELOPE)]
 
 
 def of_entry(body, key_id):

@@ -4,7 +4,7 @@ import json
 import re
 import time
 
-from git_gittuf import epochs, history, policies, signers
+from git_gittuf import checked, epochs, history, inspecting, policies, signers
 from git_gittuf.shown import plain
 from git_gittuf.telling import show
 
@@ -32,10 +32,24 @@ class Listing:
         found = epochs.of_entries(work.repository, self.entries)
         self.epochs = [(number, signers.People(policies.Policy(work.repository, it))) for number, it in found]
         self.people, self.keys = {}, {}
+        self.learn(checked.Checked(work.repository))
         for people, entries in self.by_epoch():
             bodies = {it[1]: self.bodies[it[1]] for it in entries}
             self.keys.update(signers.of_bodies(work.repository, bodies, people.publics))
             self.people.update({it[0]: people for it in entries})
+
+    def learn(self, known):
+        """Lets gittuf-inspect tell which signatures are good, where many were looked at by nobody yet."""
+        asked = {}
+        for (start, _), (people, entries) in zip([(None, None), *self.epochs], self.by_epoch()):
+            for _, it, *_ in entries:
+                public = people.publics.get((signers.key_in(self.bodies[it]) or b"").decode())
+                if public and known.is_new(public, self.bodies[it]):
+                    asked[it] = start, public
+        told = inspecting.log(self.work, self.entries) if len(asked) >= checked.MANY else None
+        rows = {it: told[it] for it in asked if told[it]["epoch"] == asked[it][0]} if told else {}
+        if rows:
+            known.learn((asked[it][1], self.bodies[it], row["signed"]) for it, row in rows.items())
 
     def by_epoch(self):
         """The entries that are judged by each policy, with its persons; the first one's own is among its, and before it are none."""

@@ -1,19 +1,19 @@
 """What an entry would be before it is signed, and before what was signed goes into Git.
 
-Today the program judges an entry without a signature on top of the log, which is looked at and taken away again: where
-more than one signature is missing, or the key here is nobody's, no leaf is used. Else the entry is signed in the store,
-judged there, and given to Git only where it is lawful. This is the one place that decides so, and asks the program for
-more once it can tell what a key's entry would be.
+Where others than the key here are asked, gittuf-inspect tells what an entry of this key would be, before a leaf is used. Where
+that is not here the program judges an entry without a signature on top of the log, which is looked at and taken away again:
+where more than one signature is missing, or the key here is nobody's, no leaf is used. Whatever was signed is judged in the
+store, and given to Git only where it is lawful. This is the one place that decides so.
 """
 
 import os
 import re
 
-from git_gittuf import epochs, history, keys, policies, sentences, settings, signers, skipping
+from git_gittuf import epochs, history, inspecting, keys, policies, sentences, settings, signers, skipping
 from git_gittuf.names import HEADS, short
 from git_gittuf.program import Ended
 from git_gittuf.remotes import fetched, of_git
-from git_gittuf.repository import ATTESTATIONS, LOG, ZEROS, Stopped
+from git_gittuf.repository import ATTESTATIONS, LOG, OWN, ZEROS, Stopped
 from git_gittuf.shown import plain, quoted
 
 FAULT = re.compile(r"violation (\S+) (\d+) (\S+)(?: (.*))?")
@@ -51,10 +51,9 @@ def unsigned(work, name, value):
 def approvers(work, policy, name, value):
     """The ids of the policy's keys by which this change is approved."""
     repository, last = work.repository, last_counted(work, name) or ZEROS
-    tree = repository.git("rev-parse", "--verify", "--quiet", f"{value.decode()}^{{tree}}")[1].strip() if value else ZEROS
-    path = f"{ATTESTATIONS.decode()}:reference-authorizations/{os.fsdecode(name)}/{last.decode()}-{tree.decode()}"
-    status, text, _ = repository.git("cat-file", "blob", path)
-    return [] if status else signers.of_approval(text, name, last, tree, policy.publics())
+    tree = tree_at(repository, value) or b""
+    text = repository.body(b"blob", b"%s:reference-authorizations/%s/%s-%s" % (ATTESTATIONS, name, last, tree))
+    return [] if text is None else signers.of_approval(text, name, last, tree, policy.publics())
 
 
 def last_counted(work, name):
@@ -62,16 +61,15 @@ def last_counted(work, name):
     return skipping.last_of(work, entries_of(work), name)
 
 
-def rule_of(policy, word):
-    """The rule of the policy that the program names so, from whichever of its files."""
-    name = policies.unescaped(word)
+def rule_of(policy, name):
+    """The rule of the policy with this name, from whichever of its files."""
     files = [policy.files["targets"].says] if "targets" in policy.files else []
     files += [it.says for it in policy.delegated().values()]
     return next((it for says in files for it in says["rules"] if it["name"] == name), None)
 
 
 def who_is_missing(policy, rule, signed):
-    """The persons of a rule, and those of them of whom nothing is signed."""
+    """The persons of the rule of this name, and those of them of whom nothing is signed."""
     found = rule_of(policy, rule) or {}
     persons = found.get("persons") or []
     of_keys = signers.persons_of(policy)
@@ -90,14 +88,30 @@ def reason(work, name, value, line, key):
     counts = COUNTS.fullmatch(rest)
     if fault not in ("ref-rule", "path-rule") or not counts:
         return f"it would be a violation: {plain(sentences.of_line(line))}"
-    policy = policies.in_force(work)
-    wanted, missing = who_is_missing(policy, counts[2], [*approvers(work, policy, name, value), key])
-    what = f"a change of {plain(policies.unescaped(counts[1]))}" if fault == "path-rule" else "it"
-    said = f"it would be a violation: rule {plain(policies.unescaped(counts[2]))} wants {counts[4]} of {listing(wanted)} for {what}"
+    path, rule = (it and policies.unescaped(it) for it in counts.group(1, 2))
+    signed = [*approvers(work, policies.in_force(work), name, value), key]
+    return f"it would be a violation: {of_rule(work, name, value, (path if fault == 'path-rule' else None, rule, counts[4]), key, signed)}"
+
+
+def of_rule(work, name, value, unmet, key, signed):
+    """What a rule wants that is not met, given as path or nothing, name and threshold, and who of those whom it asks is missing."""
+    policy, (path, rule, threshold) = policies.in_force(work), unmet
+    wanted, missing = who_is_missing(policy, rule, signed)
+    what = "it" if path is None else f"a change of {plain(path)}"
+    said = f"rule {plain(rule)} wants {threshold} of {listing(wanted)} for {what}"
     if key not in policy.publics():
         return f"{said}, and your key is that of none of the policy's persons"
     who = ' or '.join(map(plain, missing)) or 'one more'
     return f"{said}; missing is {who}, who approves it by {approval_of(name, value)}{first_shown(work.repository, value)}"
+
+
+def reason_for(work, name, value, fault, key, signed):
+    """The same from a fault of an entry as gittuf-inspect tells it, with the keys that would have signed."""
+    if fault["kind"] in ("ref-rule", "path-rule"):
+        path, rule = (policies.unescaped(os.fsdecode(inspecting.word_of(fault[it]))) if it in fault else None for it in ("path", "rule"))
+        return of_rule(work, name, value, (path, rule, fault["need"]), key, [*signed, key])
+    line = b"violation %s 1 %s" % (name, inspecting.fault_in_words(fault))
+    return plain(sentences.of_line(os.fsdecode(line)))
 
 
 def first_shown(repository, value):
@@ -153,8 +167,54 @@ def refuse(work, name, value, line, number, key):
     raise Stopped(f"nothing is recorded, as {said}; --anyway records it all the same", 3)
 
 
+def tree_at(repository, value):
+    """The id of the tree of a commit or tag, or zeros for none."""
+    (row,) = repository.rows([b"%s^{tree}" % value]) if value else [(ZEROS,)]
+    return row and row[0]
+
+
+def is_alone_asked(work, listed, name, key):
+    """Whether only this key is asked for a change of a reference, who also signed the last one.
+
+    Then a look before it is signed finds what the one behind it finds. That a rule asks others too, or that somebody else
+    recorded last, lets it be looked at before, so that no leaf is used in vain.
+    """
+    policy, last = policies.in_force(work), history.last_recorded(listed, name)[0]
+    if not policy.files or name.startswith(OWN):
+        return False
+    if last and signers.key_in(work.repository.body(b"commit", last)) != key.encode():
+        return False
+    rules = [*rules_for(work, f"git:{os.fsdecode(name)}"), *(it for _, it in policy.rules() if any(path.startswith("file:") for path in it["paths"]))]
+    return all(it["threshold"] == 1 and key in policy.keys_in([it]) for it in rules)
+
+
+def expect_told_lawful(work, name, value, key, listed):
+    """The same by what gittuf-inspect tells; returns whether it told that."""
+    root = settings.held_to(work.repository)
+    found = inspecting.would(work, name, value, key, root)
+    if found is None:
+        return False
+    entry, faults = found
+    if faults:
+        said = "; and ".join(reason_for(work, name, value, it, key, entry["signers"]) for it in faults)
+        raise Stopped(f"nothing is recorded, as it would be a violation: {said}; --anyway records it all the same", 3)
+    if entry["prior"] is None and not any(rest[0] == name for _, _, kind, rest in listed if kind == b"ref"):
+        return True
+    standing = FAULT.fullmatch(verdict(work, name))
+    if standing:
+        told = inspecting.mends(work, name, root)
+        if told is None:
+            return False
+        if told[0] or tree_at(work.repository, value) != told[2]:
+            refuse(work, name, value, standing[0], entry["number"], key)
+    return True
+
+
 def expect_lawful(work, name, value, key):
     """Refuses what no signature by this key makes lawful, before a leaf of it is used."""
+    listed = entries_of(work)
+    if is_alone_asked(work, listed, name, key) or expect_told_lawful(work, name, value, key, listed):
+        return
     number, line, listed = unsigned(work, name, value)
     if is_sure(line, number, listed, work, name, key):
         refuse(work, name, value, line, number, key)

@@ -25,8 +25,7 @@ def head_of(repository, meant):
     status, found, _ = repository.git("rev-parse", "--verify", "--quiet", "HEAD^{commit}")
     references = repository.references()
     ids = sorted({it.value or references.get(it.name, b"") for it in meant} - {b""})
-    given = b"".join(b"%s^{commit}\n" % it for it in ids)
-    places = repository.asked("look objects up", "cat-file", "--batch-check=%(objectname)", input=given).split(b"\n")
+    places = [it[0] for it in repository.rows(b"%s^{commit}" % it for it in ids) if it]
     if status or found.strip() in places:
         return None
     return f"HEAD is at {found.strip().decode()[:12]}, where no judged branch or tag stands: what is checked out here is not judged"

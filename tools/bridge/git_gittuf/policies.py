@@ -11,13 +11,13 @@ import json
 import os
 import re
 
-from git_gittuf import epochs, forms, history, settings, signatures
+from git_gittuf import epochs, forms, history, policy_trees, settings, signatures
 from git_gittuf.repository import LOG, POLICY, STAGED, Stopped
 from git_gittuf.shown import plain
 
 TYPE = "application/vnd.gittuf+json"
 FILES = ("root", "targets")
-GLOBAL, GLOBAL_PATH = forms.GLOBAL, b"global/rules.json"
+GLOBAL, GLOBAL_PATH = forms.GLOBAL, policy_trees.GLOBAL_PATH
 ROLES = FILES
 HEXADECIMAL = re.compile("(?:[0-9a-f]{2})+")
 ESCAPED = re.compile(rb"%([0-9A-Fa-f]{2})")
@@ -57,17 +57,7 @@ class Policy:
 
     def __init__(self, repository, commit=None, place="the policy in force"):
         self.commit, self.files, self.others, self.global_file = commit, {}, {}, None
-        places = ("metadata/", GLOBAL_PATH.decode())
-        status, listed, _ = repository.git("ls-tree", "-r", "-z", commit.decode(), *places) if commit else (1, b"", "")
-        if status:
-            return
-        for line in filter(None, listed.split(b"\0")):
-            head, _, path = line.partition(b"\t")
-            mode, _, object_id = head.split(b" ")
-            if mode not in (b"100644", b"100755"):
-                # The program reads no others.
-                continue
-            text = repository.asked("read the policy", "cat-file", "blob", object_id.decode())
+        for path, text in policy_trees.texts_of(repository, commit, place) if commit else ():
             if path == GLOBAL_PATH:
                 self.read_global(text)
                 continue

@@ -14,16 +14,19 @@ LAUNCHER = os.path.join(TOP, "gittuf")
 CALLED = LAUNCHER
 # What the launcher looks at, in each of the places where a program may be.
 NAMES = ("gittuf", "gittuf-x86-64-v2", "gittuf-x86-64-v3", "gittuf.cpu", "gittuf.sources", "version")
+# Where the program gittuf-inspect stands in a package, or was built here.
+PACKAGED_INSPECT = os.path.join(TOP, "gittuf-inspect")
+BUILT_INSPECT = os.path.join(TOP, "crates", "gittuf_inspect", "out", "gittuf_inspect")
 # A person waits so many seconds before something is said.
 PATIENCE = 2
 
 
 def files():
-    """The files that decide which program runs and what it is: the programs that are built, released or packaged here, and their sources."""
+    """The files that decide which programs run and what they are: those that are built, released or packaged here, and their sources."""
     folders = [TOP, os.path.join(TOP, "crates", "gittuf", "out"), os.path.join(TOP, "crates", "gittuf", "out", "released")]
     cache = os.environ.get("XDG_CACHE_HOME") or os.path.join(os.environ.get("HOME", "/nowhere"), ".cache")
     folders.append(f"{cache}/gittuf{TOP}")
-    found = [os.path.join(folder, name) for folder in folders for name in NAMES]
+    found = [PACKAGED_INSPECT, BUILT_INSPECT, *(os.path.join(folder, name) for folder in folders for name in NAMES)]
     for folder in folders[1:]:
         try:
             with open(os.path.join(folder, "gittuf.files"), encoding="utf-8") as file:
@@ -64,12 +67,12 @@ class Progress:
 
 def run(store, key, *words, input=b"", output=subprocess.PIPE):
     """Runs the program to its end, and returns its status and what it printed. Its errors go to the caller's."""
-    return ended(store, key, words, input, output, None)[:2]
+    return ended(CALLED, (store, key, *words), input, False, output)[:2]
 
 
 def told(store, key, *words, input=b""):
     """The same with what it said of an error, which goes nowhere else."""
-    status, printed, said = ended(store, key, words, input, subprocess.PIPE, subprocess.PIPE)
+    status, printed, said = ended(CALLED, (store, key, *words), input, True)
     return status, printed, said.decode(errors="replace").strip()
 
 
@@ -105,8 +108,9 @@ def piped(first, second):
     return ", ".join(f"{word} says {text.decode(errors='replace').strip() or status}" for word, status, text in ends if status)
 
 
-def ended(store, key, words, input, output, errors):
-    command = (CALLED, store, key, *words)
+def ended(called, words, input, is_told, output=subprocess.PIPE):
+    """Runs a program to its end. What it says of an error is told with its status and what it printed, or else goes to the caller's."""
+    command, errors = (called, *words), subprocess.PIPE if is_told else None
     sys.stdout.flush()
     started, progress = time.monotonic(), Progress()
     # Where the program itself writes on the terminal a line would stand among its own.
@@ -114,7 +118,7 @@ def ended(store, key, words, input, output, errors):
     try:
         ran = subprocess.Popen(command, stdin=subprocess.PIPE, stdout=output, stderr=errors, pass_fds=Git.kept_open)
     except OSError as error:
-        raise Stopped(f"{CALLED} does not run: {error.strerror}") from None
+        raise Stopped(f"{called} does not run: {error.strerror}") from None
     with ran:
         while True:
             try:
@@ -124,6 +128,7 @@ def ended(store, key, words, input, output, errors):
                 # What was given is remembered, and may not be given again.
                 input = None
                 if not quiet:
-                    progress.tell(f"gittuf {words[0]} is at work, for {time.monotonic() - started:.0f} s now")
+                    name, word = os.path.basename(called), words[1 if called != CALLED else 2]
+                    progress.tell(f"{name} {word} is at work, for {time.monotonic() - started:.0f} s now")
     progress.end()
     return ran.returncode, printed, said

@@ -2,7 +2,7 @@
 
 import os
 
-from git_gittuf import commands, consents, history, leaves, looking, names, skipping
+from git_gittuf import commands, consents, history, inspecting, leaves, looking, names, settings, skipping
 from git_gittuf.repository import ZEROS, Stopped
 from git_gittuf.shown import plain, quoted
 from git_gittuf.telling import show, tell
@@ -25,14 +25,16 @@ def of_name(entries, name):
 def plan(work, name, number):
     """The entries that are still to be skipped, and the target whose files are wanted, or zeros for none."""
     entries = history.entries(work.asked("log"))
+    told = inspecting.mends(work, name, settings.held_to(work.repository))
+    if told:
+        skip, start, tree = told
+        if tree is None:
+            raise Stopped(f"what {plain(names.short(name))} had before entry {number} is not here whole, and no recovery leads back to it: git fetch may bring it", 3)
+        return [it for at, it, *_ in entries if at in skip], start or ZEROS
     gone, own = skipping.skips(work, entries), of_name(entries, name)
     before = [target for at, it, target in own if at < number and it not in gone]
     to_skip = [it for at, it, _ in own if at >= number and it not in gone]
     return to_skip, before[-1] if before else ZEROS
-
-
-def tree_of(repository, commit):
-    return repository.git("rev-parse", "--verify", "--quiet", f"{commit.decode()}^{{tree}}")[1].strip()
 
 
 def way_to(work, name, wanted):
@@ -46,7 +48,7 @@ def way_to(work, name, wanted):
         return f"before it there was none, so it is to go: git update-ref -d {quoted(os.fsdecode(name))} && {again}"
     if not repository.there([wanted]):
         raise Stopped(f"the files of {wanted.decode()} are wanted, and are not here: git fetch, or ask who has them", 3)
-    if value is not None and tree_of(repository, value) == tree_of(repository, wanted):
+    if value is not None and looking.tree_at(repository, value) == looking.tree_at(repository, wanted):
         return None
     restore = f"git restore --source={wanted.decode()[:12]} --staged --worktree :/ && git commit -m 'Take back'"
     if repository.head() != name:

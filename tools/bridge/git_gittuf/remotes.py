@@ -99,14 +99,19 @@ def asked_log(repository, remote):
 
 def is_before(repository, first, second):
     """Whether the second commit has the first one in its history."""
-    return repository.git("merge-base", "--is-ancestor", first.decode(), second.decode())[0] == 0
+    known = repository.known_before
+    if (first, second) not in known:
+        status = repository.git("merge-base", "--is-ancestor", first.decode(), second.decode())[0]
+        if status > 1:
+            # One of them is not here, and may come.
+            return False
+        known[first, second] = status == 0
+    return known[first, second]
 
 
 def fetched(repository, references, ids):
     """Those of these objects that are commits which a remote has, as what was fetched from it reaches them."""
-    lines = b"".join(b"%s\n" % it for it in ids)
-    kinds = repository.asked("look objects up", "cat-file", "--batch-check=%(objectname) %(objecttype)", input=lines).splitlines()
-    commits = [it.split()[0] for it in kinds if it.endswith(b" commit")]
+    commits = [it[0] for it in repository.rows(ids) if it and it[1] == b"commit"]
     tips = {value for name, value in references.items() if name.startswith((REMOTES, BESIDE))}
     if not commits or not tips:
         return set()

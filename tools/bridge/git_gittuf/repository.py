@@ -5,6 +5,7 @@ import re
 import subprocess
 
 import stream_format
+from git_gittuf.readers import LOOKS, Readers, row_of
 from git_gittuf.shown import quoted
 from git_repositories import expect_whole
 from stream_format import Git, Refused, git
@@ -17,6 +18,7 @@ STAGED = b"refs/gittuf/policy-staging"
 # What entries recorded and no branch reaches any more is kept below this name, so that every clone can judge it.
 TARGETS = b"refs/gittuf/targets/"
 TARGET_NAME = re.compile(TARGETS + rb"[0-9a-f]{64}")
+TREE_ENTRY = re.compile(rb"([0-7]+) ([^\0]+)\0(.{32})", re.DOTALL)
 OWN = b"refs/gittuf/"
 REMOTES = b"refs/remotes/"
 ZEROS = b"0" * 64
@@ -64,8 +66,13 @@ class Repository:
         self.pushed = {}
         # The settings, once they are read, and what was found of the log's policies.
         self.settings, self.epochs = None, {}
+        self.begin_reading()
         self.expect_format(lines[2])
         expect_whole(self.top or self.git_dir, lines[3] == "true", self.all_settings())
+
+    def begin_reading(self):
+        """Notes that no git is open to look objects up, and nothing is known of histories nor of policies, which are named by ids."""
+        self.readers, self.known_before, self.policies = Readers(self.where, Stopped), {}, {}
 
     @property
     def where(self):
@@ -168,26 +175,46 @@ class Repository:
                 if it.endswith(".lock"):
                     os.remove(os.path.join(at, it))
 
+    def rows(self, words):
+        """The id, the kind and the size of the object that each word names, or None where it names none."""
+        words = list(words)
+        if self.readers.takes(words):
+            return self.readers.rows(words)
+        given = b"".join(b"%s\n" % it for it in words)
+        lines = self.asked("look objects up", "cat-file", LOOKS, input=given).splitlines(keepends=True)
+        return list(map(row_of, lines))
+
     def there(self, ids):
         """Those of the ids whose objects are there."""
-        given = b"".join(b"%s\n" % it for it in ids)
-        lines = self.asked("look objects up", "cat-file", "--batch-check=%(objectname)", input=given).splitlines()
-        return {it for it in lines if not it.endswith(b" missing")}
+        return {it[0] for it in self.rows(ids) if it}
 
     def bodies(self, ids):
         """Each object of these ids that is there, as id, kind and body; the body of one past the limit is none."""
+        ids = list(ids)
+        if self.readers.takes(ids):
+            for object_id, kind, size, source in self.readers.objects(ids):
+                yield object_id, kind, body_of(source, object_id, kind, int(size))
+            return
         with stream_format.temporary() as given:
             given.write(b"".join(b"%s\n" % it for it in ids))
             given.seek(0)
             with Git(*self.where, "cat-file", "--batch", "--buffer", input=given) as ran:
-                for line in ran.output:
-                    if line.endswith(b" missing\n"):
-                        continue
-                    object_id, kind, size = line.split()
-                    yield object_id, kind, body_of(ran.output, object_id, kind, int(size))
+                for row in map(row_of, ran.output):
+                    if row:
+                        object_id, kind, size = row
+                        yield object_id, kind, body_of(ran.output, object_id, kind, int(size))
                 status, said = ran.end()
                 if status:
                     raise Stopped(f"git did not give all objects: {said}")
+
+    def body(self, kind, word):
+        """The body of the object of this kind that a word of Git's names, or nothing where it names none, or one past the limit."""
+        return next((body for _, found, body in self.bodies([word]) if found == kind), None)
+
+    def tree(self, word):
+        """The entries of the tree that a word of Git's names, each as mode, name and id; none where it names none."""
+        found = TREE_ENTRY.finditer(self.body(b"tree", word) or b"")
+        return [(it[1], it[2], it[3].hex().encode()) for it in found]
 
     def all_settings(self):
         """The settings by their names, as git spells these, each with its values."""
@@ -224,9 +251,7 @@ class Repository:
 
     def are_commits(self, ids):
         """Whether each of these ids is that of a commit that is here, and not of a tag of one."""
-        given = b"".join(b"%s\n" % it for it in ids)
-        found = self.asked("look objects up", "cat-file", "--batch-check=%(objecttype)", input=given).split(b"\n")
-        return all(it == b"commit" for it in found[:-1])
+        return all(it and it[1] == b"commit" for it in self.rows(ids))
 
     def commit_of(self, word):
         """The id of the commit or tag that a word of Git's names."""

@@ -81,8 +81,8 @@ class Anew:
     def is_own_approval(self, commit, path, approved):
         """Whether a file of approvals has the own key's signature, and for what its path says: nobody else's is made again."""
         key, public = self.own
-        status, text, _ = self.repository.git("cat-file", "blob", f"{commit.decode()}:{os.fsdecode(path)}")
-        if status or not leaves.is_signed(text, key, public):
+        text = self.repository.body(b"blob", b"%s:%s" % (commit, path))
+        if text is None or not leaves.is_signed(text, key, public):
             return False
         try:
             says = forms.json_of(policies.payload_of(text))

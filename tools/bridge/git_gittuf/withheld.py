@@ -88,8 +88,6 @@ def read_of(repository, there):
     """The ids of what the program reads of these objects of policies, as far as a store takes it."""
     files = {it for it, path in there if path.startswith(b"metadata/") and path.endswith(b".json")}
     ids = files | {it for it, path in there if path in (b"", b"metadata")}
-    given = b"".join(b"%s\n" % it for it in ids - {EMPTY_TREE})
-    how = "--batch-check=%(objectname) %(objecttype) %(objectsize)"
-    rows = [it.split() for it in repository.asked("look objects up", "cat-file", how, input=given).splitlines()] if given else []
+    rows = filter(None, repository.rows(sorted(ids - {EMPTY_TREE})))
     most = {b"commit": MAX_BODY, b"tree": MAX_BODY, b"blob": epochs.MAX_FILE}
     return [it for it, kind, size in rows if int(size) <= most.get(kind, -1) and (kind != b"blob" or it in files)]

@@ -136,6 +136,7 @@ class Work:
     def unlocked(self):
         """Lets others work here while git talks with a remote, whose hooks may call git gittuf too."""
         self.kept.let_go()
+        self.repository.readers.close()
         self.lock.give_back()
         try:
             yield
