@@ -25,13 +25,13 @@ def of_name(entries, name):
 def plan(work, name, number):
     """The entries that are still to be skipped, and the target whose files are wanted, or zeros for none."""
     entries = history.entries(work.asked("log"))
+    gone, own = skipping.skips(work, entries), of_name(entries, name)
     told = inspecting.mends(work, name, settings.held_to(work.repository))
-    if told:
+    if told and set(told[0]) <= {at for at, *_ in own}:
         skip, start, tree = told
         if tree is None:
             raise Stopped(f"what {plain(names.short(name))} had before entry {number} is not here whole, and no recovery leads back to it: git fetch may bring it", 3)
-        return [it for at, it, *_ in entries if at in skip], start or ZEROS
-    gone, own = skipping.skips(work, entries), of_name(entries, name)
+        return [it for at, it, _ in own if at in skip], start or ZEROS
     before = [target for at, it, target in own if at < number and it not in gone]
     to_skip = [it for at, it, _ in own if at >= number and it not in gone]
     return to_skip, before[-1] if before else ZEROS

@@ -1,0 +1,184 @@
+"""The checks of tools/test on what git gittuf takes from gittuf-inspect: what it tells as its page has it, and nothing else."""
+
+import json
+import os
+import shutil
+import sys
+
+from checking import TOP, ZEROS, run, want
+from git_gittuf import inspecting
+from guarded_clones import MAIN, another
+
+POLICY = "refs/gittuf/policy"
+ID = "ab" * 32
+# What is told of a reference, and the line of verify-ref that is the same verdict.
+LINES = (
+    ({"verdict": "accepted", "entries": 3}, "accepted refs/heads/a 3 entries"),
+    ({"verdict": "accepted", "entries": 0, "unrecorded": True}, "accepted refs/heads/a 0 entries"),
+    ({"verdict": "tip-differs", "kept": ID, "recorded": ZEROS}, f"tip-differs refs/heads/a kept {ID} recorded {ZEROS}"),
+    ({"fault": {"kind": "no-policy"}}, "violation refs/heads/a 7 no-policy"),
+    ({"fault": {"kind": "broken", "id": ID}}, f"violation refs/heads/a 7 broken {ID}"),
+    ({"fault": {"kind": "not-epoch", "why": "root-version 1"}}, "violation refs/heads/a 7 not-epoch root-version 1"),
+    ({"fault": {"kind": "ref-rule", "rule": "main", "got": 1, "need": 2}}, "violation refs/heads/a 7 ref-rule main 1 of 2"),
+    (
+        {"fault": {"kind": "path-rule", "path": "d/\xe4 %~", "rule": "docs", "got": 0, "need": 1}},
+        "violation refs/heads/a 7 path-rule d/%C3%A4%20%25~ docs 0 of 1",
+    ),
+    (
+        {"fault": {"kind": "path-rule", "path": {"escaped": "d/%FF"}, "rule": "docs", "got": 0, "need": 1}},
+        "violation refs/heads/a 7 path-rule d/%FF docs 0 of 1",
+    ),
+)
+# What is no such object.
+OTHERWISE = (
+    {},
+    {"verdict": "Accepted", "entries": 1},
+    {"verdict": "accepted"},
+    {"verdict": "accepted", "entries": -1},
+    {"verdict": "accepted", "entries": True},
+    {"verdict": "accepted", "entries": "1"},
+    {"verdict": "accepted", "entries": 1, "reference": "refs/heads/b"},
+    {"verdict": "accepted", "entries": 1, "reference": {"escaped": "refs/heads/a"}},
+    {"verdict": "tip-differs", "kept": ID, "recorded": ID[1:]},
+    {"verdict": "tip-differs", "kept": f"{ID}\n", "recorded": ID},
+    {"fault": None},
+    {"fault": {"kind": "broken"}},
+    {"fault": {"kind": "other"}},
+    {"fault": {"kind": "ref-rule", "rule": "main", "got": 1}},
+    {"fault": {"kind": "path-rule", "path": None, "rule": "docs", "got": 0, "need": 1}},
+    {"number": 1.0, "fault": {"kind": "no-policy"}},
+)
+
+
+def object_of(it):
+    return {"reference": "refs/heads/a", "verdict": "violation", "number": 7, **it}
+
+
+def are_lines(repositories):
+    """what gittuf-inspect tells of a reference is the line of verify-ref, for each kind of verdict and fault, or nothing where it is otherwise"""
+    name = b"refs/heads/a"
+    for it, line in LINES:
+        status = 0 if line.startswith("accepted") else 1
+        want(inspecting.line_of(name, object_of(it)), (status, f"{line}\n".encode()), f"the line of {it}")
+    for it in OTHERWISE:
+        want(inspecting.line_of(name, object_of(it)), None, f"the line of {it}")
+    for odd in (b"refs/heads/\xc3\xa4", b"refs/heads/\xff"):
+        want(inspecting.line_of(odd, object_of({**LINES[0][0], "reference": odd.decode(errors="replace")})), None, "that of a name that lines may escape")
+
+
+class StandIn:
+    """A folder with git-gittuf beside a program in the place of gittuf-inspect, which tells what it is to, and a launcher that notes its words."""
+
+    def __init__(self, clones, name):
+        self.clones, self.place = clones, clones.path(name)
+        os.makedirs(os.path.join(self.place, "crates", "gittuf_inspect", "out"))
+        shutil.copytree(os.path.join(TOP, "tools", "bridge"), os.path.join(self.place, "tools", "bridge"))
+        self.tool = shutil.copy(os.path.join(TOP, "tools", "git-gittuf"), os.path.join(self.place, "tools"))
+        self.write("gittuf", f"#!/bin/sh\necho \"$1 $3 $4\" >> '{self.at('asked')}'\nexec '{TOP}/gittuf' \"$@\"\n")
+        self.inspect = os.path.join("crates", "gittuf_inspect", "out", "gittuf_inspect")
+        self.write(self.inspect, f"#!/bin/sh\necho \"$2\" >> '{self.at('told')}'\ncat '{self.at('answer')}'\nexit $(cat '{self.at('status')}')\n")
+
+    def at(self, name):
+        return os.path.join(self.place, name)
+
+    def write(self, name, text, mode=0o755):
+        with open(self.at(name), "w", encoding="utf-8") as file:
+            file.write(text)
+        os.chmod(file.name, mode)
+
+    def tells(self, answer, status=0):
+        """Lets it tell this, and nothing be known of before."""
+        self.write("answer", answer if isinstance(answer, str) else "".join(f"{json.dumps(it)}\n" for it in answer))
+        self.write("status", f"{status}\n")
+        for it in ("asked", "told"):
+            self.write(it, "")
+
+    def ran(self, who, *words):
+        kept = os.path.join(self.clones.path(who), ".git", "gittuf", "answers")
+        if os.path.exists(kept):
+            os.remove(kept)
+        return run(sys.executable, self.tool, *words, folder=self.clones.path(who))
+
+    def lines_in(self, name):
+        with open(self.at(name), encoding="utf-8") as file:
+            return file.read().splitlines()
+
+
+def takes_nothing_else(repositories):
+    """verify of several names takes the verdicts of gittuf-inspect in one pass, and where it tells anything else, or cannot run, those of the program"""
+    clones = another(repositories, "told otherwise")
+    stands = StandIn(clones, "stand-in")
+    both = [{"reference": POLICY, "verdict": "accepted", "entries": 1}, {"reference": MAIN, "verdict": "accepted", "entries": 5}]
+    stands.tells(both)
+    told = b"accepted refs/gittuf/policy 1 entries\naccepted refs/heads/main 5 entries\n"
+    want(stands.ran("bob", "verify")[:2], (0, told), "the verdicts that are told")
+    judged = lambda: [it for it in stands.lines_in("asked") if it.endswith(f"verify-ref {MAIN}")]
+    want((stands.lines_in("told"), judged()), (["verdicts"], []), "what is asked then")
+    true = (0, told.replace(b" 5 ", b" 1 "))
+    lines = "".join(f"{json.dumps(it)}\n" for it in both)
+    answers = ["", lines[:-1], lines[:-20], lines + lines, f"{lines}x\n", "[]\n[]\n", "1\n2\n", "[" * 100_000 + "\n", "\xff\n"]
+    answers += [both[::-1], both[1:], [both[0], {**both[1], "reference": "refs/heads/mai"}], [both[0], {**both[1], "verdict": "good"}]]
+    for it in answers:
+        stands.tells(it)
+        want((stands.ran("bob", "verify")[:2], len(judged())), (true, 1), f"the verdicts where it tells {str(it)[:80]!r}")
+    for status in (2, 3, 4, 5, 139):
+        stands.tells(both, status)
+        want(stands.ran("bob", "verify")[:2], true, f"the verdicts where it ends with {status}")
+    stands.tells(both)
+    stands.write(stands.inspect, "\x7fELF")
+    want(stands.ran("bob", "verify")[:2], true, "the verdicts where it is no program")
+    os.chmod(stands.at(stands.inspect), 0o644)
+    want(stands.ran("bob", "verify")[:2], true, "the verdicts where it may not run")
+
+
+def is_of_the_sources(repositories):
+    """a gittuf-inspect that was built before a source here changed is not asked"""
+    clones = another(repositories, "built before")
+    stands = StandIn(clones, "stand-in")
+    stands.tells([])
+    os.makedirs(stands.at("crates/accounts/src/front"))
+    stands.write("crates/accounts/src/front/lib.rt", "")
+    stands.ran("bob", "verify")
+    want(stands.lines_in("told"), [], "what it is asked")
+    os.utime(stands.at("crates/accounts/src/front/lib.rt"), (1, 1))
+    stands.ran("bob", "verify")
+    want(stands.lines_in("told"), ["verdicts"], "what it is asked once it is younger")
+
+
+def of_entry(clones, target, **more):
+    entry = {"id": ZEROS, "kind": "reference", "number": 3, "prior": 2, "reference": MAIN, "signers": [], "target": target, "verdict": "authorised"}
+    return {**entry, **more}
+
+
+def signs_nothing_unlawful(repositories):
+    """record asks gittuf-inspect what this key's entry would be: a refusal uses no leaf, and where it tells something untrue nothing unlawful is kept"""
+    clones = another(repositories, "would")
+    stands = StandIn(clones, "stand-in")
+    clones.gittuf("bob", "verify", "main")
+    target = clones.commit("bob")
+    fault = {"kind": "path-rule", "path": "d/x", "rule": "docs", "got": 0, "need": 1}
+    refused = [of_entry(clones, target, verdict="refused"), {"fault": fault, "number": 3, "reference": MAIN, "verdict": "violation"}]
+    stands.tells(refused, 1)
+    before, log = clones.used("bob"), clones.tip("bob", "refs/gittuf/reference-state-log")
+    status, _, errors = stands.ran("bob", "record", "main")
+    want((status, b"rule docs wants 1 of" in errors and b"a change of d/x" in errors), (3, True), f"what is refused: {errors}")
+    want((stands.lines_in("told"), clones.used("bob") - before), (["would"], 0), "what is asked, and the leaves that are used")
+    clones.clone("mallory")
+    evil = clones.commit("mallory")
+    stands.tells([of_entry(clones, evil)])
+    status, _, errors = stands.ran("mallory", "record", "main")
+    want((status, b"none of the policy's persons" in errors), (3, True), f"what is refused to a stranger: {errors}")
+    want(clones.tip("mallory", "refs/gittuf/reference-state-log"), log, "the log of the stranger")
+    for it in ([], refused[:1], [of_entry(clones, evil)], [of_entry(clones, target, verdict="noted")], [of_entry(clones, target, id=ID)]):
+        stands.tells(it)
+        before = clones.used("bob")
+        clones.git("update-ref", "refs/gittuf/reference-state-log", log, who="bob")
+        want((stands.ran("bob", "record", "main")[0], clones.used("bob") - before), (0, 1), f"the status where it tells {str(it)[:80]}")
+
+
+CHECKS = (
+    are_lines,
+    takes_nothing_else,
+    is_of_the_sources,
+    signs_nothing_unlawful,
+)
