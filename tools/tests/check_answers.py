@@ -136,8 +136,27 @@ def changes_meanwhile(clones, who, tree, commit):
     want((status, output.count(b"accepted"), output.count(b"tip-differs")), (0, 1, 1), f"what is judged meanwhile: {output}{errors}")
 
 
+def begins_few(repositories):
+    """a record beside its key begins few programs: so many gits, and the program once for each that it asks"""
+    clones = another(repositories, "few programs")
+    tool, asked = counting(clones, "counted few")
+    clones.gittuf("alice", "verify", "main")
+    clones.commit("alice")
+    begun = clones.path("begun")
+    os.mkdir(clones.path("path"))
+    with open(clones.path("path/git"), "w", encoding="utf-8") as file:
+        file.write(f"#!/bin/sh\necho \"$*\" >> '{begun}'\nexec '{shutil.which('git')}' \"$@\"\n")
+    os.chmod(file.name, 0o755)
+    words = ("env", f"PATH={clones.path('path')}:{os.environ['PATH']}", sys.executable, tool, "record", "main")
+    want(run(*words, folder=clones.path("alice"))[::2], (0, b""), "the status and errors of record")
+    gits, programs = times_asked(begun), times_asked(asked)
+    want((gits <= 22, programs <= 6), (True, True), f"whether {gits} gits and {programs} programs are few")
+    return f"{gits} gits, {programs} programs"
+
+
 CHECKS = (
     asks_nothing_twice,
+    begins_few,
     believes_no_damage,
     keeps_what_it_rests_on,
 )

@@ -5,11 +5,12 @@ import os
 import shutil
 import sys
 
+from check_store import recorded_by_nobody
 from checking import TOP, ZEROS, run, want
 from git_gittuf import inspecting
 from guarded_clones import MAIN, another
 
-POLICY = "refs/gittuf/policy"
+POLICY, LOG = "refs/gittuf/policy", "refs/gittuf/reference-state-log"
 ID = "ab" * 32
 # What is told of a reference, and the line of verify-ref that is the same verdict.
 LINES = (
@@ -74,7 +75,7 @@ class StandIn:
         os.makedirs(os.path.join(self.place, "crates", "gittuf_inspect", "out"))
         shutil.copytree(os.path.join(TOP, "tools", "bridge"), os.path.join(self.place, "tools", "bridge"))
         self.tool = shutil.copy(os.path.join(TOP, "tools", "git-gittuf"), os.path.join(self.place, "tools"))
-        self.write("gittuf", f"#!/bin/sh\necho \"$1 $3 $4\" >> '{self.at('asked')}'\nexec '{TOP}/gittuf' \"$@\"\n")
+        self.write("gittuf", f"#!/bin/sh\necho \"$3 $4 $(cat \"$1/{LOG}\" 2> /dev/null)\" >> '{self.at('asked')}'\nexec '{TOP}/gittuf' \"$@\"\n")
         self.inspect = os.path.join("crates", "gittuf_inspect", "out", "gittuf_inspect")
         self.write(self.inspect, f"#!/bin/sh\necho \"$2\" >> '{self.at('told')}'\ncat '{self.at('answer')}'\nexit $(cat '{self.at('status')}')\n")
 
@@ -112,7 +113,7 @@ def takes_nothing_else(repositories):
     stands.tells(both)
     told = b"accepted refs/gittuf/policy 1 entries\naccepted refs/heads/main 5 entries\n"
     want(stands.ran("bob", "verify")[:2], (0, told), "the verdicts that are told")
-    judged = lambda: [it for it in stands.lines_in("asked") if it.endswith(f"verify-ref {MAIN}")]
+    judged = lambda: [it for it in stands.lines_in("asked") if it.startswith(f"verify-ref {MAIN} ")]
     want((stands.lines_in("told"), judged()), (["verdicts"], []), "what is asked then")
     true = (0, told.replace(b" 5 ", b" 1 "))
     lines = "".join(f"{json.dumps(it)}\n" for it in both)
@@ -159,7 +160,7 @@ def signs_nothing_unlawful(repositories):
     fault = {"kind": "path-rule", "path": "d/x", "rule": "docs", "got": 0, "need": 1}
     refused = [of_entry(clones, target, verdict="refused"), {"fault": fault, "number": 3, "reference": MAIN, "verdict": "violation"}]
     stands.tells(refused, 1)
-    before, log = clones.used("bob"), clones.tip("bob", "refs/gittuf/reference-state-log")
+    before, log = clones.used("bob"), clones.tip("bob", LOG)
     status, _, errors = stands.ran("bob", "record", "main")
     want((status, b"rule docs wants 1 of" in errors and b"a change of d/x" in errors), (3, True), f"what is refused: {errors}")
     want((stands.lines_in("told"), clones.used("bob") - before), (["would"], 0), "what is asked, and the leaves that are used")
@@ -168,15 +169,43 @@ def signs_nothing_unlawful(repositories):
     stands.tells([of_entry(clones, evil)])
     status, _, errors = stands.ran("mallory", "record", "main")
     want((status, b"none of the policy's persons" in errors), (3, True), f"what is refused to a stranger: {errors}")
-    want(clones.tip("mallory", "refs/gittuf/reference-state-log"), log, "the log of the stranger")
+    want(clones.tip("mallory", LOG), log, "the log of the stranger")
     for it in ([], refused[:1], [of_entry(clones, evil)], [of_entry(clones, target, verdict="noted")], [of_entry(clones, target, id=ID)]):
         stands.tells(it)
         before = clones.used("bob")
-        clones.git("update-ref", "refs/gittuf/reference-state-log", log, who="bob")
+        clones.git("update-ref", LOG, log, who="bob")
         want((stands.ran("bob", "record", "main")[0], clones.used("bob") - before), (0, 1), f"the status where it tells {str(it)[:80]}")
 
 
+def asks_for_rules_at_once(repositories):
+    """which rules protect many names of a long log is asked over its policies alone, and answered as over all of it; once each where that differs"""
+    clones = another(repositories, "many rules")
+    clones.gittuf("alice", "policy", "rule", "release", "refs/heads/release-*", "--persons", "alice")
+    clones.sign("alice")
+    clones.gittuf("alice", "policy", "apply")
+    protected = ["main", "release-1", "release-2"]
+    for it in (*protected[1:], "idea", "other", "topic"):
+        clones.git("branch", it, who="alice")
+    commits = [clones.tip("alice"), clones.git("commit-tree", "-p", MAIN, "-m", "other", f"{MAIN}^{{tree}}", who="alice").decode().strip()]
+    clones.git("branch", "many", commits[1], who="alice")
+    recorded_by_nobody(clones, "alice", [commits[it % 2] for it in range(600)])
+    stands = StandIn(clones, "stand-in")
+    os.remove(stands.at(stands.inspect))
+    stands.tells([])
+    names = [*protected, "idea", "other", "topic"]
+    found = [json.loads(it) for it in stands.ran("alice", "verify", "--json", *names)[1].splitlines()]
+    want([it["ref"].removeprefix("refs/heads/") for it in found if it["protected"]], protected, "what is protected")
+    log = clones.tip("alice", LOG)
+    asked = [it.split(" ") for it in stands.lines_in("asked") if it.startswith("explain ")]
+    want((len(asked), sum(it[2] == log for it in asked)), (len(names) + 1, 1), "how often rules are asked for, and over the whole log")
+    # One that answers otherwise over a log of which not all is there.
+    stands.write("gittuf", f"#!/bin/sh\n[ \"$3\" != explain ] || [ \"$(cat \"$1/{LOG}\")\" = {log} ] || exit 0\nexec '{TOP}/gittuf' \"$@\"\n")
+    again = [json.loads(it) for it in stands.ran("alice", "verify", "--json", *names)[1].splitlines()]
+    want(again, found, "what is told where it answers otherwise over the policies alone")
+
+
 CHECKS = (
+    asks_for_rules_at_once,
     are_lines,
     takes_nothing_else,
     is_of_the_sources,

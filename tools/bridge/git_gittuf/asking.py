@@ -3,7 +3,11 @@
 import contextlib
 import os
 
-from git_gittuf import inspecting, program
+from git_gittuf import epochs, history, inspecting, program
+from git_gittuf.repository import LOG
+
+# From so many questions after rules on, and so many entries, a log of the policies alone is made for them.
+MANY, LONG = 4, 500
 
 
 def standing(work, asked):
@@ -30,26 +34,62 @@ def in_one_pass(work, asked):
     return found
 
 
+def of_rules(work, asked):
+    """Keeps the answers to those of these words that ask which rules protect something, where the log is long and many ask.
+
+    That hangs on the policies that came into force, and on no other entry. So they are asked over a log of these alone, which
+    is read at once, and one of them over the whole log too: where that is another, nothing is taken of it.
+    """
+    words = [it for it in asked if it[0] == "explain"]
+    listed = history.entries(work.asked("log")) if len(words) >= MANY and LOG in work.kept.references() else ()
+    found = epochs.of_entries(work.repository, listed) if len(listed) >= LONG else ()
+    if not found:
+        return {}
+    tip, objects = None, []
+    for number, (_, target) in enumerate(found, start=1):
+        tip, body = epochs.entry(number, tip, target)
+        objects.append((tip, b"commit", body))
+    places = {it: work.place(it, None, ()) for it in words}
+    true = program.run(work.kept.for_program(), "-", *words[0])
+    with work.standing_at({LOG: tip}, objects):
+        answers = all_of(work, words)
+    if answers[words[0]] != true or work.place(words[0], None, ()) != places[words[0]]:
+        return {}
+    for it, answer in answers.items():
+        work.answers.put(places[it], answer)
+    return answers
+
+
+def all_of(work, words):
+    """What the program answers to each of these words, by all processors where the store lets several read it."""
+    ask = lambda it: program.run(work.kept.for_program(), "-", *it)
+    count = len(os.sched_getaffinity(0)) if work.kept.IS_SHARED else 1
+    if count < 2 or len(words) < 2:
+        return {it: ask(it) for it in words}
+    # Few calls want it, and it takes long to load.
+    import concurrent.futures
+
+    with concurrent.futures.ThreadPoolExecutor(count) as pool:
+        return dict(zip(words, pool.map(ask, words)))
+
+
 def ahead(work, asked):
     """Asks for these words, each with where its reference is to stand, and keeps the answers, which `read` finds then.
 
     What is kept nowhere is asked for again. Each answer is kept for the references that stand in the store while it is given.
     """
     new = [it for it in asked if work.answers.get(work.place(*it, ())) is None]
-    count = len(os.sched_getaffinity(0)) if work.kept.IS_SHARED else 1
-    if len(new) < 2 or count < 2 and not inspecting.place():
+    if len(new) < 2:
         return
+    rules = of_rules(work, [it for it, at in new if not at])
+    new = [(it, at) for it, at in new if it not in rules]
     moves = standing(work, new)
     with work.standing_at(moves) if moves else contextlib.nullcontext():
         words = list(dict.fromkeys(it for it, at in new if not at or at[0] in moves or work.is_standing(*at)))
         places = {it: work.place(it, None, ()) for it in words}
         answers = in_one_pass(work, words)
         left = [it for it in words if it not in answers]
-        if left and count > 1:
-            # Few calls want it, and it takes long to load.
-            import concurrent.futures
-
-            with concurrent.futures.ThreadPoolExecutor(count) as pool:
-                answers.update(zip(left, pool.map(lambda it: program.run(work.kept.for_program(), "-", *it), left)))
+        # Where the programs work one after the other, each is asked for once it is wanted.
+        answers.update(all_of(work, left) if work.kept.IS_SHARED else {})
         for it, answer in answers.items():
             work.answers.put(places[it], answer)

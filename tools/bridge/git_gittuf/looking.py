@@ -184,8 +184,10 @@ def is_alone_asked(work, listed, name, key):
         return False
     if last and signers.key_in(work.repository.body(b"commit", last)) != key.encode():
         return False
-    rules = [*rules_for(work, f"git:{os.fsdecode(name)}"), *(it for _, it in policy.rules() if any(path.startswith("file:") for path in it["paths"]))]
-    return all(it["threshold"] == 1 and key in policy.keys_in([it]) for it in rules)
+    others = [it for _, it in policy.rules() if it["threshold"] > 1 or key not in policy.keys_in([it])]
+    if any(path.startswith("file:") for it in others for path in it["paths"]):
+        return False
+    return not others or not any(it in others for it in rules_for(work, f"git:{os.fsdecode(name)}"))
 
 
 def expect_told_lawful(work, name, value, key, listed):
