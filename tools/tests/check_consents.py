@@ -68,7 +68,7 @@ def approves_for_more(repositories):
     applied(clones, "alice")
     tip = clones.commit("alice")
     _, _, errors = clones.asked("alice", "approve", "main")
-    said = f"rule main wants 3 of alice, bob, carol: with you 1 signed, and missing is bob or carol: git gittuf approve main {tip[:12]}"
+    said = f"rule main wants 3 of alice, bob, carol: with you 1 signed, and missing is bob or carol: git gittuf approve main {tip}"
     want(said in errors.decode(), True, f"what is told: {errors}")
 
 

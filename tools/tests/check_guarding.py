@@ -240,7 +240,7 @@ def approves_for_two(repositories):
     clones.verdict("alice", f"accepted {MAIN} 2 entries")
     clones.commit("alice")
     clones.git("push", "--quiet", who="alice")
-    part = f"rule main wants 2 of alice, bob for it; missing is bob, who approves it by git gittuf approve main {clones.tip('alice')[:12]}"
+    part = f"rule main wants 2 of alice, bob for it; missing is bob, who approves it by git gittuf approve main {clones.tip('alice')}"
     clones.refused("alice", "record", "main", status=3, part=part)
     clones.verdict("alice", f"tip-differs {MAIN} kept {clones.tip('alice')} recorded {clones.tip('alice', 'main~1')}")
     records(clones, "alice", "main", "--anyway")

@@ -168,8 +168,26 @@ def tells_its_own_faults(repositories):
         want((status, output, errors.splitlines()[-1:]), (4, b"", [b"git-gittuf: this is a fault of git gittuf itself, and nothing was judged"]), module)
 
 
+def runs_nothing_of_others(repositories):
+    """what is kept compiled is read from a folder of one's own alone, in which nobody else can write"""
+    tool, kept = os.path.join(TOP, "tools", "git-gittuf"), []
+    changes = {"own": lambda _: None, "everybody's": lambda it: os.chmod(it, 0o777)}
+    if not os.geteuid():
+        changes["another's"] = lambda it: os.chown(it, 65534, -1)
+    for name, change in changes.items():
+        cache = repositories.path(f"cache of {name}")
+        place = os.path.join(cache, "gittuf", "python")
+        os.makedirs(place)
+        change(place)
+        words = ("env", "-u", "PYTHONPYCACHEPREFIX", "-u", "PYTHONDONTWRITEBYTECODE", f"XDG_CACHE_HOME={cache}", tool, "-h")
+        want(run(*words)[::2], (0, b""), f"the status and errors beside {name} folder")
+        kept += [name] if os.listdir(place) else []
+    want(kept, ["own"], "in whose folders something is kept")
+
+
 CHECKS = (
     loads_what_is_there,
+    runs_nothing_of_others,
     tells_its_own_faults,
     tells_the_tip,
     goes_both_ways,

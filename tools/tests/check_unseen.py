@@ -141,10 +141,40 @@ def tells_what_a_rule_reaches(repositories):
     clones.gittuf("alice", "policy", "rule", "main", "--persons", "alice,bob", "--threshold", "2")
     clones.sign("alice")
     clones.gittuf("alice", "policy", "apply")
-    before, tip = clones.tip("alice")[:12], clones.commit("alice")[:12]
+    before, tip = clones.tip("alice"), clones.commit("alice")
     _, told = at_terminal("git gittuf approve main", clones.path("alice"))
-    part = f"This approves that main goes from {before} to the files of {tip}: git diff {before} {tip} shows what that changes."
+    part = f"This approves that main goes from {before[:12]} to the files of {tip[:12]}: git diff {before} {tip} shows what that changes."
     want(told.startswith(part), True, f"what a person is told first: {told}")
+
+
+def takes_no_tag_for_an_id(repositories):
+    """a tag that somebody named as a commit's id begins, or as a remote's branch, is not approved in its place, nor in a line to copy"""
+    clones = another(repositories, "tags like ids")
+    clones.gittuf("bob", "verify", "main")
+    tip, whole = clones.commit("alice"), "refs/remotes/origin/main"
+    clones.gittuf("alice", "record", "main")
+    clones.gittuf("alice", "push")
+    clones.clone("mallory")
+    clones.git("switch", "--quiet", "--create", "evil", who="mallory")
+    clones.commit("mallory", "evil")
+    evil = clones.tip("mallory", "evil")
+    for it in (tip[:12], "origin/main"):
+        clones.git("tag", it, who="mallory")
+    clones.git("push", "--quiet", "--tags", "origin", "evil", who="mallory")
+    clones.git("fetch", "--quiet", who="bob")
+    want(clones.tip("bob", tip[:12]), evil, "what Git takes the front of the id for")
+    for word in (tip[:12], f"{tip[:12]}^0", "origin/main", "origin/main~0"):
+        part = f"{word.split('^')[0].split('~')[0]} names more than one thing here: refs/"
+        clones.refused("bob", "approve", "main", word, status=3, part=part)
+    status, told = at_terminal("git gittuf verify main", clones.path("bob"))
+    want((status, f"git merge --ff-only {whole}" in told), (1, True), f"what is told: {told}")
+    clones.copied("bob", f"git merge --quiet --ff-only {whole}")
+    clones.verdict("bob", f"accepted {MAIN} 2 entries")
+    ahead = clones.commit("alice")
+    clones.git("push", "--quiet", "origin", "main:idea", who="alice")
+    clones.git("fetch", "--quiet", who="bob")
+    for word in (ahead, whole.replace("main", "idea"), "origin/idea"):
+        clones.gittuf("bob", "approve", "main", word, "--anyway")
 
 
 def pins_before_it_is_edited(repositories):
@@ -163,5 +193,6 @@ CHECKS = (
     tells_what_is_checked_out,
     tells_what_no_rule_protects,
     tells_what_a_rule_reaches,
+    takes_no_tag_for_an_id,
     pins_before_it_is_edited,
 )

@@ -172,7 +172,7 @@ def pushes_the_log_alone(repositories):
     clones.gittuf("alice", "policy", "apply")
     clones.commit("alice")
     tip = clones.tip("alice", "release-1")
-    part = f"missing is bob, who approves it by git gittuf approve release-1 {tip[:12]}, once git push origin {tip[:12]}:refs/heads/idea, say, has shown it"
+    part = f"missing is bob, who approves it by git gittuf approve release-1 {tip}, once git push origin {tip}:refs/heads/idea, say, has shown it"
     clones.refused("alice", "record", "release-1", status=3, part=part)
     clones.git("reset", "--quiet", "--hard", "HEAD~1", who="alice")
     clones.gittuf("alice", "push")

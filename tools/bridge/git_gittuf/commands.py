@@ -143,8 +143,8 @@ def branch_here(repository, word, name):
         return name
     beside = names.in_place_of(repository, references, os.fsencode(name))
     if beside:
-        at = names.remote_branch(beside[0].name, beside[0].remote)[len(REMOTES) :]
-        way = f"git gittuf approve {quoted(word)} {quoted(os.fsdecode(at))} approves where {plain(beside[0].remote)} has it"
+        at = names.word_at_remote(repository, names.remote_branch(beside[0].name, beside[0].remote))
+        way = f"git gittuf approve {quoted(word)} {quoted(at)} approves where {plain(beside[0].remote)} has it"
     else:
         way = f"git fetch --tags may bring it, and git gittuf approve {quoted(word)} COMMIT says where it may go"
     raise Stopped(f"there is no branch or tag {plain(word)} here: {way}", 3)
@@ -152,13 +152,13 @@ def branch_here(repository, word, name):
 
 def what_is_approved(work, name, target):
     """In a sentence what an approval is of, with the line that shows it."""
-    shown, there = plain(names.short(name)), (looking.last_counted(work, name) or ZEROS).decode()[:12]
-    to = target.decode()[:12]
+    shown, there = plain(names.short(name)), (looking.last_counted(work, name) or ZEROS).decode()
+    to = target.decode()
     if target == ZEROS:
-        return f"This approves that {shown} goes, which the log has at {there}."
+        return f"This approves that {shown} goes, which the log has at {there[:12]}."
     if not int(there, 16):
-        return f"This approves that {shown} begins with the files of {to}: git ls-tree -r {to} lists them."
-    return f"This approves that {shown} goes from {there} to the files of {to}: git diff {there} {to} shows what that changes."
+        return f"This approves that {shown} begins with the files of {to[:12]}: git ls-tree -r {to} lists them."
+    return f"This approves that {shown} goes from {there[:12]} to the files of {to[:12]}: git diff {there} {to} shows what that changes."
 
 
 def approve(work, words):

@@ -89,5 +89,5 @@ def fetch(work, words):
     if not moves:
         say(f"All that the desk has stands here as {plain(remote)} has it.")
     elif LOG in found:
-        say(f"git gittuf verify says whether it is lawful, and git merge {plain(remote)}/main, say, goes on to it.")
+        say(f"git gittuf verify says whether it is lawful, and git merge refs/remotes/{plain(remote)}/main, say, goes on to it.")
     return 0

@@ -119,14 +119,14 @@ def first_shown(repository, value):
     found = of_git(repository)
     if value is None or not found or not repository.are_commits([value]) or fetched(repository, repository.references(), [value]):
         return ""
-    return f", once git push {quoted(found[0])} {value.decode()[:12]}:refs/heads/idea, say, has shown it"
+    return f", once git push {quoted(found[0])} {value.decode()}:refs/heads/idea, say, has shown it"
 
 
 def approval_of(name, value):
     """The line by which somebody approves a change."""
-    # Who approves may not have it, and a word that is not there is taken for a branch.
+    # Who approves may not have it, and a word that is not there is taken for a branch. The front of an id may be the name of a tag there.
     word = quoted(short(name) if name.startswith(HEADS) else os.fsdecode(name))
-    return f"git gittuf approve {'--delete ' + word if value is None else f'{word} {value.decode()[:12]}'}"
+    return f"git gittuf approve {'--delete ' + word if value is None else f'{word} {value.decode()}'}"
 
 
 def rules_for(work, what):

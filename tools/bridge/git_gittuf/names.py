@@ -40,6 +40,13 @@ def remote_branch(name, remote, _=None):
     return REMOTES + os.fsencode(remote) + b"/" + name[len(HEADS) :]
 
 
+def word_at_remote(repository, name):
+    """The word for a branch of a remote, which is its whole name where something else here has that word."""
+    word = name[len(REMOTES) :]
+    others = (b"refs/" + word, TAGS + word, HEADS + word)
+    return os.fsdecode(name if any(it in repository.all_references() for it in others) else word)
+
+
 def places_at_remotes(repository, references):
     """The branches of remotes by their names there, of those at one place the first."""
     found = {}

@@ -50,7 +50,7 @@ def way_to(work, name, wanted):
         raise Stopped(f"the files of {wanted.decode()} are wanted, and are not here: git fetch, or ask who has them", 3)
     if value is not None and looking.tree_at(repository, value) == looking.tree_at(repository, wanted):
         return None
-    restore = f"git restore --source={wanted.decode()[:12]} --staged --worktree :/ && git commit -m 'Take back'"
+    restore = f"git restore --source={wanted.decode()} --staged --worktree :/ && git commit -m 'Take back'"
     if repository.head() != name:
         restore = f"git switch {word} && {restore}"
     if not name.startswith(b"refs/heads/") or value is None:

@@ -19,7 +19,7 @@ table{border-collapse:collapse;width:100%;table-layout:fixed}th,td{text-align:le
 .log th:nth-child(6){width:8.5rem}
 .log td:nth-child(2){white-space:nowrap}.good{color:#0a6b2d}.bad{color:#a01010;font-weight:600}li{margin:.2rem 0}
 .marks{position:relative;height:1.4rem;font-size:.8rem}.marks i{position:absolute;border-left:3px solid #a01010;padding-left:.15rem;color:#a01010}
-.people th:nth-child(n+2){width:11rem}.line{display:flex;font-size:.8rem}
+.people th:nth-child(n+2){width:10rem}.people th:nth-child(n+4){width:13rem}.people td:nth-child(n+4){white-space:nowrap}.line{display:flex;font-size:.8rem}
 .line span{min-width:0;overflow:hidden;padding:.2rem;print-color-adjust:exact;-webkit-print-color-adjust:exact}
 @media screen and (max-width:45rem){
 body{font-size:15px;padding:.6rem}table,tbody,tr,td{display:block}thead{display:none}tr{padding:.4rem 0;border-bottom:1px solid #bbb}

@@ -259,7 +259,22 @@ class Repository:
         status, found, _ = (1, b"", "") if word.startswith("-") else self.git("rev-parse", "--verify", "--quiet", word)
         if status:
             raise Stopped(f"{word} names no commit here: git log shows which there are", 3)
+        self.expect_one(word)
         return found.strip()
+
+    def expect_one(self, word):
+        """Refuses a word that Git takes for one of several things: a tag that somebody named as a commit's id begins, or a branch."""
+        base = re.split(r"[~^:]|@\{", word)[0]
+        fronts, there = (b"refs/", b"refs/tags/", b"refs/heads/", b"refs/remotes/"), self.all_references()
+        # A whole name comes before all others.
+        is_whole = base in ("", "@", "HEAD") or os.fsencode(base) in there
+        places = [] if is_whole else [front + os.fsencode(base) for front in fronts]
+        found = {os.fsdecode(it): there[it] for it in places if it in there}
+        if re.fullmatch("[0-9a-f]{4,63}", base) and found:
+            ids = self.git("rev-parse", f"--disambiguate={base}")[1].split()
+            found.update({it.decode(): it for it in ids if it not in found.values()})
+        if len(set(found.values())) > 1:
+            raise Stopped(f"{base} names more than one thing here: {' and '.join(found)}: write the whole name or id of the one that is meant", 3)
 
 
 def body_of(source, object_id, kind, size):

@@ -32,9 +32,10 @@ def of_accepted(name, words):
 
 def of_tip(name, words):
     kept, recorded = words[3], words[5]
-    back = f"git update-ref {name.whole} {recorded[:12]}"
+    # In lines to copy an id stands whole: the front of one may be the name of somebody's tag.
+    back = f"git update-ref {name.whole} {recorded}"
     if name.is_branch:
-        back = f"git branch --force {name.word} {recorded[:12]}, or git reset,"
+        back = f"git branch --force {name.word} {recorded}, or git reset,"
     if not int(recorded, 16):
         return (
             f"No entry of the log says where {name.place} stands. If it is new here, git gittuf record {name.word}; else"
@@ -47,7 +48,7 @@ def of_tip(name, words):
             f"The log has {name.shown} at {recorded[:12]}, and here is no {name.shown}: git fetch, and {back} makes it. If"
             f" it was removed lawfully, git gittuf record {name.whole}."
         )
-    came = f"git log {recorded[:12]}..{kept[:12]} shows what came"
+    came = f"git log {recorded}..{kept} shows what came"
     if name.place != name.shown:
         return f"{name.place} was moved and that is not recorded here: {came}. Take nothing of it that no entry records."
     return (
@@ -142,10 +143,10 @@ def of_behind(repository, meant, words):
     if meant.remote:
         return f"{where}: git fetch brings what was pushed since."
     ahead = [it for it in names.in_place_of(repository, repository.references(), meant.name) if it.value == words[5].encode()]
-    place = os.fsdecode(names.remote_branch(meant.name, ahead[0].remote)[len(names.REMOTES) :]) if ahead else words[5][:12]
+    place = names.word_at_remote(repository, names.remote_branch(meant.name, ahead[0].remote)) if ahead else words[5]
     if repository.head() == meant.name:
         return f"{where}: git merge --ff-only {quoted(place)}"
-    return f"{where}: git fetch . {words[5][:12]}:{name.whole}" if not ahead else f"{where}: git fetch {quoted(ahead[0].remote)} {name.word}:{name.word}"
+    return f"{where}: git fetch {quoted(ahead[0].remote) + ' ' + name.whole if ahead else '. ' + words[5]}:{name.whole}"
 
 
 def of_limit(words):

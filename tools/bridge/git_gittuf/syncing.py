@@ -62,7 +62,7 @@ class Anew:
             return
         moved = theirs != self.base.get(name, ZEROS)
         if moved and not (self.repository.are_commits([theirs, here]) and is_before(self.repository, theirs, here)):
-            goes_on = f"git merge {theirs.decode()[:12]} && git gittuf record {word}"
+            goes_on = f"git merge {theirs.decode()} && git gittuf record {word}"
             self.leave(f"{plain(names.short(name))} was moved meanwhile by who recorded first: {goes_on}")
             return
         show(commands.recorded_by(self.work, name, None if here == ZEROS else here, self.path))
