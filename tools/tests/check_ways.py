@@ -223,7 +223,7 @@ def records_anew_after_a_race(repositories):
     clones.commit("bob", "other")
     clones.gittuf("bob", "record", "main")
     said = told(clones, "bob", "push", status=3)
-    way = re.search(r": (git merge [0-9a-f]{12} && git gittuf record main)", said)
+    way = re.search(r": (git merge [0-9a-f]{64} && git gittuf record main)", said)
     want(way is not None, True, f"what is told: {said}")
     clones.copied("bob", way[1].replace("merge", "merge --quiet --no-edit"))
     clones.gittuf("bob", "push")
