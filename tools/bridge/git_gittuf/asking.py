@@ -4,6 +4,7 @@ import contextlib
 import os
 
 from git_gittuf import epochs, history, inspecting, program
+from git_gittuf.program import Ended
 from git_gittuf.repository import LOG
 
 # From so many questions after rules on, and so many entries, a log of the policies alone is made for them.
@@ -34,6 +35,33 @@ def in_one_pass(work, asked):
     return found
 
 
+@contextlib.contextmanager
+def policies_alone(work):
+    """Lets the log stand, where it is long, at unsigned entries for the policies that came into force alone; tells whether it does."""
+    listed = history.entries(work.asked("log")) if LOG in work.kept.references() else ()
+    found = epochs.of_entries(work.repository, listed) if len(listed) >= LONG else ()
+    if not found:
+        yield False
+        return
+    tip, objects = None, []
+    for number, (_, target) in enumerate(found, start=1):
+        tip, body = epochs.entry(number, tip, target)
+        objects.append((tip, b"commit", body))
+    with work.standing_at({LOG: tip}, objects):
+        yield True
+
+
+def rules_soon(work, what):
+    """What the program says of the rules for something, over the policies of a long log alone: where no verdict hangs on it."""
+    words = ("explain", what)
+    with policies_alone(work) as is_alone:
+        found = program.run(work.kept.for_program(), "-", *words) if is_alone else None
+    status, printed = found or work.read(*words)
+    if status:
+        raise Ended(words, status, printed)
+    return printed
+
+
 def of_rules(work, asked):
     """Keeps the answers to those of these words that ask which rules protect something, where the log is long and many ask.
 
@@ -41,19 +69,12 @@ def of_rules(work, asked):
     is read at once, and one of them over the whole log too: where that is another, nothing is taken of it.
     """
     words = [it for it in asked if it[0] == "explain"]
-    listed = history.entries(work.asked("log")) if len(words) >= MANY and LOG in work.kept.references() else ()
-    found = epochs.of_entries(work.repository, listed) if len(listed) >= LONG else ()
-    if not found:
+    if len(words) < MANY:
         return {}
-    tip, objects = None, []
-    for number, (_, target) in enumerate(found, start=1):
-        tip, body = epochs.entry(number, tip, target)
-        objects.append((tip, b"commit", body))
     places = {it: work.place(it, None, ()) for it in words}
-    true = program.run(work.kept.for_program(), "-", *words[0])
-    with work.standing_at({LOG: tip}, objects):
-        answers = all_of(work, words)
-    if answers[words[0]] != true or work.place(words[0], None, ()) != places[words[0]]:
+    with policies_alone(work) as is_alone:
+        answers = all_of(work, words) if is_alone else {}
+    if not answers or answers[words[0]] != program.run(work.kept.for_program(), "-", *words[0]) or work.place(words[0], None, ()) != places[words[0]]:
         return {}
     for it, answer in answers.items():
         work.answers.put(places[it], answer)

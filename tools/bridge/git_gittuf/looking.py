@@ -9,7 +9,7 @@ store, and given to Git only where it is lawful. This is the one place that deci
 import os
 import re
 
-from git_gittuf import epochs, history, inspecting, keys, policies, sentences, settings, signers, skipping
+from git_gittuf import asking, epochs, history, inspecting, keys, policies, sentences, settings, signers, skipping
 from git_gittuf.names import HEADS, short
 from git_gittuf.program import Ended
 from git_gittuf.remotes import fetched, of_git
@@ -187,7 +187,8 @@ def is_alone_asked(work, listed, name, key):
     others = [it for _, it in policy.rules() if it["threshold"] > 1 or key not in policy.keys_in([it])]
     if any(path.startswith("file:") for it in others for path in it["paths"]):
         return False
-    return not others or not any(it in others for it in rules_for(work, f"git:{os.fsdecode(name)}"))
+    said = asking.rules_soon(work, f"git:{os.fsdecode(name)}") if others else b""
+    return not any(it in others for it in policy.rules_named(os.fsdecode(said)))
 
 
 def expect_told_lawful(work, name, value, key, listed):
