@@ -26,6 +26,10 @@ LINES = (
         "violation refs/heads/a 7 path-rule d/%C3%A4%20%25~ docs 0 of 1",
     ),
     (
+        {"fault": {"kind": "path-rule", "path": "d/\u2028x", "rule": "docs", "got": 0, "need": 1}},
+        "violation refs/heads/a 7 path-rule d/%E2%80%A8x docs 0 of 1",
+    ),
+    (
         {"fault": {"kind": "path-rule", "path": {"escaped": "d/%FF"}, "rule": "docs", "got": 0, "need": 1}},
         "violation refs/heads/a 7 path-rule d/%FF docs 0 of 1",
     ),
@@ -60,7 +64,8 @@ def are_lines(repositories):
     name = b"refs/heads/a"
     for it, line in LINES:
         status = 0 if line.startswith("accepted") else 1
-        want(inspecting.line_of(name, object_of(it)), (status, f"{line}\n".encode()), f"the line of {it}")
+        told = inspecting.objects_in(f"{json.dumps(object_of(it), ensure_ascii=False)}\n".encode())
+        want([inspecting.line_of(name, it) for it in told], [(status, f"{line}\n".encode())], f"the line of {it}")
     for it in OTHERWISE:
         want(inspecting.line_of(name, object_of(it)), None, f"the line of {it}")
     for odd in (b"refs/heads/\xc3\xa4", b"refs/heads/\xff"):

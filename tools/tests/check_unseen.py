@@ -4,6 +4,7 @@ import json
 import os
 
 from checking import at_terminal, want
+from git_gittuf import sentences
 from guarded_clones import MAIN, another
 
 LOG, POLICY = "refs/gittuf/reference-state-log", "refs/gittuf/policy"
@@ -177,6 +178,14 @@ def takes_no_tag_for_an_id(repositories):
         clones.gittuf("bob", "approve", "main", word, "--anyway")
 
 
+def leads_back_by_whole_names(repositories):
+    """the line that takes a moved branch back names that branch, also where a shorter word would mean another one"""
+    before, now = "ab" * 32, "cd" * 32
+    for name, way in (("main", "git branch --force main"), ("-x", "git update-ref refs/heads/-x"), ("refs/heads/x", "git update-ref refs/heads/refs/heads/x")):
+        line = f"tip-differs refs/heads/{name} kept {now} recorded {before}"
+        want(f"{way} {before}" in sentences.of_line(line), True, f"the way back of {name}: {sentences.of_line(line)}")
+
+
 def pins_before_it_is_edited(repositories):
     """who edits or shows a policy before the first verify is told whose the first policy is, and that is kept"""
     clones = another(repositories, "pinned first")
@@ -194,5 +203,6 @@ CHECKS = (
     tells_what_no_rule_protects,
     tells_what_a_rule_reaches,
     takes_no_tag_for_an_id,
+    leads_back_by_whole_names,
     pins_before_it_is_edited,
 )

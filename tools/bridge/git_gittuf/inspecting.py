@@ -45,10 +45,12 @@ def place():
 def objects_in(printed):
     """The objects of JSON, one a line, or nothing where something else stands there."""
     try:
-        found = [json.loads(it) for it in printed.decode().splitlines()]
+        # A text may hold other signs that end a line for Python.
+        *lines, last = printed.decode().split("\n")
+        found = [json.loads(it) for it in lines]
     except (ValueError, RecursionError):
         return None
-    return found if all(isinstance(it, dict) for it in found) and printed.endswith(b"\n") else None
+    return found if found and not last and all(isinstance(it, dict) for it in found) else None
 
 
 def told(work, *words):

@@ -53,7 +53,7 @@ def way_to(work, name, wanted):
     restore = f"git restore --source={wanted.decode()} --staged --worktree :/ && git commit -m 'Take back'"
     if repository.head() != name:
         restore = f"git switch {word} && {restore}"
-    if not name.startswith(b"refs/heads/") or value is None:
+    if not name.startswith(b"refs/heads/") or value is None or names.short(name).startswith("refs/"):
         restore = f"git update-ref {quoted(os.fsdecode(name))} {wanted.decode()}"
     return f"the files of {wanted.decode()[:12]} are wanted: {restore} && {again}"
 

@@ -34,7 +34,8 @@ def of_tip(name, words):
     kept, recorded = words[3], words[5]
     # In lines to copy an id stands whole: the front of one may be the name of somebody's tag.
     back = f"git update-ref {name.whole} {recorded}"
-    if name.is_branch:
+    # A word that is a whole name would be taken for the branch's own.
+    if name.is_branch and not name.word.startswith(("refs/", "'refs/")):
         back = f"git branch --force {name.word} {recorded}, or git reset,"
     if not int(recorded, 16):
         return (
