@@ -136,6 +136,35 @@ def changes_meanwhile(clones, who, tree, commit):
     want((status, output.count(b"accepted"), output.count(b"tip-differs")), (0, 1, 1), f"what is judged meanwhile: {output}{errors}")
 
 
+def beside_git(clones, line):
+    """The words before a call for which each git runs this line of a shell first."""
+    place = clones.path("path")
+    os.makedirs(place, exist_ok=True)
+    with open(os.path.join(place, "git"), "w", encoding="utf-8") as file:
+        file.write(f"#!/bin/sh\n{line}\nexec '{shutil.which('git')}' \"$@\"\n")
+    os.chmod(file.name, 0o755)
+    return "env", f"PATH={place}:{os.environ['PATH']}"
+
+
+def judges_nothing_without_git(repositories):
+    """where a git that stays open ends early, or says something else, nothing is judged or recorded, and one line says so"""
+    clones = another(repositories, "git ends")
+    clones.gittuf("alice", "verify", "main")
+    log = clones.tip("alice", "refs/gittuf/reference-state-log")
+    clones.commit("alice")
+    tool, clone = os.path.join(TOP, "tools", "git-gittuf"), clones.path("alice")
+    says = {"exit 3": 4, "kill -9 $$": 4, "echo; exit": (3, 4), "printf %064d 0; exit": 4, "echo fatal: no >&2; exit 128": 4}
+    for line, status in says.items():
+        words = (*beside_git(clones, f'case "$*" in *--batch*) {line};; esac'), sys.executable, tool)
+        for word in (("record", "main"), ("verify", "main", "--entry", log)):
+            found, output, errors = run(*words, *word, folder=clone)
+            is_so = found == status if isinstance(status, int) else found in status
+            want((is_so or word[0] == "verify" and found == 1, b"accepted" in output, b"Traceback" in errors), (True, False, False), f"{word} where git does {line}: {found} {errors}")
+        want(clones.tip("alice", "refs/gittuf/reference-state-log"), log, "the log then")
+    clones.gittuf("alice", "record", "main")
+    clones.verdict("alice", f"accepted {MAIN} 2 entries")
+
+
 def begins_few(repositories):
     """a record beside its key begins few programs: so many gits, and the program once for each that it asks"""
     clones = another(repositories, "few programs")
@@ -143,11 +172,7 @@ def begins_few(repositories):
     clones.gittuf("alice", "verify", "main")
     clones.commit("alice")
     begun = clones.path("begun")
-    os.mkdir(clones.path("path"))
-    with open(clones.path("path/git"), "w", encoding="utf-8") as file:
-        file.write(f"#!/bin/sh\necho \"$*\" >> '{begun}'\nexec '{shutil.which('git')}' \"$@\"\n")
-    os.chmod(file.name, 0o755)
-    words = ("env", f"PATH={clones.path('path')}:{os.environ['PATH']}", sys.executable, tool, "record", "main")
+    words = (*beside_git(clones, f"echo \"$*\" >> '{begun}'"), sys.executable, tool, "record", "main")
     want(run(*words, folder=clones.path("alice"))[::2], (0, b""), "the status and errors of record")
     gits, programs = times_asked(begun), times_asked(asked)
     want((gits <= 22, programs <= 6), (True, True), f"whether {gits} gits and {programs} programs are few")
@@ -157,6 +182,7 @@ def begins_few(repositories):
 CHECKS = (
     asks_nothing_twice,
     begins_few,
+    judges_nothing_without_git,
     believes_no_damage,
     keeps_what_it_rests_on,
 )

@@ -32,7 +32,8 @@ class Listing:
         found = epochs.of_entries(work.repository, self.entries)
         self.epochs = [(number, signers.People(policies.Policy(work.repository, it))) for number, it in found]
         self.people, self.keys = {}, {}
-        self.learn(checked.Checked(work.repository))
+        if inspecting.place() and len(self.entries) >= checked.MANY:
+            self.learn(checked.Checked(work.repository))
         for people, entries in self.by_epoch():
             bodies = {it[1]: self.bodies[it[1]] for it in entries}
             self.keys.update(signers.of_bodies(work.repository, bodies, people.publics))
