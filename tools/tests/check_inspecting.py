@@ -7,6 +7,7 @@ import re
 import shutil
 
 from checking import INSPECT, LAUNCHER, TOP, ZEROS, Skip, run, want
+from git_gittuf import inspecting
 
 KEPT = os.path.join(TOP, "crates", "gittuf_inspect", "data", "guarded")
 MAIN, POLICY, ATTESTATIONS, NONE = "refs/heads/main", "refs/gittuf/policy", "refs/gittuf/attestations", "refs/heads/none"
@@ -64,21 +65,10 @@ def told(folder, *names, word="verdicts"):
     return status, found
 
 
-def line_of(verdict):
-    """The line that gittuf verify-ref has for a verdict."""
-    word, name = verdict["verdict"], verdict["reference"]
-    if word == "accepted":
-        return f"accepted {name} {verdict['entries']} entries\n"
-    if word == "tip-differs":
-        return f"tip-differs {name} kept {verdict['kept']} recorded {verdict['recorded']}\n"
-    fault = verdict["fault"]
-    return f"violation {name} {verdict['number']} {fault['kind']} {fault['rule']} {fault['got']} of {fault['need']}\n"
-
-
-def as_verify_ref(folder, status, found):
-    """Holds verdicts to what gittuf verify-ref says of the same names."""
-    each = [run(LAUNCHER, folder, "-", "verify-ref", it["reference"]) for it in found]
-    want([line_of(it).encode() for it in found], [it[1] for it in each], "the verdicts as verify-ref says them")
+def as_verify_ref(folder, status, found, *root):
+    """Holds verdicts, as git gittuf makes lines of them, to what gittuf verify-ref says of the same names."""
+    each = [run(LAUNCHER, folder, "-", "verify-ref", it["reference"], *root)[:2] for it in found]
+    want([inspecting.line_of(it["reference"].encode(), it) for it in found], each, "the verdicts as verify-ref says them")
     want(status, max(it[0] for it in each), "the status")
 
 
@@ -90,6 +80,14 @@ def tells_accepted(repositories):
     want(status, 0, "the status where each is accepted")
     as_verify_ref(folder, status, found)
     want(told(folder, NONE, MAIN)[1], [found[3], found[0]], "the verdicts in another order")
+
+
+def tells_by_roots(repositories):
+    """gittuf-inspect verdicts --root tells the verdicts of verify-ref with the same root"""
+    folder = kept(repositories, "inspected by roots")
+    for keys in (NOBODY, ALICE, f"{ALICE},{BOB}", f"{BOB},{ALICE}"):
+        status, found = told(folder, *NAMES, "--root", keys)
+        as_verify_ref(folder, status, found, "--root", keys)
 
 
 def tells_others(repositories):
@@ -250,4 +248,4 @@ def tells_breaks(repositories):
         want(run(INSPECT, broken, *words), (2, b"", b"words refused\n"), f"what is told of {words}")
 
 
-CHECKS = (tells_accepted, tells_others, tells_all, tells_unrecorded, tells_would, tells_skips, tells_leaves, tells_policies, tells_breaks)
+CHECKS = (tells_accepted, tells_by_roots, tells_others, tells_all, tells_unrecorded, tells_would, tells_skips, tells_leaves, tells_policies, tells_breaks)
