@@ -150,6 +150,29 @@ def names_malformed_files(repositories):
         want(b"rule main" in clones.gittuf("alice", "policy", "show"), True, f"whether policy discard leads on after {what}")
 
 
+def reads_no_endless_tree(repositories):
+    """a policy that somebody stages with millions of files out of a few trees, or in folders without end, is refused at once, and discard leads on"""
+    clones = another(repositories, "endless")
+    blob = clones.git("hash-object", "-w", "--stdin", who="alice", input=b"{}").decode().strip()
+    made = lambda rows: clones.git("mktree", who="alice", input="".join(rows).encode()).decode().strip()
+    wide = made(f"100644 blob {blob}\t{it}.json\n" for it in range(20))
+    deep = wide
+    for _ in range(6):
+        wide = made(f"040000 tree {wide}\t{it}\n" for it in range(20))
+    for _ in range(60):
+        deep = made([f"040000 tree {deep}\td\n"])
+    for tree in (wide, deep):
+        top = made([f"040000 tree {tree}\tmetadata\n"])
+        parent = run("git", "-C", clones.path("alice"), "rev-parse", "--verify", "--quiet", STAGED)[1].decode().strip()
+        words = ("commit-tree", "-m", "endless", *(("-p", parent) if parent else ()), top)
+        clones.git("update-ref", STAGED, clones.git(*words, who="alice").decode().strip(), who="alice")
+        for step in (("show",), ("sign",), ("rule", "x", "refs/heads/x", "--persons", "alice")):
+            part = f"{STAGED} has more than 4096 files, or folders below 32 others, and is not read: git gittuf policy discard"
+            clones.refused("alice", "policy", *step, status=3, part=part)
+        clones.gittuf("alice", "policy", "discard")
+        want(b"rule main" in clones.gittuf("alice", "policy", "show"), True, "whether policy discard leads on")
+
+
 # A branch with more parts than a log takes.
 LONG = f"refs/heads/release-3/{'/'.join('abcdefghijklmnop')}"
 
@@ -243,6 +266,7 @@ CHECKS = (
     follows_no_vain_policy,
     signs_what_was_shown,
     names_malformed_files,
+    reads_no_endless_tree,
     judges_what_is_here,
     takes_no_empty_anchor,
     knows_what_a_word_names,

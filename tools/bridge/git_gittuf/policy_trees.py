@@ -1,6 +1,6 @@
 """What stands in a policy's tree, of whoever made it: the files that the program reads, and those that are carried along."""
 
-from git_gittuf.repository import Stopped
+from git_gittuf.repository import STAGED, Stopped
 from git_gittuf.shown import plain
 
 # A policy has a file for its root, one for its rules and one for each rule that goes on elsewhere.
@@ -25,7 +25,8 @@ def files_of(repository, commit, place):
         found += [(path, object_id) for mode, path, object_id in rows if mode in FILES and path + b"/" not in TOPS]
         waiting += [(path + b"/", object_id) for mode, path, object_id in reversed(rows) if mode == FOLDER]
         if len(found) + len(waiting) > MANY or front.count(b"/") > DEPTH:
-            raise Stopped(f"{place} at {plain(commit.decode()[:12])} has more than {MANY} files, or folders below {DEPTH} others, and is not read", 3)
+            way = "git gittuf policy discard gives up what is edited" if place == STAGED.decode() else "ask who signed it"
+            raise Stopped(f"{place} has more than {MANY} files, or folders below {DEPTH} others, and is not read: {way}", 3)
     return found
 
 

@@ -30,7 +30,8 @@ def plan(work, name, number):
     if told and set(told[0]) <= {at for at, *_ in own}:
         skip, start, tree = told
         if tree is None:
-            raise Stopped(f"what {plain(names.short(name))} had before entry {number} is not here whole, and no recovery leads back to it: git fetch may bring it", 3)
+            said = f"what {plain(names.short(name))} had before entry {number} is not here whole, and no recovery leads back to it"
+            raise Stopped(f"{said}: git fetch may bring it", 3)
         return [it for at, it, _ in own if at in skip], start or ZEROS
     before = [target for at, it, target in own if at < number and it not in gone]
     to_skip = [it for at, it, _ in own if at >= number and it not in gone]
