@@ -4,6 +4,7 @@ import ast
 import importlib
 import os
 import shutil
+import sys
 
 from checking import BRIDGE, EMPTY_TREE, GIT_TO_STREAM, LAUNCHER, STREAM_TO_GIT, TOP, VERIFY, Failure, run, want, want_refusal, want_run
 
@@ -185,8 +186,35 @@ def runs_nothing_of_others(repositories):
     want(kept, ["own"], "in whose folders something is kept")
 
 
+# What a repository says of words, few and many, one within another, and with a line's end in them.
+LOOKS = """
+import sys
+sys.dont_write_bytecode = True
+sys.path.insert(1, sys.argv[1])
+from git_gittuf.repository import Repository
+found = Repository()
+tip = found.references()[b"refs/heads/main"]
+words = [tip, b"0" * 64, b"main", b"none", tip + b":no such", b"x\\ny", tip + b"\\n" + tip, b"", tip + b"^{tree}", tip + b" main"]
+one = found.rows(words)
+print([it and it[1].decode() for it in one], found.rows(words * 9) == one * 9, found.rows([]), found.rows([tip[:12]])[0] == one[0])
+within = [(kind, found.rows([tip]) == one[:1], next(found.bodies([tip]))[0] == tip) for _, kind, _ in found.bodies(words)]
+print(within == [(it[1], True, True) for it in one if it], len(list(found.bodies(words * 9))) == 9 * len(within))
+found.readers.close()
+print(found.are_commits([tip]), found.are_commits([tip, tip + b"^{tree}"]), found.body(b"blob", tip))
+"""
+
+
+def looks_objects_up(repositories):
+    """what git gittuf finds of objects is the same for few and for many, one look within another, and no word is taken for two"""
+    status, output, errors = run(sys.executable, "-c", LOOKS, BRIDGE, folder=repositories.needed())
+    kinds = ["commit", None, "commit", None, None, None, None, None, "tree", None]
+    want((status, errors), (0, b""), "the status and errors")
+    want(output.decode().splitlines(), [f"{kinds} True [] True", "True True", "True False None"], "what is found")
+
+
 CHECKS = (
     loads_what_is_there,
+    looks_objects_up,
     runs_nothing_of_others,
     tells_its_own_faults,
     tells_the_tip,

@@ -178,6 +178,9 @@ class Repository:
     def rows(self, words):
         """The id, the kind and the size of the object that each word names, or None where it names none."""
         words = list(words)
+        if any(b"\n" in it for it in words):
+            # Git would take it for two words.
+            return [None if b"\n" in it else self.rows([it])[0] for it in words]
         if self.readers.takes(words):
             return self.readers.rows(words)
         given = b"".join(b"%s\n" % it for it in words)
@@ -190,7 +193,7 @@ class Repository:
 
     def bodies(self, ids):
         """Each object of these ids that is there, as id, kind and body; the body of one past the limit is none."""
-        ids = list(ids)
+        ids = [it for it in ids if b"\n" not in it]
         if self.readers.takes(ids):
             for object_id, kind, size, source in self.readers.objects(ids):
                 yield object_id, kind, body_of(source, object_id, kind, int(size))
