@@ -1,7 +1,7 @@
 """Git's objects, looked up one after the other by one git for each kind of question, which stays open for the call.
 
 A short call asks some twenty times for a few objects, and a git for each question took most of its time. What is asked for
-by many ids at once is asked of a git of its own, as are objects while a push is judged, which stand in another place.
+by many ids at once is asked of a git of its own. While a push is judged others are open, which see its objects too.
 """
 
 import subprocess
@@ -29,8 +29,9 @@ class Reader:
     def __init__(self, where, how, refused):
         self.said, self.refused = stream_format.temporary(), refused
         words, pipe = ("git", *where, "cat-file", how), subprocess.PIPE
+        environment = {**stream_format.environment(), **Git.told_too}
         # It ends with what it is given, so it needs no lock to keep the next call waiting.
-        self.process = subprocess.Popen(words, stdin=pipe, stdout=pipe, stderr=self.said, env=stream_format.environment())
+        self.process = subprocess.Popen(words, stdin=pipe, stdout=pipe, stderr=self.said, env=environment)
         self.output = self.process.stdout
 
     def ask(self, words):
@@ -66,13 +67,16 @@ class Readers:
     """The gits that are open for a repository, and what is raised where one does not answer."""
 
     def __init__(self, where, refused):
-        self.where, self.refused, self.open = where, refused, {}
+        self.where, self.refused, self.open, self.told_too = where, refused, {}, None
 
     def takes(self, words):
-        """Whether these are asked here: few of them, each in a line of its own, and of what the repository has itself."""
-        return len(words) <= FEW and not Git.told_too and all(it and len(it) < 100 and b"\n" not in it for it in words)
+        """Whether these are asked here: few of them, each in a line of its own."""
+        return len(words) <= FEW and all(it and len(it) < 100 and b"\n" not in it for it in words)
 
     def reader(self, how):
+        if self.told_too != Git.told_too:
+            self.close()
+            self.told_too = dict(Git.told_too)
         if how not in self.open:
             self.open[how] = Reader(self.where, how, self.refused)
         return self.open[how]
