@@ -105,6 +105,25 @@ def looks_before_it_signs(repositories):
     clones.refused("bob", "approve", "--delete", "main", "HEAD", status=2, part="takes no commit")
 
 
+def wastes_one_leaf(repositories):
+    """a branch in violation by an entry of the key here, which alone is asked by now, costs one leaf at most, however often it is recorded"""
+    clones = another(repositories, "one leaf")
+    clones.gittuf("alice", "policy", "rule", "main", "--persons", "bob")
+    clones.sign("alice")
+    clones.gittuf("alice", "policy", "apply")
+    clones.commit("alice")
+    clones.refused("alice", "record", "main", status=3, part="rule main wants 1 of bob for it; missing is bob")
+    clones.gittuf("alice", "record", "main", "--anyway")
+    clones.gittuf("alice", "policy", "rule", "main", "--persons", "alice")
+    clones.sign("alice")
+    clones.gittuf("alice", "policy", "apply")
+    clones.commit("alice")
+    before, log = clones.used("alice"), clones.tip("alice", LOG)
+    for _ in range(3):
+        clones.refused("alice", "record", "main", status=3, part="main stands in violation since entry 4, and this would not end it")
+    want((clones.used("alice") - before, clones.tip("alice", LOG)), (1, log), "the leaves that are used, and the log")
+
+
 def begins_no_second_log(repositories):
     """a clone without setup is told to set up, and begins no log beside the remote's, unless it is to"""
     clones = another(repositories, "no setup")
@@ -235,6 +254,7 @@ def records_anew_after_a_race(repositories):
 
 CHECKS = (
     looks_before_it_signs,
+    wastes_one_leaf,
     leads_out_of_a_violation,
     begins_no_second_log,
     tells_what_is_behind,

@@ -9,7 +9,7 @@ store, and given to Git only where it is lawful. This is the one place that deci
 import os
 import re
 
-from git_gittuf import asking, epochs, history, inspecting, keys, policies, sentences, settings, signers, skipping
+from git_gittuf import asking, epochs, history, inspecting, keys, notes, policies, sentences, settings, signers, skipping
 from git_gittuf.names import HEADS, short
 from git_gittuf.program import Ended
 from git_gittuf.remotes import fetched, of_git
@@ -19,6 +19,8 @@ from git_gittuf.shown import plain, quoted
 FAULT = re.compile(r"violation (\S+) (\d+) (\S+)(?: (.*))?")
 COUNTS = re.compile(r"(?:(\S+) )?(\S+) (\d+) of (\d+)")
 ANYWAY = "--anyway signs it all the same"
+# A note is no longer.
+MOST = 1 << 16
 
 
 def root_words(work):
@@ -173,14 +175,20 @@ def tree_at(repository, value):
     return row and row[0]
 
 
+def last_refused(work, name):
+    """Where it is noted that a reference was refused once it was signed, and what is noted of that over this log."""
+    return os.path.join(work.repository.folder, "refused"), b"%s %s" % (work.repository.references().get(LOG, ZEROS), name)
+
+
 def is_alone_asked(work, listed, name, key):
     """Whether only this key is asked for a change of a reference, who also signed the last one.
 
     Then a look before it is signed finds what the one behind it finds. That a rule asks others too, or that somebody else
-    recorded last, lets it be looked at before, so that no leaf is used in vain.
+    recorded last, lets it be looked at before, so that no leaf is used in vain; so does that one was used so at this log.
     """
     policy, last = policies.in_force(work), history.last_recorded(listed, name)[0]
-    if not policy.files or name.startswith(OWN):
+    place, refused = last_refused(work, name)
+    if not policy.files or name.startswith(OWN) or notes.read(place, MOST) == refused:
         return False
     if last and signers.key_in(work.repository.body(b"commit", last)) != key.encode():
         return False
@@ -227,6 +235,7 @@ def expect_accepted(work, name, value, number, key):
     """Refuses an entry that was signed in the store, before Git has it."""
     line = verdict(work, name)
     if line.startswith("violation "):
+        notes.write(*last_refused(work, name))
         refuse(work, name, value, line, number, key)
 
 

@@ -4,7 +4,7 @@ import os
 import subprocess
 import types
 
-from git_gittuf import accounts, asking, following, listing, looking, names, otherwise, policies, policy_lines, program, sentences, trust, verifying
+from git_gittuf import accounts, asking, following, inspecting, listing, looking, names, otherwise, policies, policy_lines, program, sentences, trust, verifying
 from git_gittuf import withheld
 from git_gittuf.repository import LOG, ZEROS, Stopped
 from git_gittuf.shown import plain
@@ -150,6 +150,7 @@ def page(work, words, root, source):
     named = text(os.path.basename(work.repository.top or work.repository.git_dir))
     seen = "the first policy that was seen here, which nobody vouched for"
     rests = {trust.GIVEN: "the ids that were given", "gittuf.root": "the setting gittuf.root"}.get(source, seen)
+    by_whom = "; gittuf-inspect tells several in one pass, by the same proved crates" if inspecting.place() else ""
     last = f", the last of them <code>{found.entries[-1][1].decode()}</code>" if entries else ""
     parts = [
         f"<h1>{named}: what is recorded, and whether it was lawful</h1>",
@@ -166,7 +167,7 @@ def page(work, words, root, source):
         "<h2>The log</h2>",
         table("log", ("Entry", "Time", "Signed by", "Approved by", "What", "Id"), entries),
         "<h2>What this rests on</h2>",
-        f"<p>The verdicts are those of the program, which is proved to give them: {text(about_tool())}. This page, and git gittuf, are not"
+        f"<p>The verdicts are those of the program, which is proved to give them{by_whom}: {text(about_tool())}. This page, and git gittuf, are not"
         " proved. Times are what who signed said. A name stands beside an entry where a signature of it, or of an approval of its change, is good"
         " by that person's key, and says not that it sufficed; the verdict does. docs/CONCEPTS.md says what is trusted.</p>",
     ]
