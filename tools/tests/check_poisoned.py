@@ -66,7 +66,7 @@ def leads_back_from_a_broken_log(repositories):
     clones.git("update-ref", LOG, tip, who="bob")
     clones.gittuf("bob", "verify", "main", status=3)
     found = clones.gittuf("bob", "doctor", status=1).decode()
-    want("git push" in found, False, f"whether doctor would push that: {found}")
+    want("push" in found, False, f"whether doctor would push that: {found}")
     clones.copied("bob", clones.advised("bob", "the log here is none"))
     want(clones.tip("bob", LOG), whole, "where the log stands then")
     clones.git("update-ref", LOG, tip, who="bob")

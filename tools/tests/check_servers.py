@@ -38,7 +38,7 @@ def tells_a_rollback(repositories):
     told(clones, "alice", f"{LOG} of origin went back from entry 3 to entry 2")
     found = clones.gittuf("alice", "doctor", status=1).decode()
     want("origin no longer has entry 3, signed by bob: ask who may write to origin" in found, True, f"what doctor says: {found}")
-    want("git push origin" in found, False, f"whether doctor says git push: {found}")
+    want("push --remote origin\n" in found, False, f"whether doctor says to push: {found}")
     part = "entry 3 would be given up, of which 1 are not of your key but of bob"
     clones.refused_after("alice", "doctor", "--take", "origin", status=3, part=part)
     want(clones.tip("alice", LOG), whole, "where the own log stands")

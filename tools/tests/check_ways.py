@@ -4,7 +4,7 @@ import json
 import os
 import re
 
-from checking import at_terminal, want
+from checking import at_terminal, run, want
 from guarded_clones import MAIN, SMALL, another
 
 LOG, ATTESTATIONS = "refs/gittuf/reference-state-log", "refs/gittuf/attestations"
@@ -138,6 +138,20 @@ def begins_no_second_log(repositories):
     clones.gittuf("plain", "record", "main", "--anyway")
 
 
+def leads_from_doctor_to_a_push(repositories):
+    """doctor's line for what is recorded and not pushed yet pushes branch and log, or neither"""
+    clones = another(repositories, "not pushed")
+    clones.commit("alice")
+    clones.gittuf("alice", "record", "main")
+    way = clones.advised("alice", "goes on here by entry 3, signed by alice")
+    clones.commit("alice")
+    status, _, errors = run("bash", "-c", way, folder=clones.path("alice"))
+    want((status, b"git gittuf record main comes first" in errors), (3, True), f"what {way} says of a branch that was moved since: {errors}")
+    clones.git("reset", "--quiet", "--hard", "HEAD~1", who="alice")
+    clones.copied("alice", way)
+    want([clones.tip("server.git", it) for it in (MAIN, LOG)], [clones.tip("alice", it) for it in (MAIN, LOG)], "what the server has")
+
+
 def tells_what_is_behind(repositories):
     """a branch that was fetched and not merged is told to be behind, and not recorded as if it went back"""
     clones = another(repositories, "behind")
@@ -257,6 +271,7 @@ CHECKS = (
     wastes_one_leaf,
     leads_out_of_a_violation,
     begins_no_second_log,
+    leads_from_doctor_to_a_push,
     tells_what_is_behind,
     pushes_all_or_nothing,
     pushes_the_log_alone,

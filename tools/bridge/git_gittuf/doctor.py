@@ -77,10 +77,10 @@ def of_remotes(work, is_whole):
         if how in ("back", "dropped"):
             yield from of_lost(work, remote, value, how)
         elif how == "ahead" and name == LOG and is_whole:
-            way = f"git gittuf push --desk {desk}" if desk else f"git push {quoted(remote)}"
+            way = f"git gittuf push --desk {desk}" if desk else f"git gittuf push --remote {quoted(remote)}"
             yield f"{shown} goes on here by {signed_by(work, entries_after(work, value))}", way
         elif how == "ahead" and name != LOG and not desk:
-            yield f"{shown} goes on here from where {remote} has it", f"git push {quoted(remote)}"
+            yield f"{shown} goes on here from where {remote} has it", f"git gittuf push --remote {quoted(remote)}"
         elif how == "apart" and name == LOG and is_whole:
             base = repository.git("merge-base", own.decode(), value.decode())[1].strip()
             yield f"{shown} here and that of {remote} went apart: here is {signed_by(work, entries_after(work, base))}", take

@@ -89,7 +89,7 @@ def reason(work, name, value, line, key):
     fault, rest = found[3], found[4] or ""
     counts = COUNTS.fullmatch(rest)
     if fault not in ("ref-rule", "path-rule") or not counts:
-        return f"it would be a violation: {plain(sentences.of_line(line))}"
+        return f"it would be a violation: {plain(sentences.of_line(line)).removesuffix('.')}"
     path, rule = (it and policies.unescaped(it) for it in counts.group(1, 2))
     signed = [*approvers(work, policies.in_force(work), name, value), key]
     return f"it would be a violation: {of_rule(work, name, value, (path if fault == 'path-rule' else None, rule, counts[4]), key, signed)}"
@@ -113,7 +113,7 @@ def reason_for(work, name, value, fault, key, signed):
         path, rule = (policies.unescaped(os.fsdecode(inspecting.word_of(fault[it]))) if it in fault else None for it in ("path", "rule"))
         return of_rule(work, name, value, (path, rule, fault["need"]), key, [*signed, key])
     line = b"violation %s 1 %s" % (name, inspecting.fault_in_words(fault))
-    return plain(sentences.of_line(os.fsdecode(line)))
+    return plain(sentences.of_line(os.fsdecode(line))).removesuffix(".")
 
 
 def first_shown(repository, value):
