@@ -59,7 +59,7 @@ def bare_path(repositories):
 
 
 def runs_where_it_is_installed(repositories):
-    """the package and the archive run where nothing else of this is, without a toolchain, and tell commit and kit"""
+    """the package and the archive run where nothing else of this is, without a toolchain, tell commit and kit, and ask what is beside them"""
     repositories.needed()
     places, needed = installed(repositories), bare_path(repositories)
     want(*(files_below(it) for it in places), "the files of the archive beside those of the package")
@@ -84,6 +84,20 @@ def runs_where_it_is_installed(repositories):
         answer("git", "gittuf", "record", "main", "--anyway")
         found = answer("git", "gittuf", "verify", "main", status=1)
         want(found, f"violation {MAIN} 1 no-policy\n", "the verdict")
+        answer("git", "branch", "topic", "main")
+        answer("git", "gittuf", "record", "topic", "--anyway")
+        both = [f"violation refs/heads/{it} {number} no-policy\n" for number, it in enumerate(("main", "topic"), start=1)]
+        want(answer("git", "gittuf", "verify", "main", "topic", status=1), "".join(both), "the verdicts on both")
+        # What stands beside the program is asked for several.
+        told = [f'{{"reference":"refs/heads/{it}","verdict":"accepted","entries":7}}' for it in ("main", "topic")]
+        inspect = os.path.join(place, "lib", "gittuf", "gittuf-inspect")
+        if os.path.exists(inspect):
+            os.remove(inspect)
+        with open(inspect, "w", encoding="utf-8") as file:
+            file.write("#!/bin/sh\ncat <<END\n" + "\n".join(told) + "\nEND\n")
+        os.chmod(inspect, 0o755)
+        found = answer("git", "gittuf", "verify", "main", "topic")
+        want(found.splitlines(), [f"accepted refs/heads/{it} 7 entries" for it in ("main", "topic")], "the verdicts that are told beside the program")
         answer("git", "fsck", "--strict")
     return f"{len(files_below(places[0]))} files"
 
