@@ -8,7 +8,7 @@ from git_gittuf.program import Ended
 from git_gittuf.repository import LOG
 
 # From so many questions after rules on, and so many entries, a log of the policies alone is made for them.
-MANY, LONG = 4, 500
+MANY, LONG = 2, 500
 
 
 def standing(work, asked):
@@ -60,6 +60,12 @@ def rules_soon(work, what):
     if status:
         raise Ended(words, status, printed)
     return printed
+
+
+def rules_told(work, what):
+    """The same, as it was told before where it was."""
+    found = work.answers.get(work.place(("explain", what), None, ()))
+    return found[1] if found else rules_soon(work, what)
 
 
 def of_rules(work, asked):

@@ -18,6 +18,11 @@ def is_protected(work, name):
     return work.asked("explain", f"git:{os.fsdecode(name)}").startswith(b"rule ")
 
 
+def is_told_protected(work, name):
+    """The same, to be told beside a verdict."""
+    return asking.rules_told(work, f"git:{os.fsdecode(name)}").startswith(b"rule ")
+
+
 def ask_for_rules(work, them):
     """Asks ahead whether rules protect these references."""
     asking.ahead(work, [(("explain", f"git:{os.fsdecode(it)}"), None) for it in them if not it.startswith(OWN)])
@@ -109,7 +114,7 @@ def of_accepted(work, meant, source):
 
 def of_unprotected(work, name):
     """What is added where no rule says who may change a reference."""
-    if name.startswith(OWN) or is_protected(work, name):
+    if name.startswith(OWN) or is_told_protected(work, name):
         return ""
     policy = signers.in_force(work).policy
     return sentences.of_unprotected(name, [it["name"] for it in consents.asked_by_paths(policy)] if policy else [])
@@ -121,7 +126,7 @@ def json_of(work, line, meant, source, told):
     kind = words[0]
     found = {"verdict": kind, "line": line, "remote": meant.remote, "root": source, **({} if told is None else {"told": told})}
     if kind in ("accepted", "tip-differs", "violation") and not meant.name.startswith(OWN):
-        found.update(protected=is_protected(work, meant.name))
+        found.update(protected=is_told_protected(work, meant.name))
     if kind in ("accepted", "global-kept"):
         found.update(ref=words[1], entries=int(words[2]))
     elif kind == "tip-differs":
