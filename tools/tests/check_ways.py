@@ -228,6 +228,32 @@ def pushes_the_log_alone(repositories):
     clones.verdict("alice", "accepted refs/heads/release-1 1 entries", name="refs/heads/release-1")
 
 
+def takes_no_branch_back(repositories):
+    """who is behind with a branch pushes an approval and leaves the branch where it is, and is told nothing that would take it back"""
+    clones = another(repositories, "behind and approved")
+    clones.gittuf("bob", "verify", "main")
+    clones.commit("alice")
+    clones.gittuf("alice", "policy", "rule", "main", "--persons", "alice,bob", "--threshold", "2")
+    clones.gittuf("alice", "record", "main")
+    clones.sign("alice")
+    clones.gittuf("alice", "policy", "apply")
+    clones.gittuf("alice", "push")
+    tip = clones.tip("alice")
+    clones.commit("alice", "further")
+    clones.git("push", "--quiet", "origin", "main:idea", who="alice")
+    clones.git("fetch", "--quiet", who="bob")
+    clones.gittuf("bob", "approve", "main", "origin/idea")
+    clones.refused("bob", "push", "main", status=3, part="nothing is pushed, as main is behind origin/main, which stays as it is: ")
+    status, said = at_terminal("git gittuf push", clones.path("bob"))
+    want((status, "--anyway" in said, "record main" in said), (0, False, False), f"what is told: {said}")
+    want(clones.tip("server.git", LOG), clones.tip("bob", LOG), "where the log of the server stands")
+    want(clones.tip("server.git"), tip, "where its branch stands")
+    clones.git("fetch", "--quiet", who="alice")
+    clones.gittuf("alice", "record", "main")
+    clones.gittuf("alice", "push")
+    clones.verdict("alice", f"accepted {MAIN} 3 entries")
+
+
 def records_anew_after_a_race(repositories):
     """of two who record at once the second records anew after the first by push or sync, as far as that is lawful, and an approval too"""
     clones = another(repositories, "raced")
@@ -275,5 +301,6 @@ CHECKS = (
     tells_what_is_behind,
     pushes_all_or_nothing,
     pushes_the_log_alone,
+    takes_no_branch_back,
     records_anew_after_a_race,
 )

@@ -9,7 +9,7 @@ from git_gittuf.hook_calls import ANYWAY
 from git_gittuf.remotes import is_before
 from git_gittuf.repository import ATTESTATIONS, LOG, POLICY, STAGED, TARGETS, ZEROS, Stopped
 from git_gittuf.shown import plain, plain_lines, quoted
-from git_gittuf.telling import say
+from git_gittuf.telling import say, tell
 from stream_format import Git
 
 # Another may be faster so often.
@@ -63,15 +63,25 @@ def goes_on_there(repository, remote, name, value, known):
     return name.startswith(names.TAGS) and name not in known
 
 
+def entries_there(work, remote):
+    """The own log's entries, and how many of them a remote's log has, as far as was seen."""
+    repository, references = work.repository, work.repository.references()
+    there = references.get(remotes.beside(remote, LOG))
+    listed = history.entries(work.asked("log")) if LOG in references else []
+    return listed, following.count_of(repository, there) if there and is_before(repository, there, references[LOG]) else 0
+
+
+def names_in(listed):
+    """The references of which these entries speak, in their order."""
+    return dict.fromkeys(rest[0] for _, _, kind, rest in listed if kind == b"ref")
+
+
 def recorded_since(work, remote):
     """What entries record that a remote's log lacks, where it stands here as the log has it: it goes with them."""
     repository, references = work.repository, work.repository.references()
-    there = references.get(remotes.beside(remote, LOG))
-    listed = history.entries(work.asked("log")) if LOG in references else ()
-    count = following.count_of(repository, there) if there and is_before(repository, there, references[LOG]) else 0
-    known = {rest[0] for _, _, kind, rest in listed[:count] if kind == b"ref"}
-    found = {}
-    for name in dict.fromkeys(rest[0] for _, _, kind, rest in listed[count:] if kind == b"ref"):
+    listed, count = entries_there(work, remote)
+    known, found = set(names_in(listed[:count])), {}
+    for name in names_in(listed[count:]):
         value = references.get(name)
         if (value or ZEROS) == skipping.last_of(work, listed, name) and goes_on_there(repository, remote, name, value, known):
             found[name] = value
@@ -81,6 +91,27 @@ def recorded_since(work, remote):
 def is_there_already(repository, remote, name, value):
     """Whether a branch stands at a remote as it does here, as far as was seen, so that a push leaves it where it is."""
     return value is not None and name.startswith(names.HEADS) and repository.references().get(names.remote_branch(name, remote)) == value
+
+
+def is_behind(repository, remote, name, value):
+    """Whether a branch went on at a remote from where it stands here, as far as was seen, so that a push has nothing of it to give."""
+    there = repository.references().get(names.remote_branch(name, remote)) if value and name.startswith(names.HEADS) else None
+    return there not in (None, value) and repository.are_commits([there, value]) and is_before(repository, value, there)
+
+
+def without_behind(work, remote, found, is_named):
+    """What is to go without a branch that is only behind the remote's, and of which the remote has each entry: the log goes all the same."""
+    behind = [name for name, value in found.items() if is_behind(work.repository, remote, name, value)]
+    if behind:
+        listed, count = entries_there(work, remote)
+        behind = [name for name in behind if name not in names_in(listed[count:])]
+    for name in behind:
+        there = os.fsdecode(names.remote_branch(name, remote)[len(names.REMOTES) :])
+        said = f"{plain(names.short(name))} is behind {plain(there)}, which stays as it is"
+        if is_named:
+            raise Stopped(f"nothing is pushed, as {said}: git gittuf push without a name pushes what is signed; --anyway takes it back there", 3)
+        tell(f"{said}; what is signed here goes alone")
+    return {name: value for name, value in found.items() if name not in behind}
 
 
 def expect_recorded(work, remote, found):
@@ -94,7 +125,8 @@ def expect_recorded(work, remote, found):
             continue
         word = quoted(names.short(name))
         said = f"{plain(names.short(name))} stands where no entry of the log has it: git gittuf record {word} comes first"
-        raise Stopped(f"{said}; --anyway pushes it all the same", 3)
+        alone = f"git push {quoted(remote)} 'refs/gittuf/*:refs/gittuf/*' carries what else is signed"
+        raise Stopped(f"{said}, and {alone}; --anyway pushes it all the same", 3)
 
 
 def specs(work, remote, found, anyway):
@@ -148,6 +180,7 @@ def push(work, words):
     for _ in range(TRIES):
         found = named(work, words)
         if not anyway:
+            found = without_behind(work, remote, found, words.branches)
             expect_recorded(work, remote, found)
         found = {**found, **recorded_since(work, remote)}
         done, why = pushed(work, remote, found, anyway)
