@@ -62,6 +62,35 @@ def leads_out_of_a_violation(repositories):
     want(clones.gittuf("alice", "verify", "refs/heads/release-1"), b"accepted refs/heads/release-1 2 entries\n", "the verdict on the other")
 
 
+def says_who_recovers(repositories):
+    """where two are to recover a branch, recover says who is missing and the lines that do it, before the files are back and after"""
+    clones = with_mallory(repositories, "recovered by two")
+    clones.gittuf("alice", "policy", "rule", "main", "--persons", "alice,bob", "--threshold", "2")
+    clones.sign("alice")
+    clones.gittuf("alice", "policy", "apply")
+    clones.gittuf("alice", "push")
+    clones.git("pull", "--quiet", who="mallory")
+    clones.commit("mallory", "evil")
+    clones.gittuf("mallory", "record", "main", "--anyway")
+    clones.git("push", "--quiet", who="mallory")
+    clones.git("pull", "--quiet", who="alice")
+    said = told(clones, "alice", "recover", "main", status=1)
+    lacks = r"rule main wants 2 of alice, bob for the recovery of main; missing is bob, who approves it by (git gittuf approve main [0-9a-f]+)"
+    way = re.search(rf"{lacks}, once (git push origin 'refs/gittuf/\*:refs/gittuf/\*') has brought the skip there\n", said)
+    want(way is not None, True, f"whether that is told: {said}")
+    status, _, errors = run("bash", "-c", said.partition(" are wanted: ")[2].strip(), folder=clones.path("alice"))
+    want((status, bool(re.search(f"nothing is recorded, as {lacks}", errors.decode()))), (3, True), f"what is told then: {errors}")
+    clones.copied("alice", way[2])
+    # Who approves is where the branch stood before, and the server further on.
+    clones.git("fetch", "--quiet", who="bob")
+    clones.copied("bob", way[1])
+    clones.gittuf("bob", "push")
+    clones.git("fetch", "--quiet", who="alice")
+    clones.gittuf("alice", "recover", "main")
+    clones.gittuf("alice", "push")
+    clones.verdict("alice", f"accepted {MAIN} 3 entries")
+
+
 def looks_before_it_signs(repositories):
     """what no signature of the key here makes lawful is refused with the rule and who is missing, and no leaf is used for that"""
     clones = with_mallory(repositories, "looked")
@@ -296,6 +325,7 @@ CHECKS = (
     looks_before_it_signs,
     wastes_one_leaf,
     leads_out_of_a_violation,
+    says_who_recovers,
     begins_no_second_log,
     leads_from_doctor_to_a_push,
     tells_what_is_behind,

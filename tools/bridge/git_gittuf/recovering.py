@@ -2,8 +2,9 @@
 
 import os
 
-from git_gittuf import commands, consents, history, inspecting, leaves, looking, names, settings, skipping
-from git_gittuf.repository import ZEROS, Stopped
+from git_gittuf import commands, consents, history, inspecting, leaves, looking, names, policies, settings, signers, skipping
+from git_gittuf.remotes import beside, of_git
+from git_gittuf.repository import LOG, ZEROS, Stopped
 from git_gittuf.shown import plain, quoted
 from git_gittuf.telling import show, tell
 
@@ -59,6 +60,34 @@ def way_to(work, name, wanted):
     return f"the files of {wanted.decode()[:12]} are wanted: {restore} && {again}"
 
 
+def first_pushed(repository):
+    """How others get the skips that an approval of a recovery goes on from, where no remote has them."""
+    found, references = of_git(repository), repository.references()
+    if not found or any(references.get(beside(it, LOG)) == references.get(LOG) for it in found):
+        return ""
+    return f", once git push {quoted(found[0])} 'refs/gittuf/*:refs/gittuf/*' has brought the skip there"
+
+
+def who_lacks(work, name, wanted, key):
+    """Which rule a recovery by this key does not meet, and who approves it by which line; or nothing where it meets one.
+
+    The program says only whether the violation has ended. This is a hint beside that, and nothing is decided by it.
+    """
+    policy, value = policies.in_force(work), None if wanted == ZEROS else wanted
+    of_keys, said = signers.persons_of(policy), ""
+    signed = {of_keys.get(it) for it in (*looking.approvers(work, policy, name, value), key)}
+    for rule in looking.rules_for(work, f"git:{os.fsdecode(name)}"):
+        persons = rule.get("persons") or []
+        missing = [it for it in persons if it not in signed]
+        if len(persons) - len(missing) >= rule["threshold"]:
+            return ""
+        if missing and not said:
+            wants = f"rule {plain(rule['name'])} wants {rule['threshold']} of {looking.listing(persons)} for the recovery of {plain(names.short(name))}"
+            way = f"{looking.approval_of(name, value)}{first_pushed(work.repository)}"
+            said = f"{wants}; missing is {' or '.join(map(plain, missing))}, who approves it by {way}"
+    return said
+
+
 def recover(work, words):
     work.bring()
     repository, name = work.repository, names.own_name(work.repository, words.branch)
@@ -80,10 +109,17 @@ def recover(work, words):
     for at in range(0, len(to_skip), MOST):
         ids = b",".join(to_skip[at : at + MOST]).decode()
         show(work.change(lambda ids=ids: work.asked("annotate", "skip", ids, key=path)))
-    way = way_to(work, name, wanted)
+    way, lacking = way_to(work, name, wanted), who_lacks(work, name, wanted, looking.key_id(path))
     if way:
+        if lacking:
+            tell(lacking)
         tell(f"{shown} is to be recovered from entry {number} on; {way}")
         return 1
-    show(commands.recorded_by(work, name, repository.references().get(name), path, words.anyway))
+    try:
+        show(commands.recorded_by(work, name, repository.references().get(name), path, words.anyway))
+    except Stopped as why:
+        if lacking and str(why).startswith("nothing is recorded, as "):
+            raise Stopped(f"nothing is recorded, as {lacking}; --anyway records it all the same", 3) from None
+        raise
     show(f"{looking.verdict(work, name)}\n".encode())
     return 0
