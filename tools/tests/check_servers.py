@@ -60,6 +60,23 @@ def tells_a_dropped_log(repositories):
         told(clones, "bob", f"origin has no {LOG} any more")
 
 
+def accuses_no_server_that_is_not_fetched(repositories):
+    """of a remote that was pushed to before setup named it nothing is said to be gone, and what setup says next is enough"""
+    clones = another(repositories, "no setup of a remote")
+    clones.git("init", "--quiet", "--bare", "-b", "main", "--object-format=sha256", "second.git", who="")
+    clones.git("remote", "add", "second", "../second.git", who="alice")
+    clones.gittuf("alice", "push", "--remote", "second")
+    found = clones.gittuf("alice", "doctor", status=1).decode()
+    want(found, "git push and git fetch do not carry the log to and from second: git gittuf setup second\n", "what doctor says")
+    clones.verdict("alice", "accepted refs/heads/main 1 entries")
+    clones.gittuf("alice", "setup", "second")
+    clones.commit("alice")
+    clones.gittuf("alice", "record", "main")
+    clones.gittuf("alice", "push", "--remote", "second")
+    clones.gittuf("alice", "push")
+    want(clones.gittuf("alice", "doctor"), b"all is well\n", "what doctor says then")
+
+
 def tells_a_fork(repositories):
     """a server that shows two persons two logs is told with what is here, and entries of others are not given up for it"""
     clones = further(repositories, "forked")
@@ -204,6 +221,7 @@ def judges_on_where_none_was(repositories):
 CHECKS = (
     tells_a_rollback,
     tells_a_dropped_log,
+    accuses_no_server_that_is_not_fetched,
     tells_a_fork,
     signs_nothing_of_others,
     follows_nothing_invented,

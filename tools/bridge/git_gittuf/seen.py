@@ -85,9 +85,10 @@ def note(repository, references, own, unfit):
 
 
 def pushed(repository, remote):
-    """Notes that a remote has the own log now."""
-    own = repository.references().get(LOG)
-    if own:
+    """Notes that a remote has the own log now, where Git keeps what it has: else it would look as if it were gone."""
+    references = repository.references()
+    own = references.get(LOG)
+    if own and references.get(beside(remote, LOG)) == own:
         write(repository, {**read(repository), remote: own}, anew=remote)
 
 
