@@ -61,7 +61,8 @@ def of_tip(name, words):
 def of_violation(name, words):
     """What an entry did that is not lawful, and what leads out of that."""
     way = f" Who may change {name.shown} calls git gittuf recover {name.word}, which leads back to the files that it had before."
-    return of_unlawful(name, words) + {"ref-rule": way, "path-rule": way, "not-epoch": of_back(name, words)}.get(words[3], "")
+    back = "" if words[4:] == ["anchor"] else of_back(name, words)
+    return of_unlawful(name, words) + {"ref-rule": way, "path-rule": way, "not-epoch": back}.get(words[3], "")
 
 
 def of_back(name, words):
@@ -73,7 +74,8 @@ def of_unlawful(name, words):
     if fault == "no-policy":
         return (
             f"Entry {number} was recorded while no policy was in force, or none whose first keys are those of --root,"
-            " of gittuf.root or of gittuf.firstRoot. The first policy comes before what it is to protect: git gittuf policy apply."
+            " of gittuf.root or of gittuf.firstRoot. The first policy comes before what it is to protect, by git gittuf policy"
+            " apply, and ids that are given are those of its keys."
         )
     if fault == "broken":
         way = "git fetch may bring it, and else a git gittuf push by who recorded it"
@@ -82,6 +84,11 @@ def of_unlawful(name, words):
         return f"Entry {number} moved {name.shown}, and of the {of_persons(words[7])} rule {words[4]} wants {words[5]} signed that."
     if fault == "path-rule":
         return f"Entry {number} changed {words[4]}, and of the {of_persons(words[8])} rule {words[5]} wants {words[6]} signed that."
+    if words[4:] == ["anchor"]:
+        return (
+            f"Entry {number} recorded a first policy whose root keys are others than --root, gittuf.root or gittuf.firstRoot says,"
+            " and it is not believed. Either these ids are not those of its keys, which the persons tell, or this is not their repository."
+        )
     return f"Entry {number} recorded a policy that does not follow the one in force, which goes on: {' '.join(words[4:])}."
 
 
