@@ -84,6 +84,8 @@ def approves_no_way_into_a_violation(repositories):
     part = f"main stands in violation since entry {number}, and what this approves would not end it: git gittuf recover main leads out"
     holds_leaves(clones, "bob", "approve", "main", part=part)
     clones.gittuf("bob", "skip", str(number))
+    # A skip alone leads nowhere, and the stranger's files are not approved behind it.
+    holds_leaves(clones, "bob", "approve", "main", part=part)
     clones.git("restore", "--source", "HEAD~2", "--staged", "--worktree", ":/", who="bob")
     clones.git("commit", "--quiet", "--message", "taken back", who="bob")
     clones.gittuf("bob", "approve", "main")

@@ -10,7 +10,7 @@ import os
 from git_gittuf import inspecting, looking, policies, settings, skipping
 from git_gittuf.looking import ANYWAY, COUNTS, FAULT
 from git_gittuf.names import short
-from git_gittuf.repository import Stopped
+from git_gittuf.repository import ZEROS, Stopped
 from git_gittuf.shown import plain, quoted
 from git_gittuf.telling import tell
 
@@ -24,6 +24,15 @@ def asked_by_paths(policy):
     return [it for _, it in policy.rules() if any(path.startswith("file:") for path in it["paths"])]
 
 
+def leads_back(work, name, value):
+    """Whether a change leads to the files of the last entry that counts, as each recovery does, or to nothing where there is none."""
+    last = looking.last_counted(work, name) or ZEROS
+    if value is None or last == ZEROS:
+        return (value or ZEROS) == last
+    first, second = (work.repository.git("rev-parse", "--verify", "--quiet", f"{it.decode()}^{{tree}}")[1] for it in (last, value))
+    return first == second
+
+
 def expect_wanted(work, name, value, key):
     """Refuses an approval that no entry of this value can count, and tells who is missing still where it counts."""
     looking.expect_person(work, key, "an approval by it")
@@ -33,7 +42,7 @@ def expect_wanted(work, name, value, key):
         refuse("approved", f"no rule wants a signature for that {shown} {'goes' if value is None else 'goes there'}: git gittuf record {quoted(short(name))}")
     since, counts = int(found[2]), COUNTS.fullmatch(found[4] or "")
     if since < number:
-        if looking.is_sure(line, number, listed, work, name, key):
+        if looking.is_sure(line, number, listed, work, name, key) or not leads_back(work, name, value):
             refuse("approved", looking.in_violation(name, since, "what this approves"))
         # It is a recovery, of which the program tells no rule.
         expect_asked(work, name, key, f"the rules for {shown}")
