@@ -24,7 +24,7 @@ def setup(work, words):
     for name, value in remotes.set_up(work.repository, remote) if remote else []:
         print(f"{name} has {value}")
     print(f"the store has {work.bring()} objects more, {work.kept.place}")
-    if not remote:
+    if not remote and work.repository.top:
         say("There is no remote: after git remote add, git gittuf setup lets git push and git fetch carry the log.")
     if not keys.is_there(keys.path_of(work.repository)):
         say("Who signs has a key: git gittuf key makes one. Who only verifies needs none.")
@@ -117,6 +117,11 @@ def record(work, words):
     if not words.anyway:
         expect_no_step_back(work, name, value)
     show(recorded_by(work, name, value, path, words.anyway))
+    say_what_carries_it(repository)
+
+
+def say_what_carries_it(repository):
+    """Names the next step to a person, once something is recorded."""
     carried = ", ".join(plain(it) for it in remotes.of_git(repository))
     say(f"git gittuf push carries it to {carried or 'others, once there is a remote'}.")
 
@@ -203,7 +208,8 @@ def entry_ids(work, words):
     for word in words:
         fits = [it for number, it, *_ in there if str(number) == word or (len(word) >= 6 and it.startswith(word.encode()))]
         if len(fits) != 1:
-            raise Stopped(f"{plain(word)} is the number or the id of {len(fits)} entries: git gittuf log lists them", 3)
+            count = f"{len(fits)} entries" if fits else "no entry"
+            raise Stopped(f"{plain(word)} is the number or the id of {count}: git gittuf log lists them", 3)
         found.append(fits[0].decode())
     return ",".join(found)
 

@@ -7,6 +7,7 @@ import re
 from git_gittuf import program, public_parts
 from git_gittuf.program import Ended
 from git_gittuf.repository import Stopped
+from git_gittuf.shown import plain, quoted
 
 # The line of a key of one level, or of two.
 LINE = re.compile(rb"key ([0-9a-f]{64}) ([0-9a-f]{112}|[0-9a-f]{120})\n")
@@ -22,8 +23,11 @@ def default_path():
 def path_of(repository):
     """Where the key of this repository's user stands: gittuf.key, or else a place in the user's data folder."""
     found = repository.config("gittuf.key", "--type=path")
+    if found and not found[-1]:
+        raise Stopped("gittuf.key is set and names nothing: git config --unset gittuf.key, and the key in your own data folder is taken")
     if found and not os.path.isabs(found[-1]):
-        raise Stopped(f"gittuf.key is {found[-1]}, and is to be a whole path: git config gittuf.key ~/{found[-1]}")
+        whole = quoted(os.path.abspath(found[-1]))
+        raise Stopped(f"gittuf.key is {plain(found[-1])}, and is to be a whole path: git config gittuf.key {whole}, if that is it")
     return found[-1] if found else default_path()
 
 

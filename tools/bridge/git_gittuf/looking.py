@@ -102,7 +102,7 @@ def of_rule(work, name, value, unmet, key, signed):
     what = "it" if path is None else f"a change of {plain(path)}"
     said = f"rule {plain(rule)} wants {threshold} of {listing(wanted)} for {what}"
     if key not in policy.publics():
-        return f"{said}, and your key is that of none of the policy's persons"
+        return f"{said}, and your key is that of none of the policy's persons: one of them records it{first_shown(work.repository, value)}"
     who = ' or '.join(map(plain, missing)) or 'one more'
     return f"{said}; missing is {who}, who approves it by {approval_of(name, value)}{first_shown(work.repository, value)}"
 
@@ -166,7 +166,7 @@ def refuse(work, name, value, line, number, key):
     """Refuses an entry of which the program has this line."""
     since = int(FAULT.fullmatch(line)[2])
     said = in_violation(name, since, "this") if since < number else reason(work, name, value, line, key)
-    raise Stopped(f"nothing is recorded, as {said}; --anyway records it all the same", 3)
+    raise Stopped(f"nothing is recorded, as {said.rstrip('.')}; --anyway records it all the same", 3)
 
 
 def tree_at(repository, value):

@@ -9,7 +9,7 @@ from git_gittuf import commands, keys, leaves, policies, policy_faults, policy_l
 from git_gittuf.program import Ended
 from git_gittuf.repository import POLICY, STAGED, Stopped
 from git_gittuf.shown import plain
-from git_gittuf.telling import tell
+from git_gittuf.telling import say, tell
 
 
 def draft_and_force(work):
@@ -105,6 +105,10 @@ def sign(work, words):
         draft.set_file(name, policies.read_file(name, printed))
     keep(work, draft)
     print_signers(draft, force)
+    if any(len(signed) < role["threshold"] for _, role, signed in signers_of(draft, force)):
+        say("git gittuf push carries it to the others, each of whom signs it by git gittuf policy sign.")
+    else:
+        say("git gittuf policy apply brings it into force, or says whose signature it lacks.")
 
 
 def discard(work, _):
@@ -143,7 +147,8 @@ def apply(work, words):
             raise Ended(("policy-apply",), status, printed)
         return printed
 
-    print(work.change(steps).decode(), end="")
+    print(work.change(steps).decode(), end="", flush=True)
+    commands.say_what_carries_it(work.repository)
 
 
 def waiting(draft, force):
@@ -183,9 +188,14 @@ def print_changes(force, draft):
         print(line)
 
 
-def print_signers(draft, force):
-    """Prints of each file that is to be signed who did."""
+def signers_of(draft, force):
+    """Each file that is to be signed, with its role and who signed it."""
     for name, file in waiting(draft, force).items():
         role = draft.role(name)
-        signed, _ = policy_faults.who_signed(file, role, draft)
+        yield name, role, policy_faults.who_signed(file, role, draft)[0]
+
+
+def print_signers(draft, force):
+    """Prints of each file that is to be signed who did."""
+    for name, role, signed in signers_of(draft, force):
         print(plain(f"{name} is signed by {len(signed)} of {role['threshold']}{': ' if signed else ''}{policy_lines.words(signed)}"))

@@ -34,6 +34,7 @@ th,td{padding:.1rem .4rem}tr{break-inside:avoid}h2{break-after:avoid}.log th:nth
 # A page that runs and fetches nothing, whatever is in it.
 SEALED = "default-src 'none'; style-src 'unsafe-inline'"
 COLOURS = ("#cfe3f7", "#d8efd3", "#f7e6c4", "#e7d9f2")
+EPOCHS = "<p>Each stretch of the log begins at the entry that brought its policy into force. An entry that a verdict names is marked below.</p>"
 
 
 def text(it):
@@ -159,7 +160,7 @@ def page(work, words, root, source):
         "<h2>Verdicts</h2>",
         table("verdicts", ("Branch or tag", "Verdict", "In words", "The program's line"), rows),
         "<h2>The policies in force</h2>",
-        picture(len(entries), found.epochs) + marks(len(entries), bad) if found.epochs else "<p>None.</p>",
+        EPOCHS + picture(len(entries), found.epochs) + marks(len(entries), bad) if found.epochs else "<p>None.</p>",
         "<h2>The policy that is in force now</h2>",
         "<ul>" + "".join(f"<li>{text(it)}</li>" for it in policy_lines.of_policy(policies.in_force(work)) or ["None."]) + "</ul>",
         "<h2>Who signed</h2>",

@@ -92,7 +92,7 @@ a terminal a sentence says what a line means. Where git gittuf itself cannot go 
 what was asked for, 4 what is outside, as a repository that is none, or another git gittuf at work here.
 
   git gittuf setup && git gittuf key
-  git gittuf record main && git push
+  git gittuf record main && git gittuf push
   git pull && git gittuf verify main
 """
 
