@@ -86,11 +86,14 @@ def answers_alone(repositories):
 
 
 def names_the_page(repositories):
-    """where standard error is a terminal a line names --help after refused words, and after nothing else"""
+    """where standard error is a terminal a line names --help after refused words and after a fault, and after nothing else"""
     status, output, told = on_terminal(LAUNCHER)
     want((status, output), (2, b""), "the status and output on a terminal")
     first, second = told.split(b"\n", 1)
     want((first, b"--help" in second, second.count(b"\n")), (b"words refused", True, 1), "the lines on a terminal")
+    status, _, told = on_terminal(LAUNCHER, repositories.path("nothing there/store.db"), "-", "log")
+    first, second = told.split(b"\n", 1)
+    want((status, first, b"--help says what fault can be" in second), (4, b"fault", True), "the lines of a fault on a terminal")
     status, _, told = on_terminal(LAUNCHER, "-", "-", "import")
     want((status, told), (3, b"stream 5\n"), "the status and lines of a refused import on a terminal")
 
