@@ -161,6 +161,7 @@ def follows_and_gives_up(repositories):
     status, _, errors = clones.asked("bob", "verify", "main")
     want((status, b"went apart" in errors), (3, True), "the status of verify, and whether it says that the logs went apart")
     found = clones.gittuf("bob", "doctor", status=1)
+    want(b": git gittuf sync --remote origin records it anew" in found, True, "whether doctor tells the way that keeps what bob signed")
     want(b"git gittuf doctor --take origin" in found, True, "whether doctor tells the way out")
     clones.gittuf("bob", "doctor", "--take", "origin")
     records(clones, "bob", "main")

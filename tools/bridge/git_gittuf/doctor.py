@@ -48,6 +48,16 @@ def signed_by(work, entries):
     return f"{signers.numbers(entries)}, signed by {signers.in_force(work).who_signed(work.repository, entries)}"
 
 
+def is_own(work, entries):
+    """Whether the key here signed each of these entries, by the policy in force."""
+    path = keys.path_of(work.repository)
+    try:
+        own = keys.id_and_public(path)[0] if keys.is_there(path) else None
+    except Stopped:
+        return False
+    return own is not None and set(signers.in_force(work).keys_of(work.repository, entries).values()) == {own}
+
+
 def of_lost(work, remote, value, how):
     """What a remote's log lost that had gone further, and how that goes on."""
     last = seen.read(work.repository).get(remote) or value
@@ -82,8 +92,10 @@ def of_remotes(work, is_whole):
         elif how == "ahead" and name != LOG and not desk:
             yield f"{shown} goes on here from where {remote} has it", f"git gittuf push --remote {quoted(remote)}"
         elif how == "apart" and name == LOG and is_whole:
-            base = repository.git("merge-base", own.decode(), value.decode())[1].strip()
-            yield f"{shown} here and that of {remote} went apart: here is {signed_by(work, entries_after(work, base))}", take
+            here = entries_after(work, repository.git("merge-base", own.decode(), value.decode())[1].strip())
+            anew = f"git gittuf sync --remote {quoted(remote)} records it anew after that, as far as it is lawful, and {take} gives it up"
+            way = anew if not desk and is_own(work, here) else take
+            yield f"{shown} here and that of {remote} went apart: here is {signed_by(work, here)}", way
         elif how == "apart":
             yield f"{shown} here and that of {remote} went apart", take
         elif how == "broken":
