@@ -151,6 +151,19 @@ def is_of_the_sources(repositories):
     want(stands.lines_in("told"), ["verdicts"], "what it is asked once it is younger")
 
 
+def is_the_released_one(repositories):
+    """the released gittuf-inspect is asked where none is built here, and only while the sources are those that it was released of"""
+    stands = StandIn(another(repositories, "released beside"), "stand-in")
+    stands.tells([])
+    folder = "crates/gittuf/out/released"
+    os.makedirs(stands.at(folder))
+    os.rename(stands.at(stands.inspect), stands.at(f"{folder}/gittuf-inspect"))
+    for status, asked in ((1, []), (0, ["verdicts"])):
+        stands.write(f"{folder}/source_check", f"#!/bin/sh\nexit {status}\n")
+        stands.ran("bob", "verify")
+        want(stands.lines_in("told"), asked, f"what it is asked where the small program ends with {status}")
+
+
 def of_entry(clones, target, **more):
     entry = {"id": ZEROS, "kind": "reference", "number": 3, "prior": 2, "reference": MAIN, "signers": [], "target": target, "verdict": "authorised"}
     return {**entry, **more}
@@ -214,5 +227,6 @@ CHECKS = (
     are_lines,
     takes_nothing_else,
     is_of_the_sources,
+    is_the_released_one,
     signs_nothing_unlawful,
 )

@@ -1,6 +1,6 @@
 """What gittuf-inspect tells of a log, where that program is here: the same verdicts in one pass, and what the program has no line for.
 
-It stands beside the program in a package, or is built here and no source changed since. Where it is not there, or answers
+It stands beside the program in a package, or is built or released here and no source changed since. Where it is not there, or answers
 otherwise than its page says, nothing is taken from it, and the program is asked as ever.
 """
 
@@ -8,6 +8,7 @@ import functools
 import json
 import os
 import re
+import subprocess
 
 from git_gittuf import program
 from git_gittuf.program import BUILT_INSPECT, PACKAGED_INSPECT
@@ -31,13 +32,29 @@ def changed_since(path):
     return False
 
 
+def is_of_the_sources(folder):
+    """Whether what was unpacked into a folder is of the sources here, as the launcher asks it of the small program there."""
+    words = (os.path.join(folder, "source_check"), program.TOP, *(os.path.join(folder, f"gittuf.{it}") for it in ("files", "sources")))
+    nothing = subprocess.DEVNULL
+    return subprocess.run(words, stdin=nothing, stdout=nothing, stderr=nothing, check=False).returncode == 0
+
+
+def released():
+    """The path of the released one, or nothing where none that is of the sources here is unpacked."""
+    for folder in program.released():
+        path = os.path.join(folder, program.INSPECT)
+        if os.access(path, os.X_OK) and is_of_the_sources(folder):
+            return path
+    return None
+
+
 @functools.lru_cache(maxsize=1)
 def place():
     """The path of the program gittuf-inspect, or nothing where none is here that is of these sources."""
     try:
         if os.path.exists(os.path.join(program.TOP, "version")):
             return PACKAGED_INSPECT if os.access(PACKAGED_INSPECT, os.X_OK) else None
-        return BUILT_INSPECT if os.access(BUILT_INSPECT, os.X_OK) and not changed_since(BUILT_INSPECT) else None
+        return BUILT_INSPECT if os.access(BUILT_INSPECT, os.X_OK) and not changed_since(BUILT_INSPECT) else released()
     except OSError:
         return None
 

@@ -12,20 +12,26 @@ TOP = os.path.dirname(os.path.dirname(os.path.dirname(os.path.dirname(os.path.re
 LAUNCHER = os.path.join(TOP, "gittuf")
 # What a command of the program is asked of.
 CALLED = LAUNCHER
+# The name of gittuf-inspect where it is packed or released.
+INSPECT = "gittuf-inspect"
 # What the launcher looks at, in each of the places where a program may be.
-NAMES = ("gittuf", "gittuf-x86-64-v2", "gittuf-x86-64-v3", "gittuf.cpu", "gittuf.sources", "version")
+NAMES = ("gittuf", "gittuf-x86-64-v2", "gittuf-x86-64-v3", INSPECT, "gittuf.cpu", "gittuf.sources", "version")
 # Where the program gittuf-inspect stands in a package, or was built here.
-PACKAGED_INSPECT = os.path.join(TOP, "gittuf-inspect")
+PACKAGED_INSPECT = os.path.join(TOP, INSPECT)
 BUILT_INSPECT = os.path.join(TOP, "crates", "gittuf_inspect", "out", "gittuf_inspect")
 # A person waits so many seconds before something is said.
 PATIENCE = 2
 
 
+def released():
+    """The folders into which the launcher may have unpacked released programs."""
+    cache = os.environ.get("XDG_CACHE_HOME") or os.path.join(os.environ.get("HOME", "/nowhere"), ".cache")
+    return [os.path.join(TOP, "crates", "gittuf", "out", "released"), f"{cache}/gittuf{TOP}"]
+
+
 def files():
     """The files that decide which programs run and what they are: those that are built, released or packaged here, and their sources."""
-    folders = [TOP, os.path.join(TOP, "crates", "gittuf", "out"), os.path.join(TOP, "crates", "gittuf", "out", "released")]
-    cache = os.environ.get("XDG_CACHE_HOME") or os.path.join(os.environ.get("HOME", "/nowhere"), ".cache")
-    folders.append(f"{cache}/gittuf{TOP}")
+    folders = [TOP, os.path.join(TOP, "crates", "gittuf", "out"), *released()]
     found = [PACKAGED_INSPECT, BUILT_INSPECT, *(os.path.join(folder, name) for folder in folders for name in NAMES)]
     for folder in folders[1:]:
         try:
