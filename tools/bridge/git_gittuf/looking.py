@@ -107,12 +107,12 @@ def of_rule(work, name, value, unmet, key, signed):
     return f"{said}; missing is {who}, who approves it by {approval_of(name, value)}{first_shown(work.repository, value)}"
 
 
-def reason_for(work, name, value, fault, key, signed):
-    """The same from a fault of an entry as gittuf-inspect tells it, with the keys that would have signed."""
+def reason_for(work, name, value, fault, key, entry):
+    """The same from a fault of an entry as gittuf-inspect tells both."""
     if fault["kind"] in ("ref-rule", "path-rule"):
         path, rule = (policies.unescaped(os.fsdecode(inspecting.word_of(fault[it]))) if it in fault else None for it in ("path", "rule"))
-        return of_rule(work, name, value, (path, rule, fault["need"]), key, [*signed, key])
-    line = b"violation %s 1 %s" % (name, inspecting.fault_in_words(fault))
+        return of_rule(work, name, value, (path, rule, fault["need"]), key, [*entry["signers"], key])
+    line = b"violation %s %d %s" % (name, entry["number"], inspecting.fault_in_words(fault))
     return plain(sentences.of_line(os.fsdecode(line))).removesuffix(".")
 
 
@@ -207,7 +207,11 @@ def expect_told_lawful(work, name, value, key, listed):
         return False
     entry, faults = found
     if faults:
-        said = "; and ".join(reason_for(work, name, value, it, key, entry["signers"]) for it in faults)
+        standing = verdict(work, name)
+        if is_sure(standing, entry["number"], listed, work, name, key):
+            # What is wrong with the branch comes before what would be wrong with this entry.
+            refuse(work, name, value, standing, entry["number"], key)
+        said = "; and ".join(reason_for(work, name, value, it, key, entry) for it in faults)
         raise Stopped(f"nothing is recorded, as it would be a violation: {said}; --anyway records it all the same", 3)
     if entry["prior"] is None and not any(rest[0] == name for _, _, kind, rest in listed if kind == b"ref"):
         return True
