@@ -1,0 +1,4 @@
+-- a gate's shop that stands for a history
+pub mod Standing
+-- what each of its answers says of that
+pub mod Calls
