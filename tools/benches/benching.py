@@ -8,11 +8,12 @@ import tempfile
 import time
 
 TOOLS = os.path.dirname(os.path.dirname(os.path.realpath(__file__)))
-sys.path[1:1] = [os.path.join(TOOLS, it) for it in ("tests", "bridge")]
+sys.path[1:1] = [os.path.join(TOOLS, it) for it in ("tests", "bridge", "build")]
 # What is measured is built here, for the processor that is asked for, and is not the released program.
 os.environ["GITTUF_BUILD"] = "1"
 
-from checking import EMPTY_STREAM, LAUNCHER, TOP, VERIFY
+import unproved
+from checking import EMPTY_STREAM, LAUNCHER, VERIFY
 
 RUNS = 3
 TIME = "/usr/bin/time"
@@ -87,13 +88,14 @@ def processor():
 
 
 def build_crate(name, cpu, *words):
-    """Builds a small program of crates/ by running it on these words, and returns its path."""
+    """Proves and builds a small program of unproved/ by running it on these words, and returns its path."""
     said = {"stdin": subprocess.DEVNULL, "stdout": subprocess.DEVNULL, "stderr": subprocess.PIPE}
-    ran = subprocess.run(["rt", "run", f"--cpu={cpu}", "--", *words], cwd=os.path.join(TOP, "crates", name), **said)
-    made = os.path.join(TOP, "crates", name, "out", name)
+    folder = unproved.crate_folder(name)
+    ran = subprocess.run(["rt", "run", f"--cpu={cpu}", "--", *words], cwd=folder, **said)
+    made = os.path.join(folder, "out", name)
     if ran.returncode or not os.access(made, os.X_OK):
         lines = ran.stderr.decode(errors="replace").strip().splitlines()
-        raise Failed(f"crates/{name} is not built: {lines[-1] if lines else 'rt said nothing'}")
+        raise Failed(f"unproved/{name} is not built: {lines[-1] if lines else 'rt said nothing'}")
     return made
 
 

@@ -8,6 +8,8 @@ import twin_files
 from checking import TOP, Failure
 
 README_BYTES = 10_000
+# Where crates stand whose sources have one more ending.
+UNPROVED = "unproved"
 # The program has its crate's name.
 PROGRAM_NAME = "gittuf"
 NAMED = ("docs/THE-VERDICT.md", "docs/RULES.md", "docs/FORMATS.md")
@@ -18,7 +20,7 @@ FENCE = re.compile(r"^```.*?^```$", re.DOTALL | re.MULTILINE)
 QUOTED = re.compile(r"`([^`\n]+)`")
 LINK = re.compile(r"\]\(([^)\s]+)\)")
 HEADING = re.compile(r"^#+ (.*)$", re.MULTILINE)
-PATH = re.compile(r"crates/[\w/.-]+")
+PATH = re.compile(r"(?:crates|unproved)/[\w/.-]+")
 # A file of definitions and the names that are said to stand in it.
 DEFINITIONS = re.compile(r"`(crates/\w+/specs/[\w/]+\.antt)`(?:: ((?:`\w+`(?:, | and )?)+))?")
 CALL = re.compile(r"(\w+)((?:::\w+)+)")
@@ -40,16 +42,27 @@ def files_below(folder, end):
                 yield os.path.relpath(os.path.join(where, name), TOP)
 
 
-def crates():
-    """The crates that crates.txt lists."""
-    lines = (it.partition("#")[0] for it in text_of("crates.txt").splitlines())
+def crates_in(path):
+    """The crates that a list of crates has."""
+    lines = (it.partition("#")[0] for it in text_of(path).splitlines())
     return {it.partition(":")[0].split()[0] for it in lines if ":" in it}
+
+
+@functools.cache
+def crates():
+    """The crates that are proved, and those that are run alone."""
+    return crates_in("crates.txt") | crates_in(f"{UNPROVED}/listed.txt")
+
+
+@functools.cache
+def folder_of(crate):
+    return f"{UNPROVED}/{crate}" if crate in crates_in(f"{UNPROVED}/listed.txt") else f"crates/{crate}"
 
 
 def pages():
     """The documents: those at the top, those of docs/ and the pages of crates."""
-    of_crates = (f"crates/{it}/README.md" for it in sorted(crates()))
-    return ["README.md", "CHANGELOG.md", *files_below("docs", ".md"), *(it for it in of_crates if os.path.exists(os.path.join(TOP, it)))]
+    of_crates = (f"{folder_of(it)}/README.md" for it in sorted(crates()))
+    return ["README.md", "CHANGELOG.md", f"{UNPROVED}/README.md", *files_below("docs", ".md"), *(it for it in of_crates if os.path.exists(os.path.join(TOP, it)))]
 
 
 def refuse(found):
@@ -113,7 +126,7 @@ def links_lead_somewhere(repositories):
 
 @functools.cache
 def sources_of(crate):
-    return "\n".join(text_of(it) for it in files_below(f"crates/{crate}/src", ".rt"))
+    return "\n".join(text_of(it) for end in (".rt", ".rt.txt") for it in files_below(f"{folder_of(crate)}/src", end))
 
 
 def is_call(name):
@@ -130,16 +143,17 @@ def is_edit(crate, name):
 
 def missing_on(crate):
     """What a crate's page names and the crate lacks, and the edits of the crate that its page lacks."""
-    page = f"crates/{crate}/README.md"
+    page = f"{folder_of(crate)}/README.md"
     if not os.path.exists(os.path.join(TOP, page)):
         return [f"{crate} has no page"]
     quoted = QUOTED.findall(text_of(page))
     edits = {it.removeprefix("must-fail/") for it in quoted if it.startswith("must-fail/")}
-    folder = os.path.join(TOP, "crates", crate, "must-fail")
+    folder = os.path.join(TOP, folder_of(crate), "must-fail")
     kept = {it.partition(".")[0] for it in os.listdir(folder)} if os.path.isdir(folder) else set()
     found = [f"{page}: must-fail/{it}" for it in sorted(edits ^ kept)]
     paths = (it for it in quoted if re.match(r"(?:src|specs|proofs)/", it))
-    found += [f"{page}: {it}" for it in paths if not os.path.exists(os.path.join(TOP, "crates", crate, it))]
+    ends = ("", ".txt") if folder_of(crate).startswith(UNPROVED) else ("",)
+    found += [f"{page}: {it}" for it in paths if not any(os.path.exists(os.path.join(TOP, folder_of(crate), it + end)) for end in ends)]
     laws = {it for it in quoted if re.fullmatch(r"\w*laws(?:::\w+)*", it)} - {crate}
     return found + [f"{page}: {it}" for it in sorted(laws) if not is_call(f"{crate}::{it}")]
 

@@ -74,7 +74,7 @@ def builds_what_is_of_other_sources(repositories):
     want_built(b"GITTUF_BUILD asks for it", GITTUF_BUILD="1")
     want_built(b"release/ has none for x86-64-v4", GITTUF_CPU="x86-64-v4")
     # A document, a proof and a crate that the program does not stand on are no sources of it.
-    for path in ("README.md", "crates/bench/src/main.rt", "crates/octets/specs/Lib.antt"):
+    for path in ("README.md", "crates/small_judge/src/lib.rt", "crates/octets/specs/Lib.antt"):
         with open(checkout.path(path), "ab") as file:
             file.write(b"\n")
     with open(checkout.path("crates.txt"), "ab") as file:

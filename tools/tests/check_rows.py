@@ -1,11 +1,11 @@
-"""The checks of tools/test on the rows that crates/tests_rows and crates/tests_desk run."""
+"""The checks of tools/test on the rows that crates/tests_rows and unproved/tests_desk run."""
 
 import os
 
 from checking import TOP, want, want_run
 
 # What makes rows, by the crate that runs them.
-MAKERS = {"tests_rows": "make-rows", "tests_desk": "make-pushes"}
+MAKERS = {"crates/tests_rows": "make-rows", "unproved/tests_desk": "make-pushes"}
 # Keys and signatures are made in Python, which takes a minute and a half of processor time.
 MOST_SECONDS = 900
 
@@ -17,21 +17,21 @@ def read(folder, name):
 
 def makes(repositories, crate):
     """Holds the rows of a crate, and the wanted lines, to those that are made."""
-    folder = repositories.path(crate)
+    folder = repositories.path(MAKERS[crate])
     os.mkdir(folder)
     want_run((os.path.join(TOP, "tools", MAKERS[crate]), folder), 0, seconds=MOST_SECONDS)
     for name in ("stdin", "stdout"):
-        want(read(folder, name), read(os.path.join(TOP, "crates", crate), name), f"the {name} of {crate}")
+        want(read(folder, name), read(os.path.join(TOP, crate), name), f"the {name} of {crate}")
 
 
 def makes_the_kept_rows(repositories):
     """make-rows makes the rows and the wanted lines that are kept"""
-    makes(repositories, "tests_rows")
+    makes(repositories, "crates/tests_rows")
 
 
 def makes_the_kept_pushes(repositories):
     """make-pushes makes the rows of pushes and the wanted lines that are kept"""
-    makes(repositories, "tests_desk")
+    makes(repositories, "unproved/tests_desk")
 
 
 CHECKS = (makes_the_kept_rows, makes_the_kept_pushes)

@@ -1,6 +1,6 @@
 """Rows on a desk over a store in memory: pushes, stops, calls that fail, and the lines that must come of them.
 
-A row is a line as crates/tests_desk/src/records.rt reads it, and its answer, which may be nothing.
+A row is a line as unproved/tests_desk/src/records.rt reads it, and its answer, which may be nothing.
 """
 
 from rows_histories import LOG, MAIN, History

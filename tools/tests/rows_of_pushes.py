@@ -1,6 +1,6 @@
 """Rows on pushes, on lists of things under ids and on desks: what is read, and the line that must come of it.
 
-A row is a line as crates/tests_desk/src/records.rt reads it, and its answer a line, or nothing.
+A row is a line as unproved/tests_desk/src/records.rt reads it, and its answer a line, or nothing.
 """
 
 import hashlib

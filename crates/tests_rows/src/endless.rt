@@ -119,11 +119,15 @@ impl Keeper for Endless {
     ghost comes_tells = { λ _ _ came. same_tells None false true 0 0 };
 }
 
+// So many zero bytes. Nothing is said of them, so that no proof looks for the hash of what they are.
+fn zero_bytes(alloc: Global, size: usize) -> Result<Octets, Memory> {
+    Ok(Octets::from_vec(vec![in alloc; 0u8; size]?))
+}
+
 // A store of blobs of so many zero bytes.
 fn store_of(alloc: Global, size: usize) -> Result<Endless, Memory> {
-    let body = Octets::from_vec(vec![in alloc; 0u8; size]?);
     Ok(Endless {
-        object: Object::new(alloc, Kind::Blob, body)?,
+        object: Object::new(alloc, Kind::Blob, zero_bytes(alloc, size)?)?,
         reads: 0,
     })
 }
