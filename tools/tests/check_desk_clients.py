@@ -1,0 +1,196 @@
+#!/usr/bin/env python3
+"""The checks of tools/test on several clients that push to a desk at once, and on desks that are killed meanwhile.
+
+`python3 tools/tests/check_desk_clients.py --seconds SECONDS [SEED]` lets eight clients push for so long, half of it over a
+database and half over a folder, to desks that are killed at drawn moments, and compares what is kept with what they were told.
+"""
+
+import collections
+import hashlib
+import itertools
+import os
+import random
+import shutil
+import sys
+import tempfile
+import threading
+import time
+
+from check_repositories import Repositories
+from check_serving import desk, exported, imported, objects_in
+from checking import PROGRAM, Failure, in_this_run, run, want, want_run
+from desk_clients import LOG, Client, asked, push_at_once, repository_of
+from stand_in_desk import NUMBER, PARENT, RECORDED
+
+# So many clients push at once, each so many changes, in the longer run more; and while desks are killed so many push.
+CLIENTS, CHANGES, MORE, UNDER_KILLS, WORKERS = 4, 20, 400, 8, 4
+# How many seconds desks are killed over each kind of store, in the longer run more, and how long each lives at most.
+SECONDS, LONGER, LIFE = 2, 30, 1.5
+STREAM = b"GET /v1/stream HTTP/1.1\r\nhost: localhost\r\n\r\n"
+
+
+def references_in(stream):
+    """The references of a stream, which stand behind all objects."""
+    last = itertools.takewhile(lambda it: it.startswith(b"ref "), reversed(stream.splitlines()[:-1]))
+    return dict(it.decode().split()[1:] for it in last)
+
+
+def log_in(stream):
+    """What the log of a stream has, found by going back from its tip: the number, the id, the name and the target of each."""
+    objects, found = objects_in(stream), []
+    at = references_in(stream)[LOG].encode()
+    while at:
+        body = objects[at][1]
+        parent, (name, target) = PARENT.search(body), RECORDED.search(body).groups()
+        found.append((int(NUMBER.search(body)[1]), at.decode(), name.decode(), target.decode()))
+        at = parent and parent[1]
+    return found[::-1]
+
+
+def text_of(objects, commit):
+    """What stands in the one file of a commit."""
+    tree = objects[commit.encode()][1][5:69]
+    return objects[objects[tree][1].partition(b"\0")[2].hex().encode()][1]
+
+
+def holds_whole(stream, clients):
+    """Holds a stream to what clients were told: each change once and where it was told, in each one's order, and nothing else."""
+    told, log, objects = [change for it in clients for change in it.told], log_in(stream), objects_in(stream)
+    wanted = sorted((it.number, it.id, it.branch, it.target) for it in told)
+    want(log, wanted, "the entries of the log, of which each was told once")
+    want([it[0] for it in log], [*range(1, len(log) + 1)], "the numbers of the log")
+    for client in clients:
+        texts = [text_of(objects, it[3]) for it in log if it[2] == client.branch]
+        wanted = [b"change %d of %s\n" % (at, client.name.encode()) for at in range(1, len(client.told) + 1)]
+        want(texts, wanted, f"the changes of {client.name} in their order")
+    want(stream, repository_of(told).stream(), "the whole stream")
+
+
+def takes_four_at_once(repositories):
+    """what four clients push at once is in the log once, where each was told and in each one's order, in memory, a database and a folder"""
+    changes, told = in_this_run(CHANGES, MORE), []
+    for kind, place in (("memory", "-"), ("database", repositories.path("at once.db")), ("folder", repositories.path("at once") + "/")):
+        clients = [Client(f"client-{it}") for it in range(CLIENTS)]
+        with desk(place, CLIENTS) as (ran, port):
+            want(push_at_once(port, clients, lambda it: len(it.told) < changes), 0, "how many connections were lost")
+            code, stream = asked(port, STREAM)
+            ran.kill()
+        want(code, 200, "the code of the stream")
+        holds_whole(stream, clients)
+        if place != "-":
+            taken_up(place)
+            want(exported(place), stream, f"what the {kind} has then")
+        told.append(f"{kind}: {sum(it.stale for it in clients)} stale")
+    return f"{CLIENTS * changes} taken; {', '.join(told)}"
+
+
+def taken_up(place):
+    """Takes the mark away that a desk that is killed leaves in a folder, and tells whether it was in the middle of a change."""
+    if place.endswith("/"):
+        if os.path.exists(f"{place}commit.lock"):
+            return False
+        os.remove(f"{place}open.lock")
+    return True
+
+
+class Load:
+    """A store under clients whose desks are killed, and how often a stop left what: of the entries of which nobody was told
+    one is there or none is, or a folder was in the middle of a change."""
+
+    def __init__(self, place):
+        self.place, self.clients, self.ends = place, [Client(f"client-{it}") for it in range(UNDER_KILLS)], collections.Counter()
+
+    def stop(self, seconds):
+        """Kills a desk after so many seconds, and holds what is kept to what was told by then."""
+        with desk(self.place, WORKERS) as (ran, port):
+            timer = threading.Timer(seconds, ran.kill)
+            timer.start()
+            want(push_at_once(port, self.clients, lambda _: True), len(self.clients), "how many connections were lost")
+            timer.join()
+        self.ends[self.found() if taken_up(self.place) else self.half()] += 1
+
+    def known(self):
+        """The changes that were told, by number, and those of which nothing is known, by the ids of their entries."""
+        told = {change.number: change for it in self.clients for change in it.told}
+        want(len(told), sum(len(it.told) for it in self.clients), "how many numbers were told")
+        return told, {it.sent.id: it.sent for it in self.clients if it.sent}
+
+    def found(self):
+        """Each change that was told stands at its number, and every other one is one of which nothing was told yet."""
+        told, doubts = self.known()
+        status, log, errors = run(PROGRAM, self.place, "-", "log")
+        want((status, errors), (0, b""), "the status and errors of log after a stop")
+        ids = [it.split()[2].decode() for it in log.splitlines()]
+        others = {at: it for at, it in enumerate(ids, 1) if at not in told or told[at].id != it}
+        want([it for it in others.values() if it not in doubts], [], "the entries that nobody was told of or waits for")
+        want(len(ids) - len(others), len(told), "how many of the entries that were told are there")
+        return "with one" if others else "with none"
+
+    def half(self):
+        """A folder in the middle of a change says so, and has each object that was told whole; it is made again."""
+        want_run((PROGRAM, self.place, "-", "log"), 4, b"", b"fault\n")
+        told, doubts = self.known()
+        entries, at = {it.id: it for it in told.values()} | doubts, told[max(told)].id if told else None
+        there = []
+        while at:
+            there.append(entries[at])
+            parent = PARENT.search(entries[at].objects[-1][1])
+            at = parent and parent[1].decode()
+        want([it for it in told.values() if it not in there], [], "what was told and does not stand behind the last")
+        made = repository_of(there)
+        for id in made.objects:
+            with open(os.path.join(self.place, "objects", id), "rb") as file:
+                want(hashlib.sha256(file.read()).hexdigest(), id, "the id of an object that was told")
+        shutil.rmtree(self.place)
+        imported(self.place, made.stream())
+        return "half"
+
+    def ended(self):
+        """Lets each client hear what became of its last entry, and holds the whole store to all that was told."""
+        with desk(self.place, WORKERS) as (ran, port):
+            want(push_at_once(port, self.clients, lambda it: it.sent), 0, "how many connections were lost in the end")
+            ran.kill()
+        want(taken_up(self.place), True, "whether the folder is whole in the end")
+        holds_whole(exported(self.place), self.clients)
+        ends = ", ".join(f"{count} {end}" for end, count in sorted(self.ends.items()))
+        stale, again, already = (sum(getattr(it, name) for it in self.clients) for name in ("stale", "again", "already"))
+        taken = sum(len(it.told) for it in self.clients)
+        return f"{sum(self.ends.values())} kills ({ends}), {taken} entries, {stale} stale, {again} sent again, {already} of them there already"
+
+
+def kill_all(repositories, seconds, seed):
+    drawn, told = random.Random(seed), []
+    for kind, name in (("database", "load.db"), ("folder", "load/")):
+        load, end = Load(repositories.path("") + name), time.monotonic() + seconds
+        while time.monotonic() < end:
+            load.stop(drawn.uniform(0, LIFE))
+        told.append(f"{kind}: {load.ended()}")
+    return "; ".join(told)
+
+
+def keeps_what_it_told(repositories):
+    """whenever desks are killed under eight clients, each entry that one was told of is kept, once, and in its client's order"""
+    return kill_all(repositories, in_this_run(SECONDS, LONGER), 45)
+
+
+CHECKS = (takes_four_at_once, keeps_what_it_told)
+
+
+def main():
+    words = sys.argv[1:]
+    if len(words) not in (2, 3) or words[0] != "--seconds" or not all(it.isdigit() for it in words[1:]):
+        print("usage: python3 tools/tests/check_desk_clients.py --seconds SECONDS [SEED]", file=sys.stderr)
+        return 2
+    seed = int(words[2]) if words[2:] else random.randrange(1 << 32)
+    print(f"seed {seed}", flush=True)
+    with tempfile.TemporaryDirectory(prefix="gittuf-load-") as folder:
+        try:
+            print(kill_all(Repositories(folder), int(words[1]) / 2, seed))
+        except Failure as why:
+            print(f"FAILED   {why}")
+            return 1
+    return 0
+
+
+if __name__ == "__main__":
+    sys.exit(main())
