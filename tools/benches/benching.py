@@ -14,13 +14,10 @@ os.environ["GITTUF_BUILD"] = "1"
 
 import unproved
 from checking import EMPTY_STREAM, LAUNCHER, VERIFY
+from figures import Bounds, Failed
 
 RUNS = 3
 TIME = "/usr/bin/time"
-
-
-class Failed(Exception):
-    """Why nothing was measured, in one line."""
 
 
 class Figure:
@@ -125,25 +122,6 @@ def signature_check(bench, width):
 def where_it_runs(cpu):
     """A line on the machine, which a figure is read with."""
     return f"built for {cpu}; {os.cpu_count()} processors, on which {os.getloadavg()[0]:.1f} programs ran"
-
-
-class Bounds:
-    """Whether each bound that was held to something is met."""
-
-    def __init__(self):
-        self.met = True
-
-    def most(self, found, bound, places=2):
-        """Tells a figure that may not be greater than a bound."""
-        return self.told(found, bound, found <= bound, "at most", places)
-
-    def least(self, found, bound, places=1):
-        """Tells a figure that may not be less than a bound."""
-        return self.told(found, bound, found >= bound, "at least", places)
-
-    def told(self, found, bound, met, word, places):
-        self.met = self.met and met
-        return f"{found:.{places}f}, wanted {word} {bound} {'met' if met else 'NOT MET'}"
 
 
 def row(name, figure, text=""):
