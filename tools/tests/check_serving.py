@@ -1,10 +1,9 @@
-"""The checks of tools/test on the desk that `serve` opens: its page's lines, and entries that it takes."""
+"""The checks of tools/test on the desk that `serve` opens: entries that it takes, its end, and what keeps it from being opened."""
 
 import contextlib
 import http.client
 import os
 import re
-import shutil
 import signal
 import socket
 import subprocess
@@ -12,11 +11,10 @@ import time
 
 import stand_in_desk
 from check_keys import ENTRY_LINE, KEY_LINE, line_of
-from checking import LAUNCHER, PROGRAM, TOP, ZEROS, Failure, Skip, run, want, want_run
+from checking import PROGRAM, TOP, ZEROS, Failure, run, want, want_run
 from rows_objects import object_id
 
 GUARDED = os.path.join(TOP, "examples", "guarded.stream")
-PAGE = os.path.join(TOP, "docs", "DESK.md")
 MAIN = "refs/heads/main"
 TRIES = 2000
 
@@ -52,14 +50,20 @@ def push(port, text):
 def desk(store, workers=2, connections=100_000):
     """A desk over a store, by its process and its port, once a connection to it comes about."""
     port = free_port()
-    words = (PROGRAM, store, "-", "serve", str(port), str(workers), str(connections))
-    with subprocess.Popen(words, stdin=subprocess.DEVNULL, stdout=subprocess.PIPE, stderr=subprocess.PIPE) as ran:
+    with opened((PROGRAM, store, "-", "serve", str(port), str(workers), str(connections)), port) as ran:
+        yield ran, port
+
+
+@contextlib.contextmanager
+def opened(words, port, folder=None):
+    """The process of words that open a desk at a port, once it listens."""
+    with subprocess.Popen(words, cwd=folder, stdin=subprocess.DEVNULL, stdout=subprocess.PIPE, stderr=subprocess.PIPE) as ran:
         try:
             ready = ran.stdout.readline()
             if not (ready.startswith(b"ready ") and ready.endswith(b" entries\n")):
                 raise Failure(f"serve printed {ready!r}, and said {ran.stderr.read()!r}")
             wait_for_listener(port, ran)
-            yield ran, port
+            yield ran
         finally:
             ran.kill()
 
@@ -121,26 +125,6 @@ def made_key(repositories, name):
     key = repositories.path(name)
     line_of(KEY_LINE, (PROGRAM, "-", key, "key-gen", "5", "8"))
     return key
-
-
-def answers_by_its_page(repositories):
-    """the lines of docs/DESK.md that ask a desk by curl print what the page says"""
-    if not shutil.which("curl"):
-        raise Skip("there is no curl")
-    with open(PAGE, encoding="utf-8") as file:
-        lines = file.read().partition("## Ask it\n")[2].split("```\n")[1].splitlines()
-    place = repositories.path("asked.db")
-    imported(place, guarded())
-    folder = repositories.path("asking")
-    os.mkdir(folder)
-    os.symlink(LAUNCHER, os.path.join(folder, "gittuf"))
-    count = line_of_log(place)
-    said = f"accepted {MAIN} 4 entries\n".encode()
-    wanted = [b"tip %d %s\n" % count, said, said, b"malformed 14\n"]
-    with desk(place) as (_, port):
-        for line, it in zip(lines, wanted, strict=True):
-            found = run("bash", "-c", line.replace("8080", str(port)), folder=folder)
-            want(found, (0, it, b""), f"what `{line}` prints")
 
 
 def line_of_log(place):
@@ -218,4 +202,4 @@ def takes_what_push_sends(repositories):
     want_run(send(source, free_port(), 1), 4, b"", b"fault\n")
 
 
-CHECKS = (answers_by_its_page, takes_an_entry_once, takes_what_push_sends, ends_after_its_connections, is_refused_a_port)
+CHECKS = (takes_an_entry_once, takes_what_push_sends, ends_after_its_connections, is_refused_a_port)
