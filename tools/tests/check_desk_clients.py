@@ -24,8 +24,9 @@ from stand_in_desk import NUMBER, PARENT, RECORDED
 
 # So many clients push at once, each so many changes, in the longer run more; and while desks are killed so many push.
 CLIENTS, CHANGES, MORE, UNDER_KILLS, WORKERS = 4, 20, 400, 8, 4
-# How many seconds desks are killed over each kind of store, in the longer run more, and how long each lives at most.
-SECONDS, LONGER, LIFE = 2, 30, 1.5
+# How many seconds desks are killed over each kind of store, in the longer run more, and how many each lives at most, more in
+# a run by itself.
+SECONDS, LONGER, LIFE, LONGER_LIFE = 2, 30, 1.5, 6
 STREAM = b"GET /v1/stream HTTP/1.1\r\nhost: localhost\r\n\r\n"
 
 
@@ -158,12 +159,12 @@ class Load:
         return f"{sum(self.ends.values())} kills ({ends}), {taken} entries, {stale} stale, {again} sent again, {already} of them there already"
 
 
-def kill_all(repositories, seconds, seed):
+def kill_all(repositories, seconds, seed, life=LIFE):
     drawn, told = random.Random(seed), []
     for kind, name in (("database", "load.db"), ("folder", "load/")):
         load, end = Load(repositories.path("") + name), time.monotonic() + seconds
         while time.monotonic() < end:
-            load.stop(drawn.uniform(0, LIFE))
+            load.stop(drawn.uniform(0, life))
         told.append(f"{kind}: {load.ended()}")
     return "; ".join(told)
 
@@ -185,7 +186,7 @@ def main():
     print(f"seed {seed}", flush=True)
     with tempfile.TemporaryDirectory(prefix="gittuf-load-") as folder:
         try:
-            print(kill_all(Repositories(folder), int(words[1]) / 2, seed))
+            print(kill_all(Repositories(folder), int(words[1]) / 2, seed, LONGER_LIFE))
         except Failure as why:
             print(f"FAILED   {why}")
             return 1

@@ -2,6 +2,7 @@
 
 import contextlib
 import http.client
+import itertools
 import os
 import re
 import signal
@@ -69,10 +70,11 @@ def opened(words, port, folder=None):
 
 
 def wait_for_listener(port, ran):
-    # A connection that is not used is one of those that a worker serves.
+    # A connection that is not used is one of those that a worker serves. In the table those that listen stand first.
     for _ in range(TRIES):
         with open("/proc/net/tcp", encoding="ascii") as table:
-            if any(f":{port:04X} 00000000:0000 0A" in line for line in table):
+            next(table)
+            if any(f":{port:04X} 00000000:0000 0A" in line for line in itertools.takewhile(lambda it: " 00000000:0000 0A " in it, table)):
                 return
         if ran.poll() is not None:
             break
