@@ -21,10 +21,14 @@ OPENING = b"gittuf: opening the desk on this machine; Ctrl-C stops it\n"
 NAME, USERS, ENCRYPTED = "desk.example", "/etc/nginx/desk.users", re.compile(r" *ssl_certificate.*\n")
 
 
+def page():
+    with open(PAGE, encoding="utf-8") as file:
+        return file.read()
+
+
 def blocks(heading):
     """The blocks of lines below a heading of the page."""
-    with open(PAGE, encoding="utf-8") as file:
-        return file.read().partition(f"## {heading}\n")[2].partition("\n## ")[0].split("```\n")[1::2]
+    return page().partition(f"## {heading}\n")[2].partition("\n## ")[0].split("```\n")[1::2]
 
 
 def does_what_it_says(repositories):
@@ -40,6 +44,7 @@ def does_what_it_says(repositories):
     want(script(first), (0, b"imported\n", b""), f"what `{first}` prints")
     said = b"accepted refs/heads/main 4 entries\n"
     pushes, printed = blocks("Bring it an entry")
+    want(page().count("curl -"), (blocks("Ask it")[0] + pushes).count("curl -"), "how many lines with curl are run")
     with opened(second.replace(PORT, port).split(), int(port), folder):
         answers = (tip_of(int(port)), said, said, b"malformed 14\n")
         lines = blocks("Ask it")[0].splitlines()
