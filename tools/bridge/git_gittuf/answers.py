@@ -60,12 +60,15 @@ class Answers:
         # The sum that was made last, after so many changes, and the answers by such sums.
         self.seen, self.after, self.by_state, self.is_new = None, None, None, False
 
+    def programs(self):
+        """What tells which programs run, and whether they are others."""
+        return [*(f"{it} {os.environ.get(it)!r}" for it in SETTINGS), *map(row_of, program.files())]
+
     def state(self):
         """The sum of all that an answer rests on but ids of references."""
         if self.after != self.kept.changes:
-            settings = [f"{it} {os.environ.get(it)!r}" for it in SETTINGS]
             # Words are texts here, and names are bytes.
-            rows = [sys.getfilesystemencoding(), *settings, *self.kept.rows(), *map(row_of, program.files())]
+            rows = [sys.getfilesystemencoding(), *self.kept.rows(), *self.programs()]
             text = "\n".join(rows).encode(errors="surrogateescape")
             self.seen, self.after = hashlib.sha256(text).hexdigest(), self.kept.changes
         return self.seen

@@ -2,7 +2,7 @@
 
 import os
 
-from git_gittuf import consents, copying, following, history, keys, leaves, looking, names, remotes, sentences, settings, skipping, stores
+from git_gittuf import consents, copying, following, fronts, history, keys, leaves, looking, names, remotes, sentences, settings, skipping, stores
 from git_gittuf.program import Ended
 from git_gittuf.remotes import is_before
 from git_gittuf.repository import ATTESTATIONS, LOG, REMOTES, ZEROS, Stopped
@@ -16,6 +16,7 @@ def setup(work, words):
     if words.entry is not None:
         settings.keep(work.repository, settings.ENTRY, words.entry)
     if words.anew:
+        fronts.forget(work)
         work.kept.remove()
         work.kept.make()
     if words.store:
@@ -106,9 +107,10 @@ def recorded_by(work, name, value, path, anyway=False):
 
 def record(work, words):
     repository = work.repository
-    work.bring()
     name = names.own_name(repository, words.branch)
     expect_own(name)
+    # What it stands at comes with all else, so that the log is read once.
+    work.bring(maybe=[it for it in [repository.references().get(name)] if it])
     value = repository.references().get(name)
     if value is None and history.last_recorded(looking.entries_of(work), name)[1] is None:
         raise names.no_such(repository, words.branch, history.recorded_names(work))

@@ -6,7 +6,7 @@ protects it or the log speaks of it. The program judges, over the store as it wo
 
 import os
 
-from git_gittuf import damage, epochs, following, gate_sentences, history, looking, settings, skipping, verifying
+from git_gittuf import damage, epochs, following, fronts, gate_sentences, history, looking, settings, skipping, verifying
 from git_gittuf.program import Ended
 from git_gittuf.remotes import is_before
 from git_gittuf.repository import ATTESTATIONS, LOG, OWN, POLICY, TARGETS, ZEROS, Stopped
@@ -87,6 +87,8 @@ class Gate:
         self.new = [it for it in self.entries[self.count :] if it[2] == b"ref"]
         self.recorded = {rest[0] for _, _, kind, rest in self.entries if kind == b"ref"}
         self.skipped = self.newly_skipped()
+        # Where references stand that were found to be accepted.
+        self.accepted = {}
 
     def asked(self, *words):
         status, printed = self.work.read(*words)
@@ -139,6 +141,7 @@ class Gate:
         status, printed = self.asked("verify-ref", os.fsdecode(name), *looking.root_words(self.work))
         line = os.fsdecode(printed).strip()
         if not status:
+            self.accepted[name] = self.work.repository.references().get(name, ZEROS)
             return None
         if name in self.skipped and self.stays(name):
             return self.of_skipped(name, line)
@@ -198,6 +201,34 @@ def of_folders(work, push):
     return None
 
 
+def is_judged_before(work, push):
+    """Whether a push is lawful by what was judged of the log before it and by its entries alone, where that is told."""
+    (old, new), repository = push.log, work.repository
+    front = fronts.read(work) if old and new else None
+    if not front or not repository.are_commits([old, new]) or not is_before(repository, old, new) or of_folders(work, push):
+        return False
+    own = fronts.behind(repository, old, new)
+    later = own if front.tip == old else fronts.behind(repository, front.tip, new)
+    spoken = fronts.recorded_by(own, old) if own is not None else None
+    start = fronts.seconds_used()
+    found = fronts.extended(work, front, later) if None not in (spoken, later) else None
+    after, names = {**repository.references(), **push.after()}, {*push.moves, *(name for name, _ in spoken or ())} - {LOG}
+    if found is None or not all(is_known_lawful(found, it, after.get(it) or ZEROS) for it in names):
+        return False
+    if later:
+        fronts.learn(work, found, fronts.seconds_used() - start)
+    return True
+
+
+def is_known_lawful(front, name, value):
+    """Whether a reference may stand there by what was judged, or is free."""
+    if name.startswith(TARGETS):
+        return name[len(TARGETS) :] == value and (name not in front.names or front.names[name] == value)
+    if name in front.names:
+        return front.names[name] == value
+    return name.startswith(OWN) and name not in (POLICY, ATTESTATIONS) and is_reference_name(name)
+
+
 def judged(work, push):
     said = of_log(work, push) or of_folders(work, push)
     if said:
@@ -205,11 +236,18 @@ def judged(work, push):
     if push.log[1] is None:
         return []
     with work.pushed(push.after()):
-        return Gate(work, push).refusals()
+        start = fronts.seconds_used()
+        gate = Gate(work, push)
+        found = gate.refusals()
+        if not found:
+            fronts.keep(work, gate.entries, gate.accepted, fronts.seconds_used() - start)
+        return found
 
 
 def refusals(work, push):
     """Why a push is refused, or nothing where it is taken."""
+    if is_judged_before(work, push):
+        return []
     work.copy()
     try:
         return judged(work, push)

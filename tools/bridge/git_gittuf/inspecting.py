@@ -70,11 +70,14 @@ def objects_in(printed):
     return found if found and not last and all(isinstance(it, dict) for it in found) else None
 
 
-def told(work, *words):
-    """What it tells by these words, as objects, or nothing where it is not here or tells something else. Its status says no more."""
+def told(work, *words, store=None):
+    """What it tells by these words, as objects, or nothing where it is not here or tells something else. Its status says no more.
+
+    It is told of the store of the call, or of another one.
+    """
     path = place()
     try:
-        status, printed, _ = program.ended(path, (work.kept.for_program(), *words), b"", True) if path else (None, b"", b"")
+        status, printed, _ = program.ended(path, (store or work.kept.for_program(), *words), b"", True) if path else (None, b"", b"")
     except Stopped:
         # It cannot be begun here.
         return None
