@@ -195,6 +195,34 @@ def signs_nothing_unlawful(repositories):
         want((stands.ran("bob", "record", "main")[0], clones.used("bob") - before), (0, 1), f"the status where it tells {str(it)[:80]}")
 
 
+def approves_what_is_wanted(repositories):
+    """approve asks gittuf-inspect what an entry would be that nobody signs, and where it tells anything else the program"""
+    clones = another(repositories, "wanted")
+    clones.gittuf("alice", "policy", "rule", "main", "--threshold", "2")
+    clones.sign("alice")
+    clones.gittuf("alice", "policy", "apply")
+    clones.gittuf("alice", "push")
+    clones.git("fetch", "--quiet", who="bob")
+    clones.gittuf("bob", "verify", "main")
+    stands, target = StandIn(clones, "stand-in"), clones.commit("bob")
+    rule = {"kind": "ref-rule", "rule": "main", "got": 0, "need": 2}
+    wanted = [of_entry(clones, target, number=4, verdict="refused"), {"fault": rule, "number": 4, "reference": MAIN, "verdict": "violation"}]
+    stands.tells([of_entry(clones, target, number=4)])
+    before, log = clones.used("bob"), clones.tip("bob", LOG)
+    status, _, errors = stands.ran("bob", "approve", "main", "main")
+    want((status, b"no rule wants a signature" in errors, stands.lines_in("told")), (3, True, ["would"]), f"what is refused: {errors}")
+    want((clones.used("bob"), clones.tip("bob", LOG)), (before, log), "the leaves that are used then, and the log")
+    given = [{**wanted[0], "signers": [clones.gittuf("bob", "key", "--id").decode().strip()]}, wanted[1]]
+    stands.tells(given, 1)
+    want(b"you approved it already" in stands.ran("bob", "approve", "main", "main")[2], True, "whether what is there already is told")
+    unsigned = lambda: [it for it in stands.lines_in("asked") if it.startswith(f"verify-ref {MAIN} ") and log not in it]
+    for it in (wanted, [], wanted[:1], [of_entry(clones, target)], [{**wanted[0], "reference": "refs/heads/other"}, wanted[1]]):
+        clones.git("update-ref", LOG, log, who="bob")
+        clones.git("update-ref", "-d", "refs/gittuf/attestations", who="bob")
+        stands.tells(it, 1)
+        want((stands.ran("bob", "approve", "main", "main")[0], len(unsigned())), (0, 0 if it is wanted else 1), f"what is asked where it tells {str(it)[:80]}")
+
+
 def asks_for_rules_at_once(repositories):
     """which rules protect many names of a long log is asked over its policies alone, and answered as over all of it; once each where that differs"""
     clones = another(repositories, "many rules")
@@ -223,6 +251,7 @@ def asks_for_rules_at_once(repositories):
 
 
 CHECKS = (
+    approves_what_is_wanted,
     asks_for_rules_at_once,
     are_lines,
     takes_nothing_else,

@@ -38,6 +38,27 @@ def holds_leaves(clones, who, *words, part):
     want(clones.used(who), before, f"how many leaves of {who} are used by git gittuf {' '.join(words)}")
 
 
+def approves_no_other_paths(repositories):
+    """who is asked for paths alone approves no change of others: nothing is signed, and with one of these paths it is"""
+    clones = of_three(repositories, "approved for paths")
+    clones.gittuf("alice", "policy", "rule", "main", "--persons", "alice,carol")
+    applied(clones, "alice")
+    clones.gittuf("alice", "push")
+    for who in ("bob", "carol"):
+        clones.git("fetch", "--quiet", who=who)
+    clones.commit("carol")
+    clones.git("push", "--quiet", "origin", "main:idea", who="carol")
+    clones.git("fetch", "--quiet", who="bob")
+    part = "nothing is approved, as rule main wants 2 of alice, carol, and the rules for main and for paths ask alice, carol, and not you"
+    holds_leaves(clones, "bob", "approve", "main", "origin/idea", part=part + ANYWAY)
+    clones.commit("carol", "docs/page")
+    clones.git("push", "--quiet", "origin", "main:idea", who="carol")
+    clones.git("fetch", "--quiet", who="bob")
+    used = clones.used("bob")
+    clones.gittuf("bob", "approve", "main", "origin/idea")
+    want(clones.used("bob"), used + 2, "how many leaves are used")
+
+
 def approves_nothing_in_vain(repositories):
     """an approval that no rule wants, or not of this key, or that was given already, is refused with the rule and who is missing"""
     clones = of_three(repositories, "approved in vain")
@@ -216,6 +237,7 @@ def names_nobody_unproved(repositories):
 
 CHECKS = (
     approves_nothing_in_vain,
+    approves_no_other_paths,
     approves_for_more,
     approves_no_way_into_a_violation,
     skips_nothing_in_vain,
