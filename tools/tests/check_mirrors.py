@@ -4,7 +4,7 @@ import hashlib
 import os
 import shutil
 
-from checking import LAUNCHER, PROGRAM, at_terminal, run, want
+from checking import GIT_TO_STREAM, LAUNCHER, PROGRAM, at_terminal, run, want, want_run
 from guarded_clones import MAIN, another
 
 LOG = "refs/gittuf/reference-state-log"
@@ -145,6 +145,38 @@ def shows_a_leaf_used_twice(repositories):
         want(clones.gittuf("bob", "evidence", "--check", path, status=status), output, f"what the dossier shows that is {name}")
 
 
+def names_who_had_the_key(repositories):
+    """a dossier of a key that the policy names no more tells whose it was, and is made without its public part"""
+    clones = mirrored(repositories, "rotated key")
+    shutil.copyfile(clones.path("bob.key"), clones.path("copy.key"))
+    shutil.copyfile(clones.path("bob.key.pub"), clones.path("copy.key.pub"))
+    clones.gittuf("bob", "verify", "main")
+    first = note(clones, "bob", "first")
+    clones.clone("other", key=False)
+    clones.git("config", "gittuf.key", clones.path("copy.key"), who="other")
+    second = note(clones, "other", "second")
+    for who in ("bob", "other"):
+        clones.git("fetch", "--quiet", clones.path(who), f"+{LOG}:refs/theirs/{who}", who="carol")
+    clones.gittuf("bob", "key", "--file", clones.path("new.key"), "--height", "5")
+    clones.gittuf("alice", "policy", "rotate", "bob", clones.public("bob"))
+    clones.sign("alice")
+    clones.gittuf("alice", "policy", "apply")
+    clones.gittuf("alice", "push")
+    clones.git("fetch", "--quiet", who="carol")
+    clones.gittuf("carol", "verify", "main")
+    path = clones.path("rotated.dossier")
+    want(clones.gittuf("carol", "evidence", first, second, "-o", path, "--from", made_store(clones, "carol")).startswith(b"fork 3\n"), True, "what is shown")
+    _, said = at_terminal("git gittuf evidence --check ../rotated.dossier", clones.path("carol"))
+    want("bob (by a key that the policy names no more) signed two entries of number 3" in said, True, f"what is said: {said}")
+
+
+def made_store(clones, who):
+    """A store of all that a clone has, for who is to find there what no log of theirs has."""
+    place = clones.path("all/")
+    want_run((LAUNCHER, place, "-", "import"), 0, b"imported\n", input=run(GIT_TO_STREAM, clones.path(who))[1])
+    return place
+
+
 def refuses_what_shows_nothing(repositories):
     """no dossier is written of entries of two keys, of one entry, or of two that were signed in turn, and each is told"""
     clones = mirrored(repositories, "no dossier")
@@ -237,6 +269,7 @@ CHECKS = (
     only_grows,
     keeps_another_past,
     shows_a_leaf_used_twice,
+    names_who_had_the_key,
     refuses_what_shows_nothing,
     shows_nothing_of_changed_dossiers,
     is_mended_by_an_offer,

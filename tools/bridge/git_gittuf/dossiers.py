@@ -5,7 +5,7 @@ import os
 import re
 
 import stream_format
-from git_gittuf import commands, keys, mirror_places, policies, program, signers
+from git_gittuf import commands, epochs, history, keys, mirror_places, policies, program, settings, signers
 from git_gittuf.program import Ended
 from git_gittuf.repository import LOG, Stopped
 from git_gittuf.shown import plain, quoted
@@ -53,9 +53,24 @@ def people(work):
     return signers.in_force(work) if LOG in work.repository.references() else People()
 
 
+def earlier(work):
+    """The persons of each policy that was in force, the last one first, and nobody where the log is none."""
+    status, printed = work.read("log") if LOG in work.repository.references() else (0, b"")
+    found = [] if status else epochs.of_entries(work.repository, history.entries(printed), settings.held_to(work.repository))
+    return [People(policies.Policy(work.repository, target)) for _, target in reversed(found)]
+
+
+def holder(work, key):
+    """How the holder of a key is named: as the policy in force does, or one before, or by the front of the key's id."""
+    now = people(work)
+    before = None if key in now.persons else next((it for it in earlier(work) if key in it.persons), None)
+    return f"{before.shown(key)} (by a key that the policy names no more)" if before else now.shown(key)
+
+
 def publics(work):
-    """The public keys that are known here by their ids: those of the policies that are in force or edited, and the own one."""
-    found = dict(people(work).publics)
+    """The public keys that are known here by their ids: those of policies that were in force or are edited, and the own one."""
+    found = {key: public for it in reversed(earlier(work)) for key, public in it.publics.items()}
+    found.update(people(work).publics)
     try:
         found.update(policies.edited(work).publics())
     except Stopped:
@@ -87,7 +102,7 @@ def key_for(work, words, sides):
     """The public key that both entries name, by its digits."""
     named = [it.key for it in sides]
     if None in named or named[0] != named[1]:
-        shown = [people(work).shown(it) for it in named]
+        shown = [holder(work, it) for it in named]
         raise Stopped(f"one is signed by {shown[0]} and the other by {shown[1]}: a dossier shows what one key signed", 3)
     if words.key is not None:
         if not KEY.fullmatch(words.key) or hashlib.sha256(bytes.fromhex(words.key)).hexdigest() != named[0]:
@@ -115,7 +130,7 @@ def of_line(line, text, who):
         )
     if kind == "reuse":
         return (
-            f"The leaf {value} of {who}'s key signed two messages, so others can forge by it: the key file was copied, put back"
+            f"The leaf {value} of the key of {who} signed two messages, so others can forge by it: the key file was copied, put back"
             " or stolen. git gittuf policy rotate gives another key in its place."
         )
     return "It shows nothing: the entries are one, or have two numbers and two leaves, or are not both well signed by this key."
@@ -130,7 +145,7 @@ def told(work, text):
         raise Ended(("evidence-check",), status, printed)
     show(printed)
     key = hashlib.sha256(bytes.fromhex(HEAD.match(text)[1].decode())).hexdigest()
-    who = people(work).shown(key)
+    who = holder(work, key)
     for line in os.fsdecode(printed).splitlines():
         say(of_line(line, text, who))
     return status
