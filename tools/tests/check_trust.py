@@ -65,6 +65,18 @@ def keeps_what_was_seen(repositories):
     want(clones.gittuf("newcomer", "verify", "main", status=1), REFUSED, "the verdict by another first policy")
 
 
+def asks_nobody_for_ones_own(repositories):
+    """who made the first policy alone is told that it is their own, and asked for no id; everybody else is"""
+    clones = another(repositories, "one's own")
+    told = {"alice": (True, False), "bob": (False, True)}
+    for who, wanted in told.items():
+        clones.git("config", "--unset", "gittuf.firstRoot", who=who)
+        clones.gittuf(who, "policy", "show")
+        clones.git("config", "--unset", "gittuf.firstRoot", who=who)
+        _, said = at_terminal("git gittuf verify main && git gittuf verify main", clones.path(who))
+        want(("is your own" in said, "said by nobody" in said), wanted, f"what {who} is told: {said}")
+
+
 def judges_in_ci(repositories):
     """the lines of docs/IN-CI.md judge a plain clone that stands at a commit alone, and stop where nobody said whose the root is"""
     clones = another(repositories, "ci")
@@ -84,4 +96,4 @@ def judges_in_ci(repositories):
     want((status, b"tip-differs refs/heads/main" in output), (1, True), f"what the lines do then: {output}{errors}")
 
 
-CHECKS = (keeps_what_was_said, keeps_what_was_seen, judges_in_ci)
+CHECKS = (keeps_what_was_said, keeps_what_was_seen, asks_nobody_for_ones_own, judges_in_ci)

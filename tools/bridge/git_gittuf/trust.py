@@ -34,11 +34,16 @@ def see(work):
         return None
     keep(work.repository, SEEN, root)
     who = ", ".join(map(plain, policy.role("root").get("persons", []))) or "these keys"
-    # Nobody else is to be asked for one's own key.
-    asked = "" if root == signers.own_key(work.repository) else "ask them for the ids of their keys, and "
-    way = f"{asked}git gittuf setup --root {root} pins it"
-    print(f"git-gittuf: the first policy seen here is that of {who}, and each later one is to come from it: {way}", file=sys.stderr, flush=True)
+    whose, way = f"that of {who}", f": ask them for the ids of their keys, and git gittuf setup --root {root} pins it"
+    if is_own(work, root):
+        whose, way = "your own", ""
+    print(f"git-gittuf: the first policy seen here is {whose}, and each later one is to come from it{way}", file=sys.stderr, flush=True)
     return root
+
+
+def is_own(work, root):
+    """Whether just the key here has to have signed the first policy, which nobody else then can have made."""
+    return root is not None and root == signers.own_key(work.repository)
 
 
 def anchor(work, words):

@@ -8,7 +8,7 @@ from git_gittuf import accounts, asking, consents, copying, damage, history, nam
 from git_gittuf.global_verdicts import GlobalVerdicts
 from git_gittuf.remotes import is_before
 from git_gittuf.repository import LOG, OWN, Stopped
-from git_gittuf.settings import SEEN
+from git_gittuf.settings import SEEN, key_ids
 from git_gittuf.shown import plain, plain_name
 from git_gittuf.telling import is_heard, say, show, tell
 
@@ -109,7 +109,8 @@ def said_of(work, meant, line, source):
 
 def of_accepted(work, meant, source):
     """What is added where a verdict rests on less than it may seem to."""
-    return of_unprotected(work, meant.name) + (sentences.UNPINNED if source == SEEN else "")
+    is_unpinned = source == SEEN and not trust.is_own(work, key_ids(work.repository, SEEN))
+    return of_unprotected(work, meant.name) + (sentences.UNPINNED if is_unpinned else "")
 
 
 def of_unprotected(work, name):
