@@ -53,7 +53,8 @@ def stops_before_it_leaves(repositories):
     for who in ("alice", "bob"):
         clones.gittuf(who, "hook", "install")
     clones.commit("alice")
-    refused_here(clones, "alice", "--quiet", part="git gittuf record main records that, and git gittuf push main takes it")
+    way = "git gittuf record main records that, and git gittuf push main takes it with the log that records it"
+    refused_here(clones, "alice", "--quiet", part=f"{way}; who may not change main shows it by git push origin HEAD:refs/heads/idea, say")
     clones.gittuf("alice", "record", "main")
     refused_here(clones, "alice", "origin", "main", part="main would stand at")
     clones.git("branch", "topic", who="alice")

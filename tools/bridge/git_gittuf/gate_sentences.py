@@ -24,7 +24,7 @@ def of_tip(line, numbers):
     if numbers:
         says = f"stands at {recorded[:12]}" if int(recorded, 16) else "is gone"
         return f"entry {numbers[-1]} says that {name.shown} {says}, and by this push it would {stands}: git gittuf push takes along what is recorded"
-    records = f"git gittuf record {name.word} records that, and {way}"
+    records = f"git gittuf record {name.word} records that, and {way}; who may not change {name.shown} shows it by git push origin HEAD:refs/heads/idea, say"
     if not int(recorded, 16):
         return f"{name.shown} would {stands}, a rule protects it, and no entry says that it does: {records}"
     return f"{name.shown} would {stands}, and the log has it at {recorded[:12]}: {records}"
