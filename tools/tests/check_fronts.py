@@ -81,6 +81,22 @@ def pushed(clones, who):
     clones.git("push", "--quiet", who=who)
 
 
+def asks_for_what_takes_less(repositories):
+    """where judging what is new was seen to take more than judging the whole log, the program judges it whole, until the log is much longer"""
+    rows = (((9, 100), (1, 101), True), ((1, 100), (9, 101), False), ((1, 100), (9, 49), True), ((0.1, 9), (0.4, 9), True), ((1, 9), (0, 0), True))
+    for whole, new, is_worth_it in rows:
+        want(fronts.Costs(whole, new).is_worth_it(), is_worth_it, f"whether that is worth it where it takes {whole} and {new}")
+    clones, stands = installed(repositories, "judged for less")
+    pushed(clones, "alice")
+    # It tells that, and takes its time.
+    for it in ("[sum(range(1 << 26)) and it]", ""):
+        stands.changes(it)
+        pushed(clones, "alice")
+        want(stands.found(), (0, ["log"]) if it else (1, []), "what is asked")
+        want(os.path.exists(clones.path("server.git/gittuf/chain")), False, "whether there is a chain")
+    clones.verdict("alice", f"accepted {MAIN} 4 entries")
+
+
 def judges_what_is_new(repositories):
     """the hook of a server asks the program for no verdict on a branch that it judged before, and refuses what is unlawful as ever"""
     clones, stands = installed(repositories, "judged before")
@@ -197,6 +213,7 @@ def concludes_nothing_odd(repositories):
 
 CHECKS = (
     is_told_of_it,
+    asks_for_what_takes_less,
     judges_what_is_new,
     goes_by_the_policy_in_force,
     concludes_nothing_odd,
