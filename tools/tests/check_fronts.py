@@ -183,6 +183,13 @@ def is_told_of_it(repositories):
     want(FRONT.behind([seen[1:], new[1:]], b"b" * 64).names, {**FRONT.names, new[1]: new[2]}, "what is known then")
 
 
+def replaced_by_folder(path):
+    """Lets a folder stand where a file does, or is to."""
+    if os.path.exists(path):
+        os.remove(path)
+    os.makedirs(path)
+
+
 def concludes_nothing_odd(repositories):
     """where gittuf-inspect tells anything else of a new entry, or what was kept is not as it was written, the program judges"""
     clones, stands = installed(repositories, "told oddly")
@@ -200,6 +207,7 @@ def concludes_nothing_odd(repositories):
         "an entry of the chain that is gone": lambda: os.remove(entry(0)),
         "an object more": lambda: open(kept(f"chain/objects/{'0' * 64}"), "wb").close(),
         "an entry of the chain": lambda: spoiled(entry(2)),
+        "a folder in the place of its log": lambda: replaced_by_folder(kept(f"chain/{LOG}")),
         "a policy of the chain": lambda: spoiled(kept(f"chain/objects/{clones.tip('server.git', f'{POLICY}:metadata/targets.json')}")),
     }
     for name, change in changes.items():

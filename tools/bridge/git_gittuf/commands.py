@@ -15,8 +15,9 @@ def setup(work, words):
         settings.keep(work.repository, settings.SAID, words.root)
     if words.entry is not None:
         settings.keep(work.repository, settings.ENTRY, words.entry)
-    if words.anew:
+    if words.anew or words.store:
         fronts.forget(work)
+    if words.anew:
         work.kept.remove()
         work.kept.make()
     if words.store:

@@ -4,6 +4,7 @@ Each reference that a push moves is judged, and each of which its entries speak 
 protects it or the log speaks of it. The program judges, over the store as it would be after the push.
 """
 
+import contextlib
 import os
 
 from git_gittuf import damage, epochs, following, fronts, gate_sentences, history, looking, settings, skipping, verifying
@@ -246,8 +247,10 @@ def judged(work, push):
 
 def refusals(work, push):
     """Why a push is refused, or nothing where it is taken."""
-    if is_judged_before(work, push):
-        return []
+    # Where what was kept cannot be read or written nothing is concluded.
+    with contextlib.suppress(OSError):
+        if is_judged_before(work, push):
+            return []
     work.copy()
     try:
         return judged(work, push)
