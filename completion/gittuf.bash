@@ -20,6 +20,7 @@ _gittuf() {
             case ${COMP_WORDS[3]} in
                 key-gen) [ "$COMP_CWORD" -eq 4 ] && _gittuf_reply -W '5 10 15' || _gittuf_reply -W '1 2 4 8' ;;
                 seal) _gittuf_reply -W --add ;;
+                serve) _gittuf_reply -W --gate ;;
                 annotate) [ "$COMP_CWORD" -eq 4 ] && _gittuf_reply -W 'skip note' || _gittuf_reply -W --message ;;
                 verify-ref) _gittuf_reply -W "$(_gittuf_references) --root --stdin" ;;
                 verify-global) _gittuf_reply -W "$(_gittuf_references) --root" ;;

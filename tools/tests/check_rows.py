@@ -1,11 +1,11 @@
-"""The checks of tools/test on the rows that crates/tests_rows and unproved/tests_desk run."""
+"""The checks of tools/test on the rows that crates/tests_rows, unproved/tests_desk and unproved/tests_gate run."""
 
 import os
 
 from checking import TOP, want, want_run
 
 # What makes rows, by the crate that runs them.
-MAKERS = {"crates/tests_rows": "make-rows", "unproved/tests_desk": "make-pushes"}
+MAKERS = {"crates/tests_rows": "make-rows", "unproved/tests_desk": "make-pushes", "unproved/tests_gate": "make-gates"}
 # Keys and signatures are made in Python, which takes a minute and a half of processor time.
 MOST_SECONDS = 900
 
@@ -34,4 +34,9 @@ def makes_the_kept_pushes(repositories):
     makes(repositories, "unproved/tests_desk")
 
 
-CHECKS = (makes_the_kept_rows, makes_the_kept_pushes)
+def makes_the_kept_gates(repositories):
+    """make-gates makes the rows of a gate and the wanted lines that are kept"""
+    makes(repositories, "unproved/tests_gate")
+
+
+CHECKS = (makes_the_kept_rows, makes_the_kept_pushes, makes_the_kept_gates)

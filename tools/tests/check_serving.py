@@ -48,10 +48,11 @@ def push(port, text):
 
 
 @contextlib.contextmanager
-def desk(store, workers=2, connections=100_000):
-    """A desk over a store, by its process and its port, once a connection to it comes about."""
+def desk(store, workers=2, connections=100_000, gate=False):
+    """A desk or a gate over a store, by its process and its port, once a connection to it comes about."""
     port = free_port()
-    with opened((PROGRAM, store, "-", "serve", str(port), str(workers), str(connections)), port) as ran:
+    words = (PROGRAM, store, "-", "serve", str(port), str(workers), str(connections), *["--gate"] * gate)
+    with opened(words, port) as ran:
         yield ran, port
 
 

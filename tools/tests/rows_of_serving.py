@@ -6,6 +6,7 @@ from rows_of_logs import entry_body
 from rows_runs import Anew, Run, done, failing, refused, room
 
 OUTSIDE = ("0 1 1", "65536 1 1", "1 0 1", "1 65 1", "1 1 0", "1 1 1000001", "01 1 1", "1 1", "1 1 1 1", "1 1 x", "")
+OUTSIDE += ("1 1 1 --gate --gate", "1 1 1 --gate=1", "1 1 1 -- --gate", "1 1 --gate", "1 1 1 --gates")
 WORDS = "serve 8080 2 1000"
 
 
@@ -32,6 +33,8 @@ def desks_that_are_ready():
         History(),
         ready("serve 1 1 1", 0),
         ready("serve 65535 64 1000000", 0),
+        ready("serve 1 1 1 --gate", 0),
+        ready("serve --gate 65535 64 1000000", 0),
         *log_of(1),
         ready(WORDS, 1),
         *log_of(3),

@@ -1,5 +1,5 @@
 -- The same words ask for one command at most, and words after a first word are those of the command that it names.
-use Rattle.std.proofs.Common.{◌≡◌, ◌<◌, ◌≤◌, ◌^◌, ℕ, Bool, true, false, List, ◌∷◌, length, arith, refl, sym, ap, ◌∙◌, subst, lit<}
+use Rattle.std.proofs.Common.{◌≡◌, ◌<◌, ◌≤◌, ◌^◌, ℕ, Bool, true, false, List, ◌∷◌, length, arith, refl, sym, ap, ◌∙◌, subst}
 use Rattle.std.specs.Prelude.{◌≢◌, Option, Some, None, codes, if◌then◌else◌}
 use Rattle.std.specs.Option.{IsSomeAnd}
 use Rattle.std.specs.Str.{bytes_eq}
@@ -13,7 +13,7 @@ use Rattle.command_words.specs.Numbers.{IsCount, IsUpTo}
 use Rattle.command_words.specs.Spaced.{IsSpaced}
 use Rattle.command_words.proofs.SameName.{same_name, same_some}
 use Rattle.command_words.proofs.OneValue.{same_count, same_ids, same_space, same_name as same_spaced_name}
-use Rattle.command_words.specs.Commands.{IsAsked, IsRoot, IsBottom, IsKey, IsMessage, IsTarget, annotate_app, demo_app, explain_app, height_text, kind_text, width_text}
+use Rattle.command_words.specs.Commands.{IsAsked, IsRoot, IsBottom, IsKey, IsMessage, IsTarget, annotate_app, explain_app, height_text, kind_text, width_text}
 use Rattle.command_words.specs.FirstWords.{AsksFor, AsksForNone, IsCommand, IsNoCommand, IsWithinLimits, name_text}
 use Rattle.command_words.specs.Grammars.{value_of}
 use Rattle.command_words.specs.Laws.{OneCommand}
@@ -209,11 +209,12 @@ one_after name.EvidenceMake rest a b is other =
     cc
 one_after name.EvidenceCheck rest a b is other = is.0 ∙ sym other.0
 one_after name.Serve rest a b is other =
-    let ports : is.0 ≡ other.0 = same_number 65535 (omega arith) _ is.0 other.0 is.4.is_port other.4.is_port in
-    let workers : is.1 ≡ other.1 = same_number 64 (omega arith) _ is.1 other.1 is.4.are_workers other.4.are_workers in
-    let connections : is.2 ≡ other.2 = same_number 1000000 (omega arith) _ is.2 other.2 is.4.are_connections other.4.are_connections in
-    let named : a ≡ Serve is.0 is.1 is.2 = is.3 in
-    let named_so : b ≡ Serve other.0 other.1 other.2 = other.3 in
+    let ports : is.0 ≡ other.0 = same_number 65535 (omega arith) _ is.0 other.0 is.5.is_port other.5.is_port in
+    let workers : is.1 ≡ other.1 = same_number 64 (omega arith) _ is.1 other.1 is.5.are_workers other.5.are_workers in
+    let connections : is.2 ≡ other.2 = same_number 1000000 (omega arith) _ is.2 other.2 is.5.are_connections other.5.are_connections in
+    let gates : is.3 ≡ other.3 = sym is.5.flag ∙ other.5.flag in
+    let named : a ≡ Serve is.0 is.1 is.2 is.3 = is.4 in
+    let named_so : b ≡ Serve other.0 other.1 other.2 other.3 = other.4 in
     cc
 one_after name.Push rest a b is other =
     let ports : is.0 ≡ other.0 = same_number 65535 (omega arith) _ is.0 other.0 is.3.is_port other.3.is_port in
@@ -276,6 +277,6 @@ within_after name.Mirror rest command asks = subst IsWithinLimits (sym asks.0) t
 within_after name.EvidenceMake rest command asks = subst IsWithinLimits (sym asks.3) asks.4.key.is_public
 within_after name.EvidenceCheck rest command asks = subst IsWithinLimits (sym asks.0) tt
 within_after name.Serve rest command asks =
-    subst IsWithinLimits (sym asks.3) (up_to 65535 _ asks.0 asks.4.is_port, up_to 64 _ asks.1 asks.4.are_workers, up_to 1000000 _ asks.2 asks.4.are_connections)
+    subst IsWithinLimits (sym asks.4) (up_to 65535 _ asks.0 asks.5.is_port, up_to 64 _ asks.1 asks.5.are_workers, up_to 1000000 _ asks.2 asks.5.are_connections)
 within_after name.Push rest command asks =
     subst IsWithinLimits (sym asks.2) (up_to 65535 _ asks.0 asks.3.is_port, up_to 1000000 _ asks.1 asks.3.is_number)

@@ -264,11 +264,11 @@ plain_words = record {
     asks = (public, left, right, refl, evidence_asks public left right is_public is_left is_right);
   };
   evidence_check = record { first = name.EvidenceCheck; rest = []; are = refl; asks = (refl, no_more (codes "evidence-check")) };
-  serve = λ port workers connections p w c. record {
+  serve = λ port workers connections gate p w c. record {
     first = name.Serve;
-    rest = decimal port ∷ decimal workers ∷ decimal connections ∷ [];
+    rest = decimal port ∷ decimal workers ∷ decimal connections ∷ flag_words (codes "--gate") gate;
     are = refl;
-    asks = (port, workers, connections, refl, serve_asks port workers connections p w c);
+    asks = (port, workers, connections, gate, refl, serve_asks port workers connections gate p w c);
   };
   push = λ port number p n. record {
     first = name.Push;

@@ -1,5 +1,5 @@
 -- Values that begin with no dash are taken as values.
-use Rattle.std.proofs.Common.{◌≡◌, ◌≢◌, ◌≤◌, ◌<◌, ◌^◌, ◌==◌, ℕ, Bool, true, false, List, [], ◌∷◌, ◌++◌, get_or, length, slice_index, inl, inr, refl, sym, ap, subst, ◌∙◌, arith}
+use Rattle.std.proofs.Common.{◌≡◌, ◌≢◌, ◌≤◌, ◌<◌, ◌==◌, ℕ, Bool, true, false, List, [], ◌∷◌, ◌++◌, get_or, length, inl, inr, refl, sym, ap, subst, ◌∙◌, arith}
 use Rattle.std.specs.Prelude.{◌⊎◌, Option, Some, None, codes, decimal, map}
 use Rattle.std.specs.List.{join_with_byte}
 use Rattle.std.specs.Option.{IsSomeAnd}
@@ -17,8 +17,8 @@ use Rattle.evidence.proofs.KeyLines.{is_lower}
 use Rattle.evidence.specs.Dossiers.{IsPublic}
 use Rattle.command_words.specs.Ids.{AreIds}
 use Rattle.command_words.specs.Numbers.{IsCount}
-use Rattle.command_words.specs.Commands.{AsksApproval, AsksDemo, AsksDossier, AsksNote, IsAsked, IsMessage, annotate_app, approve_app, demo_app, evidence_app, kind_text}
-use Rattle.command_words.specs.Grammars.{Takes, is_given, value_of}
+use Rattle.command_words.specs.Commands.{AsksApproval, AsksDemo, AsksDossier, AsksNote, IsMessage, annotate_app, approve_app, demo_app, evidence_app, kind_text}
+use Rattle.command_words.specs.Grammars.{Takes, value_of}
 use Rattle.command_words.proofs.LetterFirst.{letter_first}
 
 -- a text begins with a byte that is no dash

@@ -200,19 +200,21 @@ pub record AsksKey (height : Height) (width : Width) (bottom : Option Height) (w
   pub is_width : value_of key_gen_app (codes "width") words ≡ Some (width_text width)
   pub is_bottom : IsBottom (value_of key_gen_app (codes "bottom") words) height bottom
 
--- ---- serve <port> <workers> <connections>
+-- ---- serve <port> <workers> <connections> [--gate]
 
 abbrev pub serve_app : App
-serve_app = with_rule (with_rule (with_rule (bare_app (codes "serve")) (positional_rule (codes "port")))
-    (positional_rule (codes "workers"))) (positional_rule (codes "connections"))
+serve_app = with_rule (with_rule (with_rule (with_rule (bare_app (codes "serve")) (positional_rule (codes "port")))
+    (positional_rule (codes "workers"))) (positional_rule (codes "connections"))) (flag_rule (codes "gate"))
 
--- a port, from 1 to 65,535, a number of workers, from 1 to 64, and of the connections of each, from 1 to 1,000,000
-pub record AsksService (port workers connections : ℕ) (words : List (List ℕ)) : Type 0 where
+-- a port, from 1 to 65,535, a number of workers, from 1 to 64, and of the connections of each, from 1 to 1,000,000, and
+-- whether the flag is given
+pub record AsksService (port workers connections : ℕ) (gate : Bool) (words : List (List ℕ)) : Type 0 where
   pub takes : Takes serve_app words
   pub is_port : IsSomeAnd (value_of serve_app (codes "port") words) (λ text. IsCount 65535 text port)
   pub are_workers : IsSomeAnd (value_of serve_app (codes "workers") words) (λ text. IsCount 64 text workers)
   pub are_connections : IsSomeAnd (value_of serve_app (codes "connections") words)
       (λ text. IsCount 1000000 text connections)
+  pub flag : is_given serve_app (codes "gate") words ≡ gate
 
 -- ---- push <port> <number>
 

@@ -69,8 +69,8 @@ AsksFor name.Mirror rest command = (command ≡ Mirror) × Takes (bare_app (code
 AsksFor name.EvidenceMake rest command = (public : List ℕ) × (left : List ℕ) × (right : List ℕ)
     × (command ≡ EvidenceMake public left right) × AsksDossier public left right rest
 AsksFor name.EvidenceCheck rest command = (command ≡ EvidenceCheck) × Takes (bare_app (codes "evidence-check")) rest
-AsksFor name.Serve rest command = (port : ℕ) × (workers : ℕ) × (connections : ℕ)
-    × (command ≡ Serve port workers connections) × AsksService port workers connections rest
+AsksFor name.Serve rest command = (port : ℕ) × (workers : ℕ) × (connections : ℕ) × (gate : Bool)
+    × (command ≡ Serve port workers connections gate) × AsksService port workers connections gate rest
 AsksFor name.Push rest command = (port : ℕ) × (number : ℕ) × (command ≡ Push port number) × AsksPush port number rest
 
 abbrev pub AsksForNone : CommandName → List (List ℕ) → Type 0
@@ -113,5 +113,6 @@ IsWithinLimits (Demo count) = count ≤ 500
 IsWithinLimits Mirror = Unit {0}
 IsWithinLimits (EvidenceMake public left right) = IsPublic public
 IsWithinLimits EvidenceCheck = Unit {0}
-IsWithinLimits (Serve port workers connections) = IsUpTo 65535 port × IsUpTo 64 workers × IsUpTo 1000000 connections
+IsWithinLimits (Serve port workers connections gate) = IsUpTo 65535 port × IsUpTo 64 workers
+    × IsUpTo 1000000 connections
 IsWithinLimits (Push port number) = IsUpTo 65535 port × IsUpTo 1000000 number

@@ -63,8 +63,8 @@ pub record PlainWords : Type 0 where
       → IsCommand (codes "evidence-make" ∷ encode_lower public ∷ encode_lower left ∷ encode_lower right ∷ [])
       (EvidenceMake public left right)
   pub evidence_check : IsCommand (codes "evidence-check" ∷ []) EvidenceCheck
-  pub serve : (port workers connections : ℕ) → IsUpTo 65535 port → IsUpTo 64 workers → IsUpTo 1000000 connections
-      → IsCommand (codes "serve" ∷ decimal port ∷ decimal workers ∷ decimal connections ∷ [])
-      (Serve port workers connections)
+  pub serve : (port workers connections : ℕ) (gate : Bool) → IsUpTo 65535 port → IsUpTo 64 workers
+      → IsUpTo 1000000 connections → IsCommand (codes "serve" ∷ decimal port ∷ decimal workers ∷ decimal connections
+      ∷ flag_words (codes "--gate") gate) (Serve port workers connections gate)
   pub push : (port number : ℕ) → IsUpTo 65535 port → IsUpTo 1000000 number
       → IsCommand (codes "push" ∷ decimal port ∷ decimal number ∷ []) (Push port number)

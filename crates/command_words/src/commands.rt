@@ -97,11 +97,13 @@ pub enum Command {
     /// What the source's dossier shows.
     EvidenceCheck,
     /// To open a desk over the store on this port of the machine, from 1 to 65,535, with this many workers, from 1 to
-    /// 64, each of which serves this many connections, from 1 to 1,000,000.
+    /// 64, each of which serves this many connections, from 1 to 1,000,000; with a gate one that denies a push whose
+    /// entry has a fault.
     Serve {
         port: u16,
         workers: u32,
         connections: u32,
+        gate: bool,
     },
     /// To send the entry of this number, from 1 to 1,000,000, to the desk on this port of the machine, from 1 to 65,535.
     Push {

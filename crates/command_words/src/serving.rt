@@ -9,7 +9,9 @@ ghost use Rattle.command_words.specs.FirstWords.{AsksFor, AsksForNone};
 ghost use Rattle.command_words.specs.Grammars.{Takes};
 ghost use Rattle.command_words.specs.declared.commands.CommandName.TheVariants as name;
 
-use crate::arguments::{bare_command, positional, take_words, value_in, with_argument};
+use crate::arguments::{
+    bare_command, flag, has_flag, positional, take_words, value_in, with_argument,
+};
 use crate::commands::Command;
 use crate::read_count;
 use crate::words_fault::WordsFault;
@@ -28,7 +30,8 @@ fn serve_command<'a>(alloc: Global) -> Result<clap::Command<'a>, AllocError>
 {
     let command = with_argument(bare_command(alloc, "serve"), positional(alloc, "port"))?;
     let command = with_argument(command, positional(alloc, "workers"))?;
-    with_argument(command, positional(alloc, "connections"))
+    let command = with_argument(command, positional(alloc, "connections"))?;
+    with_argument(command, flag(alloc, "gate"))
 }
 
 // What `serve` finds in the words after it.
@@ -86,5 +89,6 @@ pub(crate) fn read_serve(alloc: Global, words: &[String]) -> Result<Command, Wor
         port,
         workers,
         connections,
+        gate: has_flag(&matches, "gate"),
     })
 }

@@ -1,3 +1,4 @@
 pub mod Steps
 pub mod Seating
 pub mod LogReads
+pub mod GateReplies

@@ -1,5 +1,5 @@
 -- What the reading of a store's log tells, whatever comes of it.
-use Rattle.std.proofs.Common.{◌≡◌, ◌∙◌, refl, sym, ℕ, Option, Some}
+use Rattle.std.proofs.Common.{◌≡◌, ◌∙◌, refl, sym, Some}
 use Rattle.std.specs.Prelude.{Result, Ok, Err}
 use Rattle.octets.specs.Causes.{HasCause, count_after}
 use Rattle.git_object.specs.Repository.{Repository}
@@ -8,13 +8,12 @@ use Rattle.keeper_api.specs.declared.keepers.Keeper as keeper
 use Rattle.rsl_chain.specs.Logs.{IsBrokenAs, log_failed}
 use Rattle.rsl_chain.specs.declared.log_faults.LogFault.{LogFault}
 use Rattle.rsl_chain.specs.declared.log_faults.LogFault.TheVariants.{Broken, Failed, Memory}
-use Rattle.desk_core.specs.Loading.{IsUnjudged}
-use Rattle.desk_core.specs.declared.desk_state.DeskState.{DeskState}
+use Rattle.desk_log.specs.States.{Desk, IsLoaded}
 use Rattle.desk_http.specs.Opening.{HasLog, IsOfLog, IsOfOpening, IsOfWorkers, ReadsLog, Serves, StaysAt, fault_of, store_failed}
 use Rattle.desk_http.specs.declared.faults.DeskFault.{DeskFault}
 use Rattle.desk_http.specs.declared.faults.DeskFault.TheVariants as desk
 
-abbrev pub refused : DeskFault → Result DeskState DeskFault
+abbrev pub refused : {T : Type 0} → DeskFault → Result T DeskFault
 refused fault = Err fault
 
 abbrev pub ended : DeskFault → Result (Unit {0}) DeskFault
@@ -30,19 +29,19 @@ opening_fault Memory = tt
 
 module _ {R : Type 0} (k : keeper.Ghosts R) (store loaded : R) where
   -- the log was loaded
-  pub reads_loaded : (state : DeskState) → Undisturbed k store loaded
-      → HasCause {T = DeskState} log_failed (k.faults store) (k.faults loaded) (Ok state) → IsUnjudged (k.content loaded) state
+  pub reads_loaded : {T : Type 0} (state : T) (beside : Desk) → Undisturbed k store loaded
+      → HasCause {T = T} log_failed (k.faults store) (k.faults loaded) (Ok state) → IsLoaded (k.content loaded) beside
       → ReadsLog k store loaded (Ok state)
-  reads_loaded state same cause unjudged = record {
+  reads_loaded state beside same cause is = record {
     same = same;
     counted = record { later = cause.later; is = cause.is };
-    log = λ r told. (unjudged.loaded.ids, unjudged.loaded.log r told);
+    log = λ r told. (is.ids, is.log r told);
   }
 
   -- it was not
-  pub reads_refused : (fault : LogFault) → Undisturbed k store loaded
-      → HasCause {T = DeskState} log_failed (k.faults store) (k.faults loaded) (Err fault)
-      → ((r : Repository) → k.content loaded ≡ Some r → IsBrokenAs r fault) → ReadsLog k store loaded (refused (fault_of fault))
+  pub reads_refused : {T : Type 0} (fault : LogFault) → Undisturbed k store loaded
+      → HasCause {T = T} log_failed (k.faults store) (k.faults loaded) (Err fault)
+      → ((r : Repository) → k.content loaded ≡ Some r → IsBrokenAs r fault) → ReadsLog k store loaded (refused {T = T} (fault_of fault))
   reads_refused (Broken id) same cause broken = record {
     same = same;
     counted = record { later = cause.later; is = cause.is };
@@ -60,7 +59,7 @@ module _ {R : Type 0} (k : keeper.Ghosts R) (store loaded : R) where
   }
 
   -- what was read of it, as another answer
-  pub refused_as : {U : Type 0} (fault : DeskFault) → ReadsLog k store loaded (refused fault) → ReadsLog k {T = U} store loaded (Err fault)
+  pub refused_as : {T U : Type 0} (fault : DeskFault) → ReadsLog k store loaded (refused {T = T} fault) → ReadsLog k {T = U} store loaded (Err fault)
   refused_as fault reads = record {
     same = reads.same;
     counted = record { later = reads.counted.later; is = reads.counted.is };
@@ -75,7 +74,7 @@ module _ {R : Type 0} (k : keeper.Ghosts R) (store loaded : R) where
   unserved_at desk.Memory opening = tt
 
   -- where no log was loaded, no more was done to the store
-  pub unloaded : (fault : DeskFault) → IsOfOpening fault → ReadsLog k store loaded (refused fault) → Serves k store loaded (ended fault)
+  pub unloaded : {T : Type 0} (fault : DeskFault) → IsOfOpening fault → ReadsLog k store loaded (refused {T = T} fault) → Serves k store loaded (ended fault)
   unloaded fault opening reads =
       record { loaded = loaded; reads = refused_as fault reads; unserved = unserved_at fault opening }
 

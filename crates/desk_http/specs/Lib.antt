@@ -1,4 +1,8 @@
 -- why no desk is open over a store, and what that leaves of the store
 pub mod Opening
--- what a desk over a store answers, and what holds of it
+-- what a desk over a store answers
 pub mod Answers
+-- what its replies to pushes come to
+pub mod Steps
+-- and where it has a gate
+pub mod Gates

@@ -1,5 +1,5 @@
 -- Why no desk is open over a store, or serves no more, and what that leaves of the store.
-use Rattle.std.specs.Prelude.{◌≡◌, ℕ, Bool, true, false, List, Option, Some, Result, Ok, Err}
+use Rattle.std.specs.Prelude.{◌≡◌, ℕ, Bool, true, false, List, Some, Result, Ok, Err}
 use Rattle.octets.specs.Causes.{HasCause}
 use Rattle.git_object.specs.Repository.{Repository}
 use Rattle.keeper_api.specs.Undisturbed.{Undisturbed}

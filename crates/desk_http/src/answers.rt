@@ -1,16 +1,15 @@
-//! A desk over a store as what connections ask.
+//! A desk as what connections ask.
 
 ghost use Rattle.std.specs.Prelude.{◌≡◌, IfOk};
 ghost use Rattle.endings.specs.Breaks.{break_line};
 ghost use Rattle.desk_http.specs.Answers.{judged_line};
 
-use crate::HttpDesk;
+use crate::{HttpDesk, HttpShop};
 use desk_lock::Seat;
 use desk_serving::{Pushed, Serves};
 use desk_shops::Judged;
 use desk_steps::Reply;
 use git_object::{ObjectId, RefName};
-use keeper_api::Keeper;
 use octets::{Memory, Octets};
 use std::alloc::Global;
 use std::sync::Wait;
@@ -35,23 +34,22 @@ pub fn verdict_line(alloc: Global, name: &RefName, judged: &Judged) -> Result<Oc
     }
 }
 
-impl<R: Keeper + Drop> Serves for HttpDesk<R> {
+impl<S: HttpShop + Drop> Serves for HttpDesk<S> {
     ghost use Rattle.desk_http.specs.Answers.{AnswersPush, GivesLine, Streams, TellsTip};
 
     ghost turn = { λ d. d };
 
-    ghost pushes = { λ d body old new pushed. AnswersPush R.Keeper body pushed old new };
+    ghost pushes = { λ d body old new pushed. AnswersPush S.is_legal S.stands S.told S.answers S.is_done S.is_fault
+        S.plain S.pushed_as body pushed old new };
 
-    ghost tells_tip = { λ d old new tip. TellsTip R.Keeper tip old new };
+    ghost tells_tip = { λ d old new tip. TellsTip S.is_legal S.stands S.told tip old new };
 
-    ghost judges = { λ d name old new line. GivesLine R.Keeper name line old new };
+    ghost judges = { λ d name old new line. GivesLine S.is_legal S.stands S.told S.judges name line old new };
 
-    ghost streams = { λ d old new text. Streams R.Keeper text old new };
+    ghost streams = { λ d old new text. Streams S.is_legal S.stands S.told S.streams text old new };
 
     fn push<W: Wait>(&self, rt: &W, alloc: Global, seat: &mut Seat, body: &[u8]) -> Pushed {
-        Pushed::Replied {
-            reply: self.desk.push(rt, alloc, seat, body),
-        }
+        S::to_pushed(self.desk.push(rt, alloc, seat, body))
     }
 
     fn tip<W: Wait>(

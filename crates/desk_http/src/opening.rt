@@ -7,31 +7,14 @@ ghost use Rattle.desk_core.specs.Loading.{IsUnjudged};
 ghost use Rattle.desk_shops.specs.Calls.{IsLeftAlone};
 ghost use Rattle.desk_http.specs.Opening.{ComesOfLog, IsOfOpening, ReadsLog};
 
+use crate::HttpDesk;
 use crate::faults::{DeskFault, fault_of};
-use desk_calls::Desk;
 use desk_core::DeskState;
 use desk_lock::Seat;
 use desk_shops::Shop;
 use keeper_api::Keeper;
 use octets::Memory;
 use std::alloc::Global;
-use std::marker::Model;
-
-/// A desk over a store, as the connections of its workers ask it.
-#[derive(Drop)]
-pub struct HttpDesk<R: Keeper> {
-    pub(crate) desk: Desk<Shop<R>>,
-}
-
-impl<R: Keeper> Model for HttpDesk<R> {
-    ghost use Rattle.desk_lock.specs.Seats.{TurnId, turn_id_coded};
-
-    ghost Value = { TurnId };
-
-    ghost coded = { turn_id_coded };
-
-    ghost view = { λ d. d.desk };
-}
 
 // Loads the log of a store for a desk.
 pub(crate) fn load_log<R: Keeper>(alloc: Global, store: &mut R) -> Result<DeskState, DeskFault>
@@ -51,7 +34,7 @@ pub(crate) fn desk_over<R: Keeper + Drop>(
     state: DeskState,
     store: R,
     seats: u32,
-) -> Result<(HttpDesk<R>, Vec<Seat>), Memory>
+) -> Result<(HttpDesk<Shop<R>>, Vec<Seat>), Memory>
     requires some { 0 < seats }
     requires loaded { IsUnjudged (R.content store) state }
     requires left { IsLeftAlone R.Keeper store }
@@ -59,10 +42,7 @@ pub(crate) fn desk_over<R: Keeper + Drop>(
     ensures seats { IfOk result (λ given. AreNew IsLegal given.0 given.1.items) }
     ensures idle { IfOk result (λ given. All (IsIdle given.0) given.1.items) }
 {
-    match Desk::new(alloc, Shop::new(state, store), seats) {
-        Ok((desk, given)) => Ok((HttpDesk { desk }, given)),
-        Err(error) => Err(error),
-    }
+    HttpDesk::new(alloc, Shop::new(state, store), seats)
 }
 
 /// A desk over a store whose log is loaded now, and its seats, numbered from 1 in order. All its entries are of nobody.
@@ -72,7 +52,7 @@ pub fn open_desk<R: Keeper + Drop>(
     alloc: Global,
     mut store: R,
     seats: u32,
-) -> Result<(HttpDesk<R>, Vec<Seat>), DeskFault>
+) -> Result<(HttpDesk<Shop<R>>, Vec<Seat>), DeskFault>
     requires some { 0 < seats }
     requires left { IsLeftAlone R.Keeper store }
     ensures count { IfOk result (λ given. length given.1.items ≡ seats) }

@@ -1,11 +1,14 @@
 //! Serving a port of this machine by a desk over a store.
 
-ghost use Rattle.std.specs.Prelude.{◌<◌};
-ghost use Rattle.desk_http.specs.Opening.{Serves};
+ghost use Rattle.std.specs.Prelude.{◌<◌, IfErr, All};
+ghost use Rattle.desk_lock.specs.Seats.{IsIdle};
+ghost use Rattle.desk_http.specs.Opening.{IsOfWorkers, Serves};
 
 use crate::faults::DeskFault;
 use crate::opening::{desk_over, load_log};
 use crate::staffing::workers_at;
+use crate::{HttpDesk, HttpShop};
+use desk_lock::Seat;
 use desk_serving::{NoGate, Worker, WorkerEnd, serve_all};
 use edge_io::Failed;
 use keeper_api::Keeper;
@@ -19,6 +22,40 @@ use std::thread::Threads;
 // Whether no worker's door failed.
 fn are_served(workers: &[Worker<TcpDoor>]) -> bool {
     workers.iter().all(|worker| !matches!(worker.end, Some(WorkerEnd::DoorFailed(_))))
+}
+
+/// Serves so many connections by a worker for each of these seats of a desk, side by side.
+pub(crate) fn serve_at<S, W>(
+    rt: &W,
+    alloc: Global,
+    desk: &HttpDesk<S>,
+    listener: &TcpListener,
+    seats: Vec<Seat>,
+    connections: u32,
+) -> Result<(), DeskFault>
+where
+    S: HttpShop + Drop + Send,
+    W: Threads + Wait + Sync + Net<Listener = TcpListener, Stream = TcpStream>,
+    requires { All (IsIdle desk.now) seats.items }
+    ensures { IfErr result IsOfWorkers }
+{
+    let mut workers = match workers_at(alloc, listener, seats) {
+        Ok(workers) => workers,
+        Err(fault) => return Err(fault),
+    };
+    serve_all(
+        rt,
+        alloc,
+        desk,
+        workers.as_mut_slice(),
+        &NoGate,
+        connections,
+    );
+    if are_served(workers.as_slice()) {
+        Ok(())
+    } else {
+        Err(DeskFault::DoorFailed)
+    }
 }
 
 // Opens a desk over a store that is lent, and serves.
@@ -48,22 +85,9 @@ where
         Ok(opened) => opened,
         Err(_) => return Err(DeskFault::Memory),
     };
-    let mut workers = match workers_at(alloc, &listener, seats) {
-        Ok(workers) => workers,
-        Err(fault) => return Err(fault),
-    };
-    serve_all(
-        rt,
-        alloc,
-        &desk,
-        workers.as_mut_slice(),
-        &NoGate,
-        connections,
-    );
-    if are_served(workers.as_slice()) {
-        Ok(())
-    } else {
-        Err(DeskFault::DoorFailed)
+    match serve_at(rt, alloc, &desk, &listener, seats, connections) {
+        Ok(()) => Ok(()),
+        Err(fault) => Err(fault),
     }
 }
 

@@ -1,3 +1,4 @@
+pub mod Counting
 pub mod Engines
 pub mod Standing
 pub mod Verdicts

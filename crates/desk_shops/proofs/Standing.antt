@@ -70,7 +70,7 @@ few_numbers push spelled = by_object (object_in push.objects push.entry.id) spel
 pub many_rows : (h : History) → length (rows h) ≡ count h
 many_rows h = length-map h.members row_of
 
-fits_few : (h : History) (push : Push) → IsSpelled push → early (rows h) push.entry ≡ None → count h < 1000000
+pub fits_few : (h : History) (push : Push) → IsSpelled push → early (rows h) push.entry ≡ None → count h < 1000000
 fits_few h push spelled fits =
     let next = next_of (rows h) push.entry fits in
     let number = next.number in
@@ -82,13 +82,13 @@ fits_few h push spelled fits =
 
 module _ {R : Type 0} (k : keeper.Ghosts R) (old new : R) where
   -- what is told now was told before
-  abbrev WasTold : Type 0
+  abbrev pub WasTold : Type 0
   WasTold = (r' : Repository) → k.content new ≡ Some r' → (r : Repository) × (k.content old ≡ Some r)
 
-  same_told : Undisturbed k old new → WasTold
+  pub same_told : Undisturbed k old new → WasTold
   same_told same r' told = (r', same.content r' told)
 
-  step_told : (was now : Desk) (push : Push) (seat : ℕ) (reply : Reply) → Steps k old new was now push seat reply → WasTold
+  pub step_told : (was now : Desk) (push : Push) (seat : ℕ) (reply : Reply) → Steps k old new was now push seat reply → WasTold
   step_told was now push seat (reply_.Done number id) s = λ r' told. (let w = s.step r' told in (w.0, w.1))
   step_told was now push seat (reply_.Already number) s = same_told s.same
   step_told was now push seat (reply_.Stale number id) s = same_told s.same

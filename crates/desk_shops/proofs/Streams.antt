@@ -1,7 +1,7 @@
 -- A stream leaves what a shop stands for.
-use Rattle.std.proofs.Common.{◌≡◌, ◌⊎◌, inl, inr, ℕ, Bool, true, false, cond, List, Some, None, Ok, Err, refl, subst}
+use Rattle.std.proofs.Common.{◌≡◌, ℕ, List, Some, None, refl, subst}
 use Rattle.std.specs.Prelude.{Result}
-use Rattle.octets.specs.Causes.{HasCause, one_more}
+use Rattle.octets.specs.Causes.{HasCause}
 use Rattle.git_object.specs.Repository.{Repository}
 use Rattle.keeper_api.specs.Undisturbed.{Undisturbed}
 use Rattle.keeper_api.specs.declared.keepers.Keeper as keeper
@@ -13,19 +13,12 @@ use Rattle.desk_histories.proofs.Keeps.{same_stands}
 use Rattle.stream_texts.specs.Texts.{IsTextOf, text_keeper_failed}
 use Rattle.stream_texts.specs.declared.text_faults.TextFault.{TextFault}
 use Rattle.desk_shops.specs.Standing.{Stands}
-
-choose : (b : Bool) (before now : ℕ) → now ≡ cond b (one_more before) before → (now ≡ before) ⊎ (now ≡ one_more before)
-choose true before now e = inr e
-choose false before now e = inl e
-
-counted : {T : Type 0} (before now : ℕ) (result : Result T TextFault) → HasCause text_keeper_failed before now result → (now ≡ before) ⊎ (now ≡ one_more before)
-counted before now (Ok x) cause = inl cause.is
-counted before now (Err fault) cause = choose (text_keeper_failed fault) before now cause.is
+use Rattle.desk_shops.proofs.Counting.{counted}
 
 module _ {R : Type 0} (k : keeper.Ghosts R) (old new : R) (state : DeskState) (result : Result (List ℕ) TextFault) (same : Undisturbed k old new) (h : History) (is : Stands k old state h) where
   pub stream_stands : HasCause text_keeper_failed (k.faults old) (k.faults new) result → Stands k new state h
   stream_stands cause = record {
-    desk = same_stands k old new h state.log state.log refl same cause.later (counted (k.faults old) (k.faults new) result cause) is.desk;
+    desk = same_stands k old new h state.log state.log refl same cause.later (counted text_keeper_failed (k.faults old) (k.faults new) result cause) is.desk;
     anchor = is.anchor;
     engine = λ r told. is.engine r (same.content r told);
   }

@@ -1,8 +1,8 @@
 -- A verdict by the entries of a history.
-use Rattle.std.proofs.Common.{◌≡◌, ◌++◌, ◌∙◌, [], ℕ, Bool, true, false, cond, List, length, drop, map, Option, Some, None, inl, inr, sym, ap, subst, append-nil, arith}
-use Rattle.std.specs.Prelude.{◌⊎◌, Result, Ok, Err, OnErr, IfOk, IfErr}
+use Rattle.std.proofs.Common.{◌≡◌, ◌++◌, ◌∙◌, [], ℕ, List, length, drop, map, Option, Some, None, sym, ap, subst, append-nil, arith}
+use Rattle.std.specs.Prelude.{Result, Ok, Err, OnErr, IfOk, IfErr}
 use Rattle.std.proofs.lemmas.List.{length-append, length-map}
-use Rattle.octets.specs.Causes.{HasCause, one_more}
+use Rattle.octets.specs.Causes.{HasCause}
 use Rattle.git_object.specs.Repository.{Repository, value_of}
 use Rattle.keeper_api.specs.Undisturbed.{Undisturbed}
 use Rattle.keeper_api.specs.declared.keepers.Keeper as keeper
@@ -28,18 +28,9 @@ use Rattle.desk_histories.specs.Legal.{last, rows, rows_of}
 use Rattle.desk_histories.specs.Standing.{IsHeld, IsSettled}
 use Rattle.desk_histories.proofs.Keeps.{same_stands}
 use Rattle.desk_shops.specs.Standing.{AreEntriesOf, IsVerdictOf, Lags, Stands}
+use Rattle.desk_shops.proofs.Counting.{counted}
 use Rattle.desk_shops.proofs.Engines.{front_ids, taken_more}
 use Rattle.desk_shops.proofs.Standing.{many_rows}
-
--- ---- counts
-
-choose : (b : Bool) (before now : ℕ) → now ≡ cond b (one_more before) before → (now ≡ before) ⊎ (now ≡ one_more before)
-choose true before now e = inr e
-choose false before now e = inl e
-
-counted : {T : Type 0} (before now : ℕ) (result : Result T LogFault) → HasCause log_failed before now result → (now ≡ before) ⊎ (now ≡ one_more before)
-counted before now (Ok x) cause = inl cause.is
-counted before now (Err fault) cause = choose (log_failed fault) before now cause.is
 
 -- ---- what was taken
 
@@ -102,7 +93,7 @@ module _ {R : Type 0} (k : keeper.Ghosts R) (new : R) (was now : DeskState) (nam
 
     pub verdict_stands : (result : Result (Verdict Fault) LogFault) → now.log ≡ was.log → HasCause log_failed (k.faults old) (k.faults new) result → FoundAll result → FoundFront result → (h : History) → Stands k old was h → Stands k new now h
     verdict_stands result log_same cause all front h is = record {
-      desk = same_stands k old new h was.log now.log log_same same cause.later (counted (k.faults old) (k.faults new) result cause) is.desk;
+      desk = same_stands k old new h was.log now.log log_same same cause.later (counted log_failed (k.faults old) (k.faults new) result cause) is.desk;
       anchor = anchored h is;
       engine = λ r told.
           let lags = is.engine r (same.content r told) in

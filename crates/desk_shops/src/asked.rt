@@ -27,8 +27,8 @@ fn broken_of(fault: LogFault) -> Result<Judged, KeeperFault>
     }
 }
 
-// The reply where there is no text.
-fn reply_of(fault: TextFault) -> Reply
+/// The reply where a repository has no text.
+pub fn reply_of_text(fault: TextFault) -> Reply
     ensures { result ≡ reply_of_text fault }
 {
     match fault {
@@ -112,7 +112,7 @@ impl<R: Keeper> DeskShop for Shop<R> {
     fn stream(&mut self, alloc: Global) -> Result<Octets, Reply> {
         match Shop::stream(self, alloc) {
             Ok(text) => Ok(text),
-            Err(fault) => Err(reply_of(fault)),
+            Err(fault) => Err(reply_of_text(fault)),
         }
     }
 

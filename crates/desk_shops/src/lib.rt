@@ -9,5 +9,6 @@ mod judged;
 pub mod laws;
 mod shops;
 
+pub use asked::reply_of_text;
 pub use judged::Judged;
 pub use shops::Shop;

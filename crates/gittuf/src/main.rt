@@ -12,7 +12,7 @@ use crate::hints::{hint_at_desk, hint_at_shared_key, hint_at_slow_key};
 use crate::needs::{Needs, needs_of};
 use crate::serving::desk_of;
 use command_words::{FrontWords, KeyPlace, after_places};
-use desk_http::serve_store;
+use desk_http::{serve_gate, serve_store};
 use edge_io::{Failed, FileDisk, MemDisk, OsClock, OsEntropy, StdSink, StdSource};
 use either_kind::EitherDisk;
 use endings::{Part, Refusal};
@@ -131,14 +131,12 @@ fn main(rt: HostRuntime) -> ExitCode {
     let (status, keeper) = match asked {
         Some(asked) if status == 0 => {
             hint_at_desk(&rt);
-            let (keeper, end) = serve_store(
-                &rt,
-                rt.alloc(),
-                keeper,
-                asked.port,
-                asked.workers,
-                asked.connections,
-            );
+            let (port, workers, connections) = (asked.port, asked.workers, asked.connections);
+            let (keeper, end) = if asked.gate {
+                serve_gate(&rt, rt.alloc(), keeper, port, workers, connections)
+            } else {
+                serve_store(&rt, rt.alloc(), keeper, port, workers, connections)
+            };
             (say_end(rt.stdout(), rt.stderr(), &end), keeper)
         }
         _ => (status, keeper),

@@ -57,6 +57,7 @@ pub(crate) fn needs_of(alloc: Global, command: &[String]) -> Result<Needs, Refus
                 port: _,
                 workers: _,
                 connections: _,
+                gate: _,
             },
         ) => (true, false, false),
         Ok(Command::Push { port: _, number: _ }) => (false, false, false),

@@ -65,7 +65,7 @@ module _ (verifying : OneOfVerify) (globals : OneOfGlobal) (stream : OneOfStream
   one_comes command.Mirror content settled = one_ending mirror_ending (MirrorComes content.held content.bytes) (mirrors.mirror content.held content.bytes)
   one_comes (command.EvidenceMake public left right) content settled = one_ending make_ending (MakeComes content.held left right) (mirrors.make content.held left right)
   one_comes command.EvidenceCheck content settled = one_ending check_ending (CheckComes content.bytes) (mirrors.check content.bytes)
-  one_comes (command.Serve port workers connections) content settled = one_ending serve_ending (ServeComes content.held) (serves content.held)
+  one_comes (command.Serve port workers connections gate) content settled = one_ending serve_ending (ServeComes content.held) (serves content.held)
   one_comes (command.Push port number) content settled =
       one_ending push_ending (PushComes content.held content.come number) (sends content.held content.come number)
 

@@ -43,7 +43,7 @@ module _ {types : Types} (ways : Ways types) (verifies : verifying.TellsOfWorld 
   told_comes command.Mirror = mirrors.mirror
   told_comes (command.EvidenceMake public left right) = mirrors.make public left right
   told_comes command.EvidenceCheck = mirrors.check
-  told_comes (command.Serve port workers connections) = serves
+  told_comes (command.Serve port workers connections gate) = serves
   told_comes (command.Push port number) = sends port number
 
   pub told_outcome : TellsOutcome ways

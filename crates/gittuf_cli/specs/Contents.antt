@@ -43,7 +43,7 @@ Comes (command.Demo count) = DemoAnswers count
 Comes command.Mirror = MirrorAnswers
 Comes (command.EvidenceMake public left right) = MakeAnswers left right
 Comes command.EvidenceCheck = CheckAnswers
-Comes (command.Serve port workers connections) = ServeAnswers
+Comes (command.Serve port workers connections gate) = ServeAnswers
 Comes (command.Push port number) = PushAnswers number
 
 -- what is settled of the content where a command has one ending: nothing, but for the trees of a listing

@@ -58,7 +58,7 @@ touched (command.Demo count) = on_store
 touched command.Mirror = on_stream
 touched (command.EvidenceMake public left right) = on_store
 touched command.EvidenceCheck = on_text
-touched (command.Serve port workers connections) = on_store
+touched (command.Serve port workers connections gate) = on_store
 touched (command.Push port number) = on_peer
 
 -- what it means that a command ran to an ending
@@ -80,7 +80,7 @@ EndsOf ways (command.Demo count) = DemoRuns ways count
 EndsOf ways command.Mirror = MirrorRuns ways
 EndsOf ways (command.EvidenceMake public left right) = MakeRuns ways public left right
 EndsOf ways command.EvidenceCheck = CheckRuns ways
-EndsOf ways (command.Serve port workers connections) = ServeRuns ways
+EndsOf ways (command.Serve port workers connections gate) = ServeRuns ways
 EndsOf ways (command.Push port number) = PushRuns ways port number
 
 module _ {types : Types} (ways : Ways types) where

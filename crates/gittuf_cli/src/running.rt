@@ -69,6 +69,7 @@ fn carry_out<W: Objects>(alloc: Global, command: &Command, outside: &mut Lent<W>
             port: _,
             workers: _,
             connections: _,
+            gate: _,
         } => serve::<W>(alloc, outside),
         Command::Push { port, number } => push::<W>(alloc, *port, *number as u64, outside),
     }

@@ -28,7 +28,7 @@ numbers_of (Demo count) = None
 numbers_of Mirror = None
 numbers_of (EvidenceMake public left right) = None
 numbers_of EvidenceCheck = None
-numbers_of (Serve p w c) = Some (record { port = p; workers = w; connections = c })
+numbers_of (Serve p w c g) = Some (record { port = p; workers = w; connections = c; gate = g })
 numbers_of (Push port number) = None
 
 -- the words ask for a command with these numbers, or for none

@@ -1,4 +1,4 @@
-//! The numbers of `serve`.
+//! What `serve` asks for.
 
 ghost use Rattle.std.specs.Prelude.{◌≡◌, map, string_bytes, IfOk, IfErr, IfSome};
 ghost use Rattle.command_words.specs.FirstWords.{IsWithinLimits};
@@ -9,16 +9,17 @@ use command_words::{Command, WordsFault, read_command};
 use endings::Refusal;
 use std::alloc::Global;
 
-/// The numbers of a `serve` command: the port, how many workers a desk has, and how many connections each of them
-/// serves.
+/// What a `serve` command asks for: the port, how many workers a desk has, how many connections each of them serves, and
+/// whether the desk is a gate.
 #[derive(Clone, Copy, Debug)]
 pub struct ServeWords {
     pub port: u16,
     pub workers: u32,
     pub connections: u32,
+    pub gate: bool,
 }
 
-// The numbers of this command; None of another one than `serve`.
+// What this command asks for; None of another one than `serve`.
 fn numbers_of(command: Command) -> Option<ServeWords>
     ensures found { result ≡ numbers_of command }
     ensures within { IsWithinLimits command → IfSome result AreWithin }
@@ -27,6 +28,7 @@ fn numbers_of(command: Command) -> Option<ServeWords>
         port,
         workers,
         connections,
+        gate,
     } = command
     else {
         return None;
@@ -35,10 +37,11 @@ fn numbers_of(command: Command) -> Option<ServeWords>
         port,
         workers,
         connections,
+        gate,
     })
 }
 
-/// The numbers of the `serve` command that these words ask for, each within its limits; None where they ask for another
+/// What the `serve` command that these words ask for has, each number within its limits; None where they ask for another
 /// command or for none. `Memory` alone is refused.
 pub fn serve_words(alloc: Global, words: &[String]) -> Result<Option<ServeWords>, Refusal>
     ensures found { IfOk result (AreOfWords (map string_bytes words.now)) }

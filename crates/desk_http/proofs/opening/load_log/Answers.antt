@@ -1,4 +1,5 @@
 use Rattle.std.proofs.Common.{sym, subst}
+use Rattle.desk_core.specs.declared.desk_state.DeskState.{DeskState}
 use Rattle.desk_http.specs.Opening.{IsOfOpening, ReadsLog}
 use Rattle.desk_http.specs.declared.faults.DeskFault.{DeskFault}
 use Rattle.desk_http.proofs.LogReads.{opening_fault, reads_loaded, reads_refused, refused}
@@ -6,14 +7,14 @@ use Rattle.desk_http.proofs.opening.load_log.Goals as goal
 
 pub returns-in-Ok-clause-reads : goal.returns-in-Ok-clause-reads
 returns-in-Ok-clause-reads g c =
-    reads_loaded g.R.Keeper c.args.store.now c.load.new.keeper c.in-Ok.state c.load.ensures.same c.in-Ok.ensures.cause c.in-Ok.ensures.loaded
+    reads_loaded g.R.Keeper c.args.store.now c.load.new.keeper c.in-Ok.state c.in-Ok.state.log c.load.ensures.same c.in-Ok.ensures.cause c.in-Ok.ensures.loaded.loaded
 
 pub returns-in-Err-clause-reads : goal.returns-in-Err-clause-reads
 returns-in-Err-clause-reads g c =
     let k = g.R.Keeper in
     let old = c.args.store.now in
     let new = c.load.new.keeper in
-    subst (λ (fault : DeskFault). ReadsLog k old new (refused fault)) (sym c.fault_of.ensures)
+    subst (λ (fault : DeskFault). ReadsLog k old new (refused {T = DeskState} fault)) (sym c.fault_of.ensures)
     (reads_refused k old new c.in-Err.fault c.load.ensures.same c.in-Err.ensures.cause c.in-Err.ensures.broken)
 
 pub returns-in-Err-clause-opening : goal.returns-in-Err-clause-opening
