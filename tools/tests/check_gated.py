@@ -1,13 +1,16 @@
 """The checks of tools/test on a gate: the desk that `serve --gate` opens, and what it denies."""
 
 import copy
+import http.client
+import random
 import shutil
 import signal
+import threading
 
 from check_judging import CHANGED, FIRST, MAIN, POLICY, WITH_KEY, Guarded
 from check_serving import ask, desk, exported, imported, line_of_log, objects_in, push, push_text, tip_of
 from check_snapshots import take_snapshot
-from checking import PROGRAM, run, want, want_run
+from checking import PROGRAM, in_this_run, run, want, want_run
 from made_folders import command
 
 FREE = "refs/heads/free"
@@ -104,4 +107,65 @@ def takes_what_mends(repositories):
         want(ask(port, "GET", f"/v1/verify/{MAIN}")[1].split()[0], b"accepted", "the verdict at last")
 
 
-CHECKS = (denies_what_the_policy_forbids, takes_what_mends)
+class Offer:
+    """A push that a gate is to take, with what its store has then and what it answers once that is there."""
+
+    def __init__(self, guarded, before):
+        self.after, self.number, self.entry = exported(f"{guarded.place}/"), len(guarded.entries), guarded.entries[-1]
+        self.text = text_between(before, self.after, self.entry)
+        self.replies = (201, f"done {self.number} {self.entry}\n".encode()), (200, b"already %d\n" % self.number)
+
+
+def pushes_until_killed(port, ran, seconds, texts):
+    """The replies to pushes of a gate that is killed after so many seconds."""
+    timer, replies = threading.Timer(seconds, ran.kill), []
+    timer.start()
+    try:
+        for text in texts:
+            replies.append(push(port, text))
+    except (OSError, http.client.HTTPException):
+        pass
+    finally:
+        timer.cancel()
+        timer.join()
+        ran.kill()
+    return replies
+
+
+def strangers_push(guarded, stream, count):
+    """The push of a stranger's change behind a stream whose log has so many entries."""
+    strange = another(guarded, f"strange {count}")
+    shutil.rmtree(strange.place)
+    imported(f"{strange.place}/", stream)
+    strange.entries = strange.entries[:count]
+    strange.change("stranger", WITH_KEY)
+    return text_between(stream, exported(f"{strange.place}/"), strange.entries[-1])
+
+
+def holds_what_it_said(repositories):
+    """whenever a gate is killed, what it said it took is there, nothing that it is to deny ever is, and its pushes can be made again"""
+    guarded, stream, place = begun(repositories, "killed")
+    offers, streams = [], [stream]
+    for listing in (CHANGED, FIRST) * 4:
+        guarded.change("maintainer", listing)
+        offers.append(Offer(guarded, streams[-1]))
+        streams.append(offers[-1].after)
+    # A stranger's change of the log behind each of its streams, which the gate is to deny each time.
+    unlawful = [strangers_push(guarded, it, len(guarded.entries) - len(offers) + at) for at, it in enumerate(streams[:-1])]
+    drawn, there, kills = random.Random(41), 0, 0
+    while kills < in_this_run(6, 100):
+        if there == len(offers):
+            place, there = repositories.path(f"killed {kills}.db"), 0
+            imported(place, stream)
+        with desk(place, gate=True) as (ran, port):
+            replies = pushes_until_killed(port, ran, drawn.uniform(0, 0.03), (unlawful[there], offers[there].text, unlawful[there]))
+        kills += 1
+        for reply, wanted in zip(replies, ((403,), (200, 201), (409,))):
+            want(reply[0] in wanted, True, f"whether {reply} is a reply to a push that is unlawful, lawful, or behind that")
+        found = exported(place)
+        want(found in streams[there + (len(replies) > 1) : there + 2], True, f"whether the store has what {len(replies)} replies said")
+        there = streams.index(found, there)
+    return f"{kills} kills"
+
+
+CHECKS = (denies_what_the_policy_forbids, takes_what_mends, holds_what_it_said)
