@@ -236,12 +236,12 @@ def reads_beside_a_writer(repositories):
     ends, reads = {"fault": 0, "right": 0}, in_this_run(READS, MORE_READS)
     words, listing = commands[-1]
     write(repositories.folder, "busy.listing", listing)
-    script = 'trap "exit 0" TERM; while :; do "$@" < "$0" > /dev/null; done'
+    script = 'trap "exit 0" TERM; while :; do "$@" < "$0" > /dev/null; sleep 0.03; done'
     given = repositories.path("busy.listing")
     with subprocess.Popen(("sh", "-c", script, given, *command(place, *words)), stderr=subprocess.DEVNULL) as writer:
         try:
             for _ in range(reads):
-                time.sleep(drawn.uniform(0, 0.004))
+                time.sleep(drawn.uniform(0, 0.04))
                 status, output, errors = run(*command(place, "export"))
                 want((status, errors) in ((0, b""), (4, FAULT)), True, f"whether {status} and {errors} are answers beside a writer")
                 ends["fault" if status else "right"] += 1

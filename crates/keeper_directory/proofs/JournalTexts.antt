@@ -7,7 +7,7 @@ use Rattle.hex.specs.Hex.{encode_lower}
 use Rattle.text_reader.specs.Line.{has_byte}
 use Rattle.text_reader.proofs.Unique.{same_front, same_until}
 use Rattle.git_object.specs.Ids.{IsId}
-use Rattle.git_object.specs.Names.{IsRefName, is_plain}
+use Rattle.git_object.specs.Names.{is_plain}
 use Rattle.keeper_api.specs.declared.changes.RefChange.{RefChange}
 use Rattle.keeper_directory.specs.Journals.{IsNamed, OneJournal, journal_text, object_line, ref_line, ref_word}
 use Rattle.keeper_directory.proofs.Ids.{same_id}
