@@ -10,7 +10,7 @@ import shutil
 import subprocess
 import time
 
-from check_keys import ENTRY_LINE, KEY_LINE, line_of
+from check_keys import KEY_LINE, line_of
 from check_serving import guarded
 from check_snapshots import listing_of
 from checking import PROGRAM, Failure, Skip, in_this_run, run, want, want_run

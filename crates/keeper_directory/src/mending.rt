@@ -46,8 +46,8 @@ impl<R: Files<File = File>> Folder<R> {
         }
     }
 
-    // Refuses a plan where a link, a pipe or a device is in the place of a file or of a folder above it, or anything but
-    // a file beside it.
+    // Refuses a plan where a link, a pipe or a device is in the place of a file or of a folder above it, or anything
+    // but a file beside it.
     fn expect_files(&mut self, plan: &RefPlan) -> Result<(), FileFault> {
         for (name, _) in plan {
             let text = name_text(name);
