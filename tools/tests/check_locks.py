@@ -1,19 +1,18 @@
-"""The checks of tools/test on folders that two calls want, that a call was stopped in, or that are hostile."""
+"""The checks of tools/test on folders that two calls want, or that are hostile."""
 
+import contextlib
+import fcntl
 import os
-import re
 import shutil
 import socket
 import subprocess
 import time
 
-from checking import PROGRAM, Failure, Skip, run, want, want_run
+from checking import PROGRAM, Failure, run, want, want_run
 from made_folders import END, HEADER, IMPORTED, command, expect_same, files_below, is_no_store, small_store
-from made_folders import object_file, stream_of, write
+from made_folders import stream_of, write
 
 TURNS = 30
-# Calls that change what is in the file system, and those that read the stream and write the answer.
-CALLS = "openat,open,creat,mkdir,mkdirat,rename,renameat,renameat2,unlink,unlinkat,rmdir,write,close,read"
 
 
 def imports(place):
@@ -76,18 +75,47 @@ def one_imports_at_a_time(repositories):
     want(left, [], "the folders that are left beside")
 
 
+@contextlib.contextmanager
+def held(place):
+    """Holds the mark of a call that may change the store, as the program and git gittuf do."""
+    with open(os.path.join(place, "open.lock"), "wb") as file:
+        fcntl.flock(file, fcntl.LOCK_EX | fcntl.LOCK_NB)
+        yield
+    os.remove(file.name)
+
+
+def is_not_read(place):
+    """Holds each command that only reads to a fault that changes nothing there."""
+    before = files_below(place)
+    for words in (("verify-ref", "refs/heads/main"), ("export",)):
+        want_run(command(place, *words), 4, b"", b"fault\n")
+        expect_same(place, before)
+
+
 def tells_marks(repositories):
-    """a folder with a mark is a fault for every command; the mark of an opened store alone may be removed by hand"""
+    """a mark that is held is a fault for all; one that nobody holds is for those who read, and who may change the store takes it over"""
     place, objects = small_store(repositories, "marked")
     whole = stream_of(objects, [(b"refs/heads/main", objects[1][0].encode())])
-    for mark in ("open.lock", "commit.lock"):
-        write(place, mark, b"")
+    with held(place):
         is_no_store(place)
-        os.remove(os.path.join(place, mark))
-        want_run(command(place, "export"), 0, whole)
+    want_run(command(place, "export"), 0, whole)
+    write(place, "open.lock", b"")
+    is_not_read(place)
+    want_run(command(place, "import"), 3, b"", b"stream 8\n", input=HEADER + END)
+    want(sorted(os.listdir(place)), ["objects", "refs"], "what is in the folder once the mark was taken over")
+    want_run(command(place, "export"), 0, whole)
+    for text in (b"", b"gittuf-change 1\nobject ", b"gittuf-change 2\nwhole\n"):
+        write(place, "commit.lock", text)
+        is_no_store(place)
+    write(place, "commit.lock", b"gittuf-change 1\ndrop refs/heads/main\nwhole\n")
+    is_not_read(place)
+    want_run(command(place, "import"), 3, b"", b"stream 8\n", input=HEADER + END)
+    want_run(command(place, "export"), 0, stream_of(objects, []))
     empty = repositories.path("marked and empty")
     write(empty, "open.lock", b"")
-    is_no_store(empty)
+    is_not_read(empty)
+    want_run(command(empty, "import"), 0, IMPORTED, input=whole)
+    want_run(command(empty, "export"), 0, whole)
 
 
 def put_other(place, name, kind):
@@ -148,99 +176,8 @@ def passes_no_link(repositories):
         expect_same(outside, before)
 
 
-def tells_no_room(repositories):
-    """a file that cannot grow is a fault, and the half made store stays locked"""
-    place = repositories.path("no room")
-    big = b"x" * 100_000
-    text, object_id = object_file(b"blob", big)
-    words = ("sh", "-c", "trap '' XFSZ; ulimit -f 16; exec \"$@\"", "sh", *command(place, "import"))
-    want_run(words, 4, b"", b"fault\n", input=stream_of([(object_id, text)], []))
-    want("commit.lock" in os.listdir(place), True, "that the folder is locked")
-    is_no_store(place)
-
-
-def tells_full_disk(repositories):
-    """a full file system is a fault, and the half made store stays locked or nothing is there"""
-    place = repositories.path("a small disk")
-    os.mkdir(place)
-    _, objects = small_store(repositories, "of the full")
-    more = sorted(object_file(b"blob", b"%d" % it + b"x" * 5000)[::-1] for it in range(40))
-    given = repositories.path("stream for the full")
-    write(repositories.folder, os.path.basename(given), stream_of(more, []))
-    script = (
-        'mount -t tmpfs -o size=96k none "$1" || exit 99; "$2" "$1/store/" - import < "$3"; status=$?;'
-        ' ls "$1/store"; "$2" "$1/store/" - export; exit "$status"'
-    )
-    found = run("unshare", "-rm", "sh", "-c", script, "sh", place, PROGRAM, given) if shutil.which("unshare") else (99,)
-    if found[0] == 99 or b"unshare" in found[2]:
-        raise Skip("no file system can be made here")
-    want(found, (4, b"commit.lock\nobjects\nopen.lock\n", b"fault\nfault\n"), "the status, what is in the folder, and the lines")
-
-
-def stops_anywhere(repositories):
-    """a kill at each system call of an import leaves no folder that is taken for a store, but nothing or a whole one"""
-    if not shutil.which("strace"):
-        raise Skip("strace is not here")
-    _, objects = small_store(repositories, "of the stopped")
-    whole = stream_of(objects, [(b"refs/heads/main", objects[1][0].encode())])
-    log = repositories.path("calls")
-    trace = ("strace", "-o", log, "-e", f"trace={CALLS}")
-    place = repositories.path("counted")
-    status, _, errors = run(*trace, PROGRAM, f"{place}/", "-", "import", input=whole)
-    if status or errors:
-        raise Skip("strace cannot trace here")
-    with open(log, "rb") as file:
-        calls = [re.match(rb"(\w+)\(", line) for line in file]
-    numbers, ends = {}, {"missing": 0, "empty": 0, "locked": 0, "whole": 0}
-    for call in (it[1].decode() for it in calls if it):
-        numbers[call] = numbers.get(call, 0) + 1
-    for call, times in numbers.items():
-        for number in range(1, times + 1):
-            for there in (False, True):
-                ends[stopped_at(repositories, whole, call, number, there)] += 1
-    if not ends["locked"] or not ends["whole"]:
-        raise Failure(f"the stops led to {ends}")
-    return ", ".join(f"{count} {end}" for end, count in ends.items())
-
-
-def stopped_at(repositories, whole, call, number, there):
-    """Kills an import at this system call, and says what stands there then."""
-    place = repositories.path("stopped")
-    if there:
-        os.mkdir(place)
-    inject = ("-e", f"trace={call}", "-e", f"inject={call}:signal=KILL:when={number}")
-    run("strace", "-o", os.devnull, *inject, PROGRAM, f"{place}/", "-", "import", input=whole)
-    found = os.listdir(place) if os.path.isdir(place) else None
-    status, output, errors = run(PROGRAM, f"{place}/", "-", "export")
-    if found is None or found == []:
-        end = "missing" if found is None else "empty"
-        # Nothing was done to it: an empty folder was there before.
-        want((there, status), (found is not None, 0 if found == [] else 4), f"what a kill at {call} {number} leaves")
-        want_run((PROGRAM, f"{place}/", "-", "import"), 0, IMPORTED, input=whole)
-    elif "commit.lock" in found or "open.lock" in found:
-        end = "locked"
-        want((status, output, errors), (4, b"", b"fault\n"), f"what export answers after a kill at {call} {number}")
-        want_run((PROGRAM, f"{place}/", "-", "import"), 4, b"", b"fault\n", input=whole)
-        if "commit.lock" not in found:
-            # The mark alone may go: what is there is nothing, or the whole store.
-            os.remove(os.path.join(place, "open.lock"))
-            _, output, _ = run(PROGRAM, f"{place}/", "-", "export")
-            want(output in (HEADER + END, whole), True, f"whether the store is whole after a kill at {call} {number}")
-    else:
-        end = "whole"
-        want((status, output), (0, whole), f"what a kill at {call} {number} leaves")
-    shutil.rmtree(place, ignore_errors=True)
-    for left in os.listdir(repositories.folder):
-        if left.startswith("stopped."):
-            shutil.rmtree(repositories.path(left))
-    return end
-
-
 CHECKS = (
     one_imports_at_a_time,
     tells_marks,
     passes_no_link,
-    tells_no_room,
-    tells_full_disk,
-    stops_anywhere,
 )

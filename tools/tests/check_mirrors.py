@@ -246,7 +246,7 @@ def is_mended_by_an_offer(repositories):
 
 
 def mends_after_a_stop(repositories):
-    """what a stopped call left is taken away by the next one, and a mirror in the middle of a change is told and not taken for one"""
+    """what a stopped call left is taken away by the next one, and a mirror in the middle of a change of which nothing is known is told and not taken for one"""
     clones = mirrored(repositories, "mirror stopped")
     store = store_of(clones)
     place = os.path.dirname(store.rstrip("/"))
@@ -259,9 +259,12 @@ def mends_after_a_stop(repositories):
     want(clones.gittuf("carol", *ORIGIN), b"taken 2 3\n", "what an offer after a stop prints")
     shutil.rmtree(os.path.join(place, "fetched.git", "objects"))
     want(clones.gittuf("carol", *ORIGIN), b"same 3\n", "what an offer prints where a fetch was stopped at its start")
-    for it in ("open.lock", "commit.lock"):
-        with open(os.path.join(store, it), "wb"):
-            pass
+    for text in (b"gittuf-change 1\nwhole\n", b""):
+        for it, said in (("open.lock", b""), ("commit.lock", text)):
+            with open(os.path.join(store, it), "wb") as file:
+                file.write(said)
+        if text:
+            want(clones.gittuf("carol", *ORIGIN), b"same 3\n", "what an offer prints where one was stopped in a change")
     clones.refused("carol", *ORIGIN, status=4, part="was left in the middle of a change, and counts for nothing")
 
 

@@ -7,6 +7,7 @@ from checking import PROGRAM, want, want_run
 
 HEADER, END = b"gittuf-stream 1\n", b"end\n"
 IMPORTED = b"imported\n"
+FAULT = b"fault\n"
 
 
 def command(place, *words):

@@ -154,23 +154,28 @@ class Sealed:
         }
 
 
-@lru_cache(maxsize=None)
-def policies():
+def sealed_in(logs):
     """The files of each policy in the logs, which are sealed once for all of them."""
     sealed = Sealed()
-    targets = (entry.target for log, _ in LOGS for entry in log if isinstance(entry, Move))
+    targets = (entry.target for log, _ in logs for entry in log if isinstance(entry, Move))
     return {target: sealed.files(target) for target in targets if isinstance(target, Policy)}
 
 
-class Targets(dict):
-    """The ids of targets in a history, which makes the commit of each that is asked for."""
+@lru_cache(maxsize=None)
+def policies():
+    """The files of each policy in the logs of the rows."""
+    return sealed_in(LOGS)
 
-    def __init__(self, history):
+
+class Targets(dict):
+    """The ids of targets in a history, which makes the commit of each that is asked for; the files of policies are sealed."""
+
+    def __init__(self, history, files_of_policies):
         super().__init__({ZEROS: ZEROS, LOST: LOST})
-        self.history = history
+        self.history, self.files_of_policies = history, files_of_policies
 
     def __missing__(self, target):
-        files = policies()[target] if isinstance(target, Policy) else FILES[target]
+        files = self.files_of_policies[target] if isinstance(target, Policy) else FILES[target]
         self[target] = self.history.commit(files)
         return self[target]
 
@@ -185,22 +190,26 @@ def line(name, found, ids):
     return 0, f"accepted {name} {told[0]} entries"
 
 
+def history_of(log, kept, files_of_policies):
+    """The history of a drawn log, and for each reference the status and line of its verdict, and its name."""
+    history = History()
+    ids = Targets(history, files_of_policies)
+    for entry in log:
+        if isinstance(entry, Move):
+            history.record(entry.name, ids[entry.target], entry.signer)
+        else:
+            listed = [history.ids[number - 1] if number else NOWHERE for number in entry.listed]
+            history.annotate(entry.skip, listed, entry.signer)
+    for name in NAMES:
+        history.repository.set(name, ids[kept[name]])
+    return history, [(*line(name, verdict(log, name, kept[name]), ids), name) for name in NAMES]
+
+
 def row_of(place):
     """The row of a drawn log: the verdict on each of its references."""
 
     def row():
-        log, kept = LOGS[place]
-        history = History()
-        ids = Targets(history)
-        for entry in log:
-            if isinstance(entry, Move):
-                history.record(entry.name, ids[entry.target], entry.signer)
-            else:
-                listed = [history.ids[number - 1] if number else NOWHERE for number in entry.listed]
-                history.annotate(entry.skip, listed, entry.signer)
-        for name in NAMES:
-            history.repository.set(name, ids[kept[name]])
-        asks = [(*line(name, verdict(log, name, kept[name]), ids), name) for name in NAMES]
+        history, asks = history_of(*LOGS[place], policies())
         return history, asked(*asks[0]), *(asked_again(*it) for it in asks[1:])
 
     row.__name__ = f"drawn_log_{place}"

@@ -1,5 +1,6 @@
 mod Digits
 mod Heads
 mod Ids
+mod JournalTexts
 mod NamesLeft
 mod Reading

@@ -1,3 +1,4 @@
 pub mod Files
 pub mod Following
+pub mod Journals
 pub mod Stores

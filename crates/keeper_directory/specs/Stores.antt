@@ -14,9 +14,13 @@ abbrev pub IsOneOf : List ℕ → List (List ℕ) → Type 0
 IsOneOf name [] = ⊥
 IsOneOf name (other ∷ names) = (other ≡ name) ⊎ IsOneOf name names
 
--- the name of a folder itself, of the one above it, or of the mark of a call that may change the store
+-- the name of a mark: that of a call that may change the store, that of a change, and what is to become the latter
+abbrev pub IsMark : List ℕ → Type 0
+IsMark name = (name ≡ codes "open.lock") ⊎ ((name ≡ codes "commit.lock") ⊎ (name ≡ codes "commit.new"))
+
+-- the name of a folder itself, of the one above it, or of a mark
 abbrev pub IsDots : List ℕ → Type 0
-IsDots name = (name ≡ codes ".") ⊎ ((name ≡ codes "..") ⊎ (name ≡ codes "open.lock"))
+IsDots name = (name ≡ codes ".") ⊎ ((name ≡ codes "..") ⊎ IsMark name)
 
 -- there are only such names
 abbrev pub AreDots : List (List ℕ) → Type 0
@@ -26,9 +30,17 @@ AreDots names = AllByRecursion IsDots names
 abbrev pub IsFree : List (List ℕ) → Type 0
 IsFree names = IsOneOf (codes "open.lock") names → ⊥
 
--- a folder with these names may be a store's: no change was left half made in it, it is no Git directory, and it has
--- one of the store's two folders, or nothing of its own
-pub record MayBeKept (names : List (List ℕ)) : Type 0 where
-  pub whole : IsOneOf (codes "commit.lock") names → ⊥
+-- a change has begun in a folder with these names, and is not whole
+abbrev pub HasBegun : List (List ℕ) → Type 0
+HasBegun names = IsOneOf (codes "commit.lock") names
+
+-- a folder with these names may be a store's, or become one again: it is no Git directory, and has one of the store's
+-- two folders, or nothing of its own
+pub record MayBeMended (names : List (List ℕ)) : Type 0 where
   pub not_git : IsOneOf (codes "HEAD") names → IsOneOf (codes "config") names → ⊥
   pub own : AreDots names ⊎ (IsOneOf (codes "objects") names ⊎ IsOneOf (codes "refs") names)
+
+-- a folder with these names may be a store's, and no change was left half made in it
+pub record MayBeKept (names : List (List ℕ)) : Type 0 where
+  pub whole : HasBegun names → ⊥
+  pub own : MayBeMended names

@@ -1,27 +1,21 @@
-//! Making a change in a folder.
+//! Making a change in a folder: all that needs room first, and then what cannot want any.
 
 ghost use Rattle.std.specs.Prelude.{◌≡◌, IsErrOf, OnOk};
 
-use crate::file_calls::{
-    Stand, make_folder, remove_file, remove_folder, rename, what_stands, write_new_file,
-};
+use crate::file_calls::{Stand, make_folder, remove_folder, rename, what_stands, write_new_file};
 use crate::file_faults::FileFault;
 use crate::folders::{Folder, Hold};
+use crate::journals::Journal;
 use crate::object_files::make_object_text;
 use crate::ref_files::{append_ref_text, name_text};
 use crate::ref_plans::{RefPlan, is_emptied};
 use git_object::{Object, ObjectId, RefName};
+use std::alloc::Global;
 use std::collections::BTreeSet;
-use std::os::fd::IntoRawFd;
+use std::fs::File;
 use std::rt::Files;
 
-// The folders above a reference's file that can be empty: a name has at most 16 components.
-const MOST_FOLDERS: usize = 15;
-
-impl<R: Files> Folder<R>
-where
-    R::File: IntoRawFd,
-{
+impl<R: Files<File = File>> Folder<R> {
     /// Refuses a plan that cannot be made: where a link, a pipe or a device is in the place of a file or of a folder
     /// above it, or a folder that is not emptied. The names are those that are kept after it.
     pub fn expect_places(
@@ -50,15 +44,29 @@ where
         Ok(())
     }
 
-    /// Makes a change: each object, then the references that go, then those that are set. From its first step until
-    /// it is whole the folder is no store. So want of memory, as the system may say it, is a fault once it began.
-    pub fn write(&mut self, objects: &[Object], plan: &RefPlan) -> Result<(), FileFault>
+    /// Makes a change. Until it is whole the folder is no store. Where an object or what a reference is to say cannot
+    /// be written, all is taken back that was. So want of memory, as the system may say it, is a fault once it began.
+    pub fn write(
+        &mut self,
+        alloc: Global,
+        objects: &[Object],
+        plan: &RefPlan,
+    ) -> Result<(), FileFault>
         ensures open { OnOk result (self.old.hold ≡ Hold.Open) }
         ensures whole { OnOk result (self.new.hold ≡ Hold.Open) }
         ensures memory { IsErrOf result FileFault.Memory → self.new.hold ≡ self.old.hold }
     {
-        self.begin()?;
-        let mut answer = self.write_all(objects, plan);
+        let journal = self.journal_of(alloc, objects, plan)?;
+        let text = journal.to_text(alloc)?;
+        let mut folders = Vec::new(alloc);
+        self.begin(text.as_slice())?;
+        let ids = journal.objects.as_slice();
+        if self.stage(alloc, objects, ids, plan, &mut folders).is_err() {
+            // Where this fails too the mark says what is left to be mended.
+            let _ = self.take_back(ids, plan, &folders);
+            return Err(FileFault::Failed);
+        }
+        let mut answer = self.place(alloc, plan);
         if answer.is_ok() {
             answer = self.finish();
         }
@@ -68,14 +76,78 @@ where
         }
     }
 
-    fn write_all(&mut self, objects: &[Object], plan: &RefPlan) -> Result<(), FileFault> {
-        if !objects.is_empty() {
+    // The journal of a change: of its objects those that are not kept yet.
+    fn journal_of(
+        &mut self,
+        alloc: Global,
+        objects: &[Object],
+        plan: &RefPlan,
+    ) -> Result<Journal, FileFault>
+        ensures { self.new.hold ≡ self.old.hold }
+    {
+        let mut journal = Journal::of_refs(alloc, plan)?;
+        'objects: for object in objects {
+            let id = object.id();
+            if !self.is_whole(alloc, &id)? {
+                journal.objects.push(id)?;
+            }
+        }
+        Ok(journal)
+    }
+
+    // Writes the objects of these ids, and what each reference is to say beside its place, and notes the folders that
+    // it makes.
+    fn stage(
+        &mut self,
+        alloc: Global,
+        objects: &[Object],
+        ids: &[ObjectId],
+        plan: &RefPlan,
+        folders: &mut Vec<String>,
+    ) -> Result<(), FileFault> {
+        if !ids.is_empty() {
             self.places.point_at("", "objects")?;
-            self.make_missing()?;
+            self.make_missing(alloc, folders)?;
         }
+        let mut left = ids;
         for object in objects {
-            self.write_object(object)?;
+            if let Some((id, more)) = left.split_first() {
+                if *id == object.id() {
+                    self.write_object(object)?;
+                    left = more;
+                }
+            }
         }
+        for (name, to) in plan {
+            if let Some(id) = to {
+                self.stage_ref(alloc, name, id, folders)?;
+            }
+        }
+        Ok(())
+    }
+
+    // Takes back what was staged, and then the mark.
+    fn take_back(
+        &mut self,
+        ids: &[ObjectId],
+        plan: &RefPlan,
+        folders: &[String],
+    ) -> Result<(), FileFault> {
+        self.remove_staged(ids, plan)?;
+        for id in ids {
+            self.places.point_at_object(id)?;
+            self.remove_place()?;
+        }
+        for folder in folders.iter().rev() {
+            // Another program's file may be in it.
+            let _ = remove_folder(&self.rt, folder.as_str());
+        }
+        self.close_change()
+    }
+
+    /// Puts references in their places: takes away those that go, and then gives each other one its new value, which
+    /// may stand beside its place already.
+    pub fn place(&mut self, alloc: Global, plan: &RefPlan) -> Result<(), FileFault> {
         for (name, to) in plan {
             if to.is_none() {
                 self.remove_ref(name)?;
@@ -83,19 +155,40 @@ where
         }
         for (name, to) in plan {
             if let Some(id) = to {
-                self.set_ref(name, id)?;
+                self.place_ref(alloc, name, id)?;
             }
         }
         Ok(())
     }
 
-    // Makes the folder that was taken last, where nothing is.
-    fn make_missing(&self) -> Result<(), FileFault> {
+    // Makes the folder that was taken last, where nothing is, and notes it.
+    fn make_missing(&self, alloc: Global, folders: &mut Vec<String>) -> Result<(), FileFault> {
         match what_stands(&self.rt, self.places.place())? {
             Stand::Folder => Ok(()),
-            Stand::Nothing => make_folder(&self.rt, self.places.place()),
+            Stand::Nothing => {
+                folders.push(String::from_str(alloc, self.places.place())?)?;
+                make_folder(&self.rt, self.places.place())
+            }
             Stand::File | Stand::Other => Err(FileFault::Failed),
         }
+    }
+
+    // Makes the folders above the file of a name that are missing, and notes them.
+    fn make_above(
+        &mut self,
+        alloc: Global,
+        name: &str,
+        folders: &mut Vec<String>,
+    ) -> Result<(), FileFault> {
+        for place in 1..name.len() {
+            if let Some((above, rest)) = name.split_at_checked(place) {
+                if rest.starts_with('/') {
+                    self.places.point_at("", above)?;
+                    self.make_missing(alloc, folders)?;
+                }
+            }
+        }
+        Ok(())
     }
 
     // Keeps an object in the file of its id.
@@ -103,7 +196,7 @@ where
         self.places.point_at_object(&object.id())?;
         let rest = make_object_text(&mut self.text, object)?;
         match write_new_file(&self.rt, self.places.place(), self.text.as_slice(), rest) {
-            // A file of this id is there already, and need not have its text.
+            // A file of this id is there already, and does not have its text.
             Err(FileFault::Occupied) => self.replace(rest),
             answer => answer,
         }
@@ -112,63 +205,45 @@ where
     // Puts a file of the text and this rest at the place that was taken last, where a file may stand: it is either
     // there or the new one is.
     fn replace(&self, rest: &[u8]) -> Result<(), FileFault> {
-        write_new_file(
-            &self.rt,
-            self.places.temporary(),
-            self.text.as_slice(),
-            rest,
-        )?;
+        let text = self.text.as_slice();
+        write_new_file(&self.rt, self.places.temporary(), text, rest)?;
         rename(&self.rt, self.places.temporary(), self.places.place())
     }
 
-    // Sets a reference to an id, and makes the folders above its file that are missing.
-    fn set_ref(&mut self, name: &RefName, id: &ObjectId) -> Result<(), FileFault> {
+    // Writes what a reference is to say beside its place, where no file is in the place of a folder above it: such a
+    // one is to go first.
+    fn stage_ref(
+        &mut self,
+        alloc: Global,
+        name: &RefName,
+        id: &ObjectId,
+        folders: &mut Vec<String>,
+    ) -> Result<(), FileFault> {
         let name = name_text(name);
-        for place in 1..name.len() {
-            if let Some((above, rest)) = name.split_at_checked(place) {
-                if rest.starts_with('/') {
-                    self.places.point_at("", above)?;
-                    self.make_missing()?;
-                }
-            }
+        if self.look_above(name)? == Stand::File {
+            return Ok(());
         }
+        self.make_above(alloc, name, folders)?;
         self.places.point_at("", name)?;
+        self.write_lock(id)
+    }
+
+    // Writes what a reference is to say beside the place that was taken last.
+    fn write_lock(&mut self, id: &ObjectId) -> Result<(), FileFault> {
         self.text.clear();
         append_ref_text(&mut self.text, id)?;
-        self.replace(b"")
+        write_new_file(&self.rt, self.places.temporary(), self.text.as_slice(), b"")
     }
 
-    // Takes a reference away, and then the folders above it that became empty, so that the name of such a folder
-    // may be set.
-    fn remove_ref(&mut self, name: &RefName) -> Result<(), FileFault> {
+    // Gives a reference its new value.
+    fn place_ref(&mut self, alloc: Global, name: &RefName, id: &ObjectId) -> Result<(), FileFault> {
         let name = name_text(name);
+        let mut folders = Vec::new(alloc);
+        self.make_above(alloc, name, &mut folders)?;
         self.places.point_at("", name)?;
-        match remove_file(&self.rt, self.places.place()) {
-            Ok(()) => {}
-            Err(FileFault::Missing | FileFault::UnderFile | FileFault::IsFolder) => {}
-            Err(fault) => return Err(fault),
+        if what_stands(&self.rt, self.places.temporary())? == Stand::Nothing {
+            self.write_lock(id)?;
         }
-        self.remove_empty_folders(name)
-    }
-
-    fn remove_empty_folders(&mut self, name: &str) -> Result<(), FileFault> {
-        let mut below = name;
-        for _ in 0..MOST_FOLDERS {
-            let Some((folder, _)) = below.rsplit_once('/') else {
-                return Ok(());
-            };
-            if folder == "refs" {
-                return Ok(());
-            }
-            self.places.point_at("", folder)?;
-            match remove_folder(&self.rt, self.places.place()) {
-                Ok(()) => {}
-                Err(FileFault::Missing) => {}
-                Err(FileFault::Occupied | FileFault::UnderFile) => return Ok(()),
-                Err(fault) => return Err(fault),
-            }
-            below = folder;
-        }
-        Ok(())
+        rename(&self.rt, self.places.temporary(), self.places.place())
     }
 }

@@ -15,7 +15,7 @@ use keeper_api::{Change, KeeperFault, RefValue};
 use octets::Memory;
 use std::alloc::Global;
 use std::collections::BTreeSet;
-use std::os::fd::IntoRawFd;
+use std::fs::File;
 use std::rt::Files;
 
 // A change of more objects is not noted in the list of ids one by one.
@@ -28,8 +28,8 @@ const MOST_NOTED: usize = 4096;
 /// names are passed over. A file of another form is a fault, a link, a pipe or a device in a file's place too, and so
 /// is a change that sets a reference whose name is a folder.
 ///
-/// One call changes the folder at a time. While it may, the file `open.lock` stands there, and while a change is made,
-/// and where it was left half made, `commit.lock` beside it.
+/// One call changes the folder at a time. While it may, it holds the file `open.lock` there; while a change is made, and
+/// where it was left half made, `commit.lock` stands beside it and says what is to change.
 #[derive(Drop)]
 pub struct DirKeeper<R: Files = HostRuntime> {
     folder: Folder<R>,
@@ -40,10 +40,7 @@ pub struct DirKeeper<R: Files = HostRuntime> {
     reads: u64,
 }
 
-impl<R: Files> DirKeeper<R>
-where
-    R::File: IntoRawFd,
-{
+impl<R: Files<File = File>> DirKeeper<R> {
     /// The keeper over the folder of this path, which may end in a slash, for calls that only read: each `commit`
     /// answers `Failed`. `Failed` where there is no such folder, so that a wrong path is not read as an empty
     /// repository.
@@ -57,7 +54,8 @@ where
     }
 
     /// The keeper over the folder of this path, which may end in a slash, for calls that may change it, until `end`:
-    /// until then every other one is kept out. The folder is made where nothing is.
+    /// until then every other one is kept out. The folder is made where nothing is, and what a call left there that
+    /// was stopped in a change is mended.
     pub fn to_change(rt: &R, alloc: Global, folder: &str) -> Result<DirKeeper<R>, OpenFault>
     where
         R: Clone + Drop,
@@ -81,7 +79,9 @@ where
     }
 
     /// Lets others at the folder, and takes it away again where it was made for this keeper and nothing was ever
-    /// committed. A folder with a change that was left half made stays locked.
+    /// committed. A folder with a change that was left half made stays marked. For a keeper that only reads `Failed`
+    /// says that another call may have changed the folder since it was opened, so that what was read may be of two
+    /// states.
     pub fn end(self, alloc: Global) -> Result<(), KeeperFault>
     where
         R: Drop,
@@ -238,9 +238,10 @@ where
         ensures faults { self.new.faults ≡ self.old.faults }
         ensures reads { self.new.reads ≡ self.old.reads }
     {
-        let plan = plan_of(alloc, change.refs.as_slice())?;
+        let asked = plan_of(alloc, change.refs.as_slice())?;
+        let plan = self.folder.needed(alloc, &asked)?;
         if plan.is_empty() {
-            self.folder.write(change.objects.as_slice(), &plan)?;
+            self.folder.write(alloc, change.objects.as_slice(), &plan)?;
         } else {
             let mut names = self.take_names(alloc)?;
             change_names(&mut names, &plan)?;
@@ -248,7 +249,7 @@ where
                 return Err(FileFault::Failed);
             }
             self.folder.expect_places(&names, &plan)?;
-            self.folder.write(change.objects.as_slice(), &plan)?;
+            self.folder.write(alloc, change.objects.as_slice(), &plan)?;
             self.names = Some(names);
         }
         self.note_ids(change.objects.as_slice());

@@ -15,8 +15,8 @@ use std::{fs, io};
 // How many bytes of names are asked for at a time. It has room for a name of any length that a system allows.
 const NAMES: usize = 32768;
 
-// Makes a call until the system does not interrupt it.
-fn again<T, F: FnMut() -> io::Result<T>>(mut call: F) -> Result<T, FileFault>
+/// Makes a call until the system does not interrupt it.
+pub fn again<T, F: FnMut() -> io::Result<T>>(mut call: F) -> Result<T, FileFault>
     requires { F.IsAlwaysCallable call }
 {
     for _ in 0..u64::MAX {
@@ -94,7 +94,12 @@ fn close_file<F: IntoRawFd>(file: F) -> Result<(), FileFault> {
     Ok(())
 }
 
-/// Writes two parts into a new file, where nothing stands, a link included.
+/// A new file, where nothing stands, a link included.
+pub fn new_file<R: Files>(rt: &R, path: &str) -> Result<R::File, FileFault> {
+    again(|| fs::File::create_new(rt, path))
+}
+
+/// Writes two parts into a new file, where nothing stands. Where they cannot be written it is taken away again.
 pub fn write_new_file<R: Files>(
     rt: &R,
     path: &str,
@@ -104,11 +109,16 @@ pub fn write_new_file<R: Files>(
 where
     R::File: IntoRawFd,
 {
-    let mut file = again(|| fs::File::create_new(rt, path))?;
-    let written = write_parts(&mut file, first, second);
+    let mut file = new_file(rt, path)?;
+    let mut answer = write_parts(&mut file, first, second);
     let closed = close_file(file);
-    written?;
-    closed
+    if answer.is_ok() {
+        answer = closed;
+    }
+    if answer.is_err() {
+        let _ = remove_file(rt, path);
+    }
+    answer
 }
 
 /// Makes a folder where nothing stands.

@@ -10,14 +10,11 @@ use crate::DirKeeper;
 use git_object::{Object, ObjectId, RefName};
 use keeper_api::{Change, Keeper, KeeperFault, RefValue};
 use std::alloc::Global;
-use std::os::fd::IntoRawFd;
+use std::fs::File;
 use std::rt::Files;
 
 /// It tells nothing. A fault is counted exactly where a call answers `Failed`.
-impl<R: Files> Keeper for DirKeeper<R>
-where
-    R::File: IntoRawFd,
-{
+impl<R: Files<File = File>> Keeper for DirKeeper<R> {
     ghost content = { λ _. None };
 
     ghost tells_left = { λ _. false };

@@ -1,13 +1,12 @@
 //! The folder of a store that is made for it, and taken away again where nothing was ever kept in it.
 
-use crate::file_calls::{
-    Stand, leads_to, make_folder, remove_file, remove_folder, rename, write_new_file,
-};
+use crate::file_calls::{Stand, leads_to, make_folder, remove_file, remove_folder, rename};
 use crate::file_faults::FileFault;
+use crate::marks::HeldMark;
 use crate::places::FolderPaths;
 use itoa::Buffer;
 use std::alloc::Global;
-use std::os::fd::IntoRawFd;
+use std::fs::File;
 use std::rt::Files;
 
 // How many folders that a stop left beside the place are passed over.
@@ -29,15 +28,12 @@ pub struct MadeFolder {
 impl MadeFolder {
     /// Makes the folder of this path with this mark in it, and the folders above it that are missing. Where that
     /// fails, nothing of it stays.
-    pub fn make<R: Files>(
+    pub fn make<R: Files<File = File>>(
         rt: &R,
         alloc: Global,
         path: &str,
         mark: &str,
-    ) -> Result<MadeFolder, FileFault>
-    where
-        R::File: IntoRawFd,
-    {
+    ) -> Result<(MadeFolder, HeldMark), FileFault> {
         let path = path.trim_end_matches('/');
         let room = path.len().saturating_add(LONGEST_END);
         let mut made = MadeFolder {
@@ -48,7 +44,7 @@ impl MadeFolder {
         let mut places = FolderPaths::of(alloc, "")?;
         let answer = made.make_all(rt, alloc, mark, &mut places);
         match answer {
-            Ok(()) => Ok(made),
+            Ok(mark) => Ok((made, mark)),
             Err(fault) => {
                 made.remove_above(rt);
                 Err(fault)
@@ -56,16 +52,13 @@ impl MadeFolder {
         }
     }
 
-    fn make_all<R: Files>(
+    fn make_all<R: Files<File = File>>(
         &mut self,
         rt: &R,
         alloc: Global,
         mark: &str,
         places: &mut FolderPaths,
-    ) -> Result<(), FileFault>
-    where
-        R::File: IntoRawFd,
-    {
+    ) -> Result<HeldMark, FileFault> {
         self.make_above(rt)?;
         self.make_beside(rt)?;
         *places = FolderPaths::of(alloc, self.beside.as_str())?;
@@ -77,18 +70,16 @@ impl MadeFolder {
         answer
     }
 
-    fn mark_and_move<R: Files>(
+    fn mark_and_move<R: Files<File = File>>(
         &self,
         rt: &R,
         mark: &str,
         places: &mut FolderPaths,
-    ) -> Result<(), FileFault>
-    where
-        R::File: IntoRawFd,
-    {
+    ) -> Result<HeldMark, FileFault> {
         places.point_at("", mark)?;
-        write_new_file(rt, places.place(), b"", b"")?;
-        rename(rt, self.beside.as_str(), self.path.as_str())
+        let mark = HeldMark::take(rt, places.place())?;
+        rename(rt, self.beside.as_str(), self.path.as_str())?;
+        Ok(mark)
     }
 
     // Makes the folders above that are missing.

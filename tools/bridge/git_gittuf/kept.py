@@ -6,6 +6,7 @@ in is first written beside the folder and then renamed into it, so no file in it
 """
 
 import contextlib
+import fcntl
 import os
 import re
 
@@ -14,6 +15,8 @@ from git_gittuf.files import remove_tree, row_of_entry, sync, write_out
 from git_gittuf.repository import Stopped
 
 VALUE = re.compile(rb"[0-9a-f]{64}\n")
+# The marks of whoever may change a store, of a change, and of one that was about to begin.
+MARKS = ("open.lock", "commit.lock", "commit.new")
 # More new files than these are written out by one call for the whole file system, and not one by one.
 FEW = 64
 
@@ -92,7 +95,7 @@ class Kept:
         return os.path.exists(self.small)
 
     def marks(self):
-        return {it for it in ("open.lock", "commit.lock") if os.path.lexists(os.path.join(self.folder, it))}
+        return {it for it in MARKS if os.path.lexists(os.path.join(self.folder, it))}
 
     def unmark(self):
         for it in self.marks():
@@ -221,26 +224,31 @@ class Kept:
         self.added = []
 
     def mark(self, name):
+        """Makes a mark, and returns its open file."""
         try:
-            os.close(os.open(os.path.join(self.folder, name), os.O_CREAT | os.O_EXCL | os.O_WRONLY, 0o644))
+            return os.open(os.path.join(self.folder, name), os.O_CREAT | os.O_EXCL | os.O_WRONLY, 0o644)
         except FileExistsError:
             raise Stopped(f"another gittuf works in {self.folder}: wait for it, or see git gittuf doctor") from None
 
     @contextlib.contextmanager
     def opened(self):
         """Keeps others out while objects are put in, as each command does that may change the store."""
-        self.mark("open.lock")
+        held = self.mark("open.lock")
         try:
+            # Without it the program would take the mark for one that a stop left. Not every file system has locks.
+            with contextlib.suppress(OSError):
+                fcntl.flock(held, fcntl.LOCK_EX | fcntl.LOCK_NB)
             yield
         finally:
             if "commit.lock" not in self.marks():
                 self.unmark()
+            os.close(held)
 
     def set_references(self, held, wanted):
-        """Makes the references what is wanted. A stop in between leaves the mark of a change that is not whole."""
+        """Makes the references what is wanted. A stop in between leaves the mark of a change that is not whole, and does not say which."""
         self.write_out()
         self.moves += 1
-        self.mark("commit.lock")
+        os.close(self.mark("commit.lock"))
         for name in held.keys() - wanted.keys():
             self.drop(os.path.join(self.folder, os.fsdecode(name)))
         for name, value in wanted.items():

@@ -12,14 +12,11 @@ from git_gittuf.telling import say, show, tell
 
 
 def expect_whole(store):
-    """Refuses the own mirror where a change of it was stopped half way, and takes away what an earlier stop left."""
-    begun, opened = (os.path.join(store, it) for it in ("commit.lock", "open.lock"))
-    if os.path.lexists(begun):
+    """Refuses the own mirror where a change of it was stopped half way by a program that did not write down which: others the next offer mends."""
+    begun = os.path.join(store, "commit.lock")
+    if os.path.lexists(begun) and not os.path.getsize(begun):
         said = f"{plain(store)} was left in the middle of a change, and counts for nothing"
         raise Stopped(f"{said}: remove it and begin anew; a database, as --into mirror.db makes one, is never left so")
-    if os.path.lexists(opened):
-        # Nobody else is at work in it.
-        os.remove(opened)
 
 
 def offered(work, place, store):
