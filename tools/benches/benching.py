@@ -9,8 +9,6 @@ import time
 
 TOOLS = os.path.dirname(os.path.dirname(os.path.realpath(__file__)))
 sys.path[1:1] = [os.path.join(TOOLS, it) for it in ("tests", "bridge", "build")]
-# What is measured is built here, for the processor that is asked for, and is not the released program.
-os.environ["GITTUF_BUILD"] = "1"
 
 import unproved
 from checking import EMPTY_STREAM, LAUNCHER, VERIFY
@@ -102,9 +100,10 @@ def build_bench(work, cpu, *words):
 
 
 def build_program():
-    """Builds the program where it is not built for this machine's processor, and returns that processor."""
+    """Sees to the program of these sources for this machine's processor, and returns that processor: where none is built
+    here it is the released one, whose bytes a build makes too, and where release/ has none of them one is built."""
     cpu = processor()
-    # The launcher builds it, and says so on standard error.
+    # The launcher unpacks or builds it, and says on standard error that it builds.
     environment = {**os.environ, "GITTUF_CPU": cpu}
     with open(EMPTY_STREAM, "rb") as empty:
         subprocess.run([LAUNCHER, *VERIFY], stdin=empty, stdout=subprocess.DEVNULL, env=environment, check=True)
@@ -135,8 +134,9 @@ def head():
 
 
 ENDING = """
-Ratios are of processor time. It builds what is not built, for the processor that tools/build/cpu prints, and makes its files in
-a temporary folder below TMPDIR or /tmp, which goes.
+Ratios are of processor time. It takes the released program where that is of these sources, and builds what is not there, for
+the processor that tools/build/cpu prints; GITTUF_BUILD=1 has it build the program too. It makes its files in a temporary folder
+below TMPDIR or /tmp, which goes.
 
 Status 0: every bound is met. Status 1: one is not, or something failed. Status 2: the words are not as above.
 """
