@@ -6,18 +6,16 @@ database and half over a folder, to desks that are killed at drawn moments, and 
 """
 
 import collections
-import hashlib
 import itertools
 import os
 import random
-import shutil
 import sys
 import tempfile
 import threading
 import time
 
 from check_repositories import Repositories
-from check_serving import desk, exported, imported, objects_in
+from check_serving import desk, exported, objects_in
 from checking import PROGRAM, Failure, in_this_run, run, want, want_run
 from desk_clients import LOG, Client, asked, push_at_once, repository_of
 from stand_in_desk import NUMBER, PARENT, RECORDED
@@ -86,17 +84,20 @@ def takes_four_at_once(repositories):
 
 
 def taken_up(place):
-    """Takes the mark away that a desk that is killed leaves in a folder, and tells whether it was in the middle of a change."""
-    if place.endswith("/"):
-        if os.path.exists(f"{place}commit.lock"):
-            return False
-        os.remove(f"{place}open.lock")
-    return True
+    """Lets the next command that may change a store mend what a desk that is killed left in a folder, and tells whether that
+    was the half of a change."""
+    if not place.endswith("/"):
+        return False
+    was_half = os.path.exists(f"{place}commit.lock")
+    # It is refused here, since the store is not empty.
+    want_run((PROGRAM, place, "-", "import"), 3, b"", b"stream 8\n")
+    want(sorted(os.listdir(place)), ["objects", "refs"], "what is in the folder after a stop")
+    return was_half
 
 
 class Load:
     """A store under clients whose desks are killed, and how often a stop left what: of the entries of which nobody was told
-    one is there or none is, or a folder was in the middle of a change."""
+    one is there or none is, and a folder may have been in the middle of a change."""
 
     def __init__(self, place):
         self.place, self.clients, self.ends = place, [Client(f"client-{it}") for it in range(UNDER_KILLS)], collections.Counter()
@@ -108,7 +109,8 @@ class Load:
             timer.start()
             want(push_at_once(port, self.clients, lambda _: True), len(self.clients), "how many connections were lost")
             timer.join()
-        self.ends[self.found() if taken_up(self.place) else self.half()] += 1
+        self.ends["half"] += taken_up(self.place)
+        self.ends[self.found()] += 1
 
     def known(self):
         """The changes that were told, by number, and those of which nothing is known, by the ids of their entries."""
@@ -127,36 +129,18 @@ class Load:
         want(len(ids) - len(others), len(told), "how many of the entries that were told are there")
         return "with one" if others else "with none"
 
-    def half(self):
-        """A folder in the middle of a change says so, and has each object that was told whole; it is made again."""
-        want_run((PROGRAM, self.place, "-", "log"), 4, b"", b"fault\n")
-        told, doubts = self.known()
-        entries, at = {it.id: it for it in told.values()} | doubts, told[max(told)].id if told else None
-        there = []
-        while at:
-            there.append(entries[at])
-            parent = PARENT.search(entries[at].objects[-1][1])
-            at = parent and parent[1].decode()
-        want([it for it in told.values() if it not in there], [], "what was told and does not stand behind the last")
-        made = repository_of(there)
-        for id in made.objects:
-            with open(os.path.join(self.place, "objects", id), "rb") as file:
-                want(hashlib.sha256(file.read()).hexdigest(), id, "the id of an object that was told")
-        shutil.rmtree(self.place)
-        imported(self.place, made.stream())
-        return "half"
-
     def ended(self):
         """Lets each client hear what became of its last entry, and holds the whole store to all that was told."""
         with desk(self.place, WORKERS) as (ran, port):
             want(push_at_once(port, self.clients, lambda it: it.sent), 0, "how many connections were lost in the end")
             ran.kill()
-        want(taken_up(self.place), True, "whether the folder is whole in the end")
+        self.ends["half"] += taken_up(self.place)
         holds_whole(exported(self.place), self.clients)
+        halves = self.ends.pop("half")
         ends = ", ".join(f"{count} {end}" for end, count in sorted(self.ends.items()))
         stale, again, already = (sum(getattr(it, name) for it in self.clients) for name in ("stale", "again", "already"))
         taken = sum(len(it.told) for it in self.clients)
-        return f"{sum(self.ends.values())} kills ({ends}), {taken} entries, {stale} stale, {again} sent again, {already} of them there already"
+        return f"{sum(self.ends.values())} kills ({ends}, {halves} in a change), {taken} entries, {stale} stale, {again} sent again, {already} of them there already"
 
 
 def kill_all(repositories, seconds, seed, life=LIFE):
