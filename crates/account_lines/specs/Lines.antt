@@ -54,63 +54,72 @@ author_data entry = option_data text_data (author_of entry.signed)
 abbrev pub time_data : Entry → Data
 time_data entry = option_data number_data (option_and_then time_of (author_of entry.signed))
 
--- what is known of an entry of a reference
-abbrev pub known_members : Entry → EntryRow → Members
-known_members entry row =
+-- The fields of an entry stand in parts, each before the fields that are given.
+
+-- of an entry of a reference: who made it, and how it was judged
+abbrev pub judged_members : Entry → EntryRow → Members → Members
+judged_members entry row rest =
     member (codes "author") (author_data entry)
     (member (codes "epoch") (option_data number_data row.epoch)
     (member (codes "fault") (refusal_data row.verdict)
     (member (codes "from") (option_data hex_data row.from)
     (member (codes "id") (hex_data entry.id)
-    (member (codes "key") (option_data hex_data entry.signer)
-    (member (codes "persons") (list_data text_data row.persons)
-    (member (codes "prior") (option_data number_data row.prior)
-    (member (codes "signed") (boolean row.signed)
-    (member (codes "signers") (list_data hex_data row.signers)
-    (member (codes "time") (time_data entry)
-    (member (codes "verdict") (string (verdict_word row.verdict)) no_members)))))))))))
+    (member (codes "key") (option_data hex_data entry.signer) rest)))))
 
--- an entry of a reference, with that and what later entries make of it
-abbrev pub reference_data : Entry → List ℕ → List ℕ → EntryRow → Later → Data
-reference_data entry name target row later =
-    object (member (codes "author") (author_data entry)
-    (member (codes "epoch") (option_data number_data row.epoch)
-    (member (codes "fault") (refusal_data row.verdict)
-    (member (codes "from") (option_data hex_data row.from)
-    (member (codes "id") (hex_data entry.id)
-    (member (codes "key") (option_data hex_data entry.signer)
-    (member (codes "kind") (string (codes "reference"))
+-- where it stands
+abbrev pub placed_members : Entry → List ℕ → EntryRow → Later → Members → Members
+placed_members entry name row later rest =
+    member (codes "kind") (string (codes "reference"))
     (member (codes "number") (number_data entry.number)
     (member (codes "persons") (list_data text_data row.persons)
     (member (codes "prior") (option_data number_data row.prior)
     (member (codes "reference") (text_data name)
-    (member (codes "rescued") (option_data number_data later.rescuer)
-    (member (codes "signed") (boolean row.signed)
+    (member (codes "rescued") (option_data number_data later.rescuer) rest)))))
+
+-- who signed it, and what it records
+abbrev pub signed_members : Entry → List ℕ → EntryRow → Later → Members → Members
+signed_members entry target row later rest =
+    member (codes "signed") (boolean row.signed)
     (member (codes "signers") (list_data hex_data row.signers)
     (member (codes "skipped") (option_data number_data later.skipper)
     (member (codes "target") (hex_data target)
     (member (codes "time") (time_data entry)
-    (member (codes "verdict") (string (verdict_word row.verdict)) no_members))))))))))))))))))
+    (member (codes "verdict") (string (verdict_word row.verdict)) rest)))))
+
+-- an entry of a reference, as it was judged, and with what later entries make of it
+abbrev pub reference_data : Entry → List ℕ → List ℕ → EntryRow → Later → Data
+reference_data entry name target row later =
+    object (judged_members entry row
+    (placed_members entry name row later (signed_members entry target row later no_members)))
 
 -- whether an annotation skips what it lists
 abbrev pub annotation_word : Bool → List ℕ
 annotation_word true = codes "skip"
 annotation_word false = codes "note"
 
-abbrev pub annotation_data : Entry → List (List ℕ) → Bool → List ℕ → EntryRow → Data
-annotation_data entry ids skip message row =
-    object (member (codes "author") (author_data entry)
+-- of an annotation: who made it, and what it lists
+abbrev pub listing_members : Entry → List (List ℕ) → Bool → EntryRow → Members → Members
+listing_members entry ids skip row rest =
+    member (codes "author") (author_data entry)
     (member (codes "entries") (list_data hex_data ids)
     (member (codes "epoch") (option_data number_data row.epoch)
     (member (codes "id") (hex_data entry.id)
     (member (codes "key") (option_data hex_data entry.signer)
-    (member (codes "kind") (string (annotation_word skip))
-    (member (codes "message") (text_data message)
+    (member (codes "kind") (string (annotation_word skip)) rest)))))
+
+-- what it says, and who signed it
+abbrev pub noting_members : Entry → List ℕ → EntryRow → Members → Members
+noting_members entry message row rest =
+    member (codes "message") (text_data message)
     (member (codes "number") (number_data entry.number)
     (member (codes "persons") (list_data text_data row.persons)
     (member (codes "signed") (boolean row.signed)
     (member (codes "time") (time_data entry)
-    (member (codes "verdict") (string (verdict_word row.verdict)) no_members))))))))))))
+    (member (codes "verdict") (string (verdict_word row.verdict)) rest)))))
+
+abbrev pub annotation_data : Entry → List (List ℕ) → Bool → List ℕ → EntryRow → Data
+annotation_data entry ids skip message row =
+    object (listing_members entry ids skip row (noting_members entry message row no_members))
 
 abbrev pub body_data : Entry → EntryRow → Later → EntryBody → Data
 body_data entry row later (Reference name target) = reference_data entry name target row later

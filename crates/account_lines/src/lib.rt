@@ -6,6 +6,7 @@
 
 mod entries;
 mod faults;
+mod fields;
 mod made;
 mod mending;
 mod rows;
