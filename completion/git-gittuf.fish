@@ -39,6 +39,6 @@ for it in git git-gittuf
     complete -c $it -n '__git_gittuf_is record recover push sync approve skip note doctor' -l anyway
     complete -c $it -n '__git_gittuf_is mirror' -F -a '(git remote 2>/dev/null)' -l into
     complete -c $it -n '__git_gittuf_is evidence' -F -s o -l check -l from -l key
-    complete -c $it -n '__git_gittuf_is hook' -f -a install -l server -l remove
+    complete -c $it -n '__git_gittuf_is hook' -f -a install -l server -l most-seconds -l remove
     complete -c $it -n '__git_gittuf_is policy' -f -a "$steps"
 end

@@ -75,7 +75,7 @@ _git_gittuf() {
         mirror) _gittuf_reply -f -W "--into $(git remote 2> /dev/null)" ;;
         evidence) _gittuf_reply -f -W '-o --check --from --key' ;;
         skip | note) _gittuf_reply -W '-m --anyway' ;;
-        hook) _gittuf_reply -W 'install --server --remove' ;;
+        hook) _gittuf_reply -W 'install --server --most-seconds --remove' ;;
         policy)
             if [ "$((COMP_CWORD - at))" -eq 2 ]; then
                 _gittuf_reply -W 'init person rotate rule global show sign discard apply'

@@ -1,4 +1,4 @@
-"""The checks of tools/test on a push to a server whose hook judges that is killed, and on a server that is."""
+"""The checks of tools/test on a push to a server whose hook judges that is killed or takes long to judge, and on a server that is."""
 
 import contextlib
 import os
@@ -8,11 +8,14 @@ import subprocess
 import time
 
 from checking import at_terminal, in_this_run, run, want
-from check_gate import LOG, gated, there
+from check_gate import LOG, denied, gated, there
+from check_store import MANY, recorded_by_nobody
 from guarded_clones import MAIN
 
 # So many pushes are killed in the shorter run, and in the longer one.
 STOPS, MORE = 4, 12
+# So many entries take the program more than a second to judge.
+ENTRIES = 8_000
 # The server's side goes on where who pushes is killed, as on another machine: it is of no group of his, and each process of
 # it has the pipe open.
 OTHER_MACHINE = """#!/bin/sh
@@ -112,7 +115,29 @@ def leads_on_after_a_stop_of_the_server(repositories):
         clones.verdict(who, f"accepted {MAIN} 2 entries")
 
 
+def refuses_what_takes_long(repositories):
+    """a push that takes more of the processor to judge than a server gives it is refused as a whole, lawful or not, and else taken"""
+    clones = gated(repositories, "gated in seconds")
+    for number in ("0", "x"):
+        clones.refused("server.git", "hook", "install", "--server", "--most-seconds", number, status=2, part="is no number of seconds")
+    clones.refused("alice", "hook", "install", "--most-seconds", "5", status=2, part="hook install --server --most-seconds N")
+    clones.gittuf("server.git", "hook", "install", "--server", "--most-seconds", "1")
+    other = clones.git("commit-tree", "-p", MAIN, "-m", "other", f"{MAIN}^{{tree}}", who="alice").decode().strip()
+    clones.git("branch", "many", other, who="alice")
+    recorded_by_nobody(clones, "alice", [other] * ENTRIES)
+    words = ("--quiet", "origin", MANY, f"{LOG}:{LOG}")
+    denied(clones, "alice", *words, part="judging takes more than 1 seconds of the processor")
+    clones.git("config", "gittuf.mostSeconds", "soon", who="server.git")
+    _, _, errors = run("git", "-C", clones.path("alice"), "push", *words)
+    want(b"gittuf.mostSeconds is 'soon', and no number" in errors, True, f"whether an odd limit is told: {errors}")
+    clones.gittuf("server.git", "hook", "install", "--server", "--most-seconds", "900")
+    clones.git("push", *words, who="alice")
+    clones.gittuf("server.git", "hook", "--remove")
+    want(run("git", "-C", clones.path("server.git"), "config", "gittuf.mostSeconds")[0], 1, "whether the limit is gone with the hook")
+
+
 CHECKS = (
     takes_all_or_nothing_when_stopped,
     leads_on_after_a_stop_of_the_server,
+    refuses_what_takes_long,
 )

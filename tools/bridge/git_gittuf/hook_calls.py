@@ -6,6 +6,7 @@ import subprocess
 import sys
 
 from git_gittuf import gating, hooks
+from git_gittuf.budgets import budget
 from git_gittuf.gating import Push
 from git_gittuf.remotes import SECONDS, beside
 from git_gittuf.repository import LOG, ZEROS, Stopped
@@ -76,6 +77,7 @@ def before_push(work, words, lines):
 def before_receive(work, words, lines):
     """Refuses a push that would leave something unlawful here, and else keeps the lock until Git has moved the references."""
     repository = work.repository
+    budget.begin(repository)
     there = repository.all_references()
     moves = {name: (value_of(old), value_of(new)) for old, new, name in lines}
     gone_on = [name for name, (old, _) in moves.items() if there.get(name) != old]

@@ -4,7 +4,7 @@ import os
 import shlex
 import sys
 
-from git_gittuf import keys
+from git_gittuf import budgets, keys, settings
 from git_gittuf.repository import Stopped
 from git_gittuf.shown import quoted
 
@@ -72,6 +72,14 @@ def remove(repository):
         raise Stopped(f"no hook of git gittuf is in {folder}", 3)
     for it in gone:
         print(f"{it} is taken away")
+    if repository.config(budgets.SETTING):
+        repository.set("--unset-all", budgets.SETTING)
+        print(f"{budgets.SETTING} is set no more")
+
+
+def limit(repository, seconds):
+    settings.keep(repository, budgets.SETTING, str(seconds))
+    print(f"a push that takes more than {seconds} seconds of the processor to judge is refused: {budgets.SETTING} says so")
 
 
 def change(work, words):
@@ -82,5 +90,9 @@ def change(work, words):
         raise Stopped("git gittuf hook install makes a hook, and git gittuf hook --remove takes it away", 2)
     elif work.repository.top is None and not words.server:
         raise Stopped("nobody pushes from a bare repository: git gittuf hook install --server guards what it takes", 2)
+    elif words.most_seconds and not words.server:
+        raise Stopped("a limit is for those who push to a server: git gittuf hook install --server --most-seconds N", 2)
     else:
         install(work.repository, SERVER if words.server else CLONE)
+        if words.most_seconds:
+            limit(work.repository, words.most_seconds)

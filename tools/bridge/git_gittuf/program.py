@@ -5,6 +5,7 @@ import subprocess
 import sys
 import time
 
+from git_gittuf.budgets import budget
 from git_gittuf.repository import Stopped
 from stream_format import Git
 
@@ -125,6 +126,7 @@ def ended(called, words, input, is_told, output=subprocess.PIPE):
         ran = subprocess.Popen(command, stdin=subprocess.PIPE, stdout=output, stderr=errors, pass_fds=Git.kept_open)
     except OSError as error:
         raise Stopped(f"{called} does not run: {error.strerror}") from None
+    budget.hold(ran.pid)
     with ran:
         while True:
             try:
@@ -137,4 +139,5 @@ def ended(called, words, input, is_told, output=subprocess.PIPE):
                     name, word = os.path.basename(called), words[1 if called != CALLED else 2]
                     progress.tell(f"{name} {word} is at work, for {time.monotonic() - started:.0f} s now")
     progress.end()
+    budget.expect_left(ran.returncode)
     return ran.returncode, printed, said

@@ -83,8 +83,9 @@ Every day
                                 no policy here names
   evidence --check FILE         say what such a dossier shows
   hook install [--server]       let git push be refused where it would leave something unlawful, before it leaves this
-                                clone, or in a server's repository before it is taken; a hook that stands there is
-                                called first. git -c gittuf.anyway=true push leaves a clone all the same
+      [--most-seconds N]        clone, or in a server's repository before it is taken; a hook that stands there is
+                                called first. git -c gittuf.anyway=true push leaves a clone all the same. With N a server
+                                refuses a push that takes more seconds of the processor to judge
   hook --remove                 take these hooks away
 
 What verify and the commands that sign print, and their statuses, are those of the program: gittuf --help has them. On

@@ -5,7 +5,7 @@ import functools
 import importlib
 import re
 
-from git_gittuf import hooks
+from git_gittuf import budgets, hooks
 from git_gittuf.repository import Stopped
 from git_gittuf.shown import plain
 
@@ -86,6 +86,13 @@ def port(text):
     return int(text)
 
 
+def seconds(text):
+    """A number of seconds that may be spent."""
+    if not budgets.SECONDS.fullmatch(text):
+        raise argparse.ArgumentTypeError(f"{text!r} is no number of seconds: 1 to 999999 are")
+    return int(text)
+
+
 def entry_id(text):
     """The whole id of an entry, since a part of one could be met by trying."""
     if not re.fullmatch("[0-9a-f]{64}", text):
@@ -163,6 +170,7 @@ def words_of_hooks(take):
     take["hook"].add_argument("more", nargs="*")
     take["hook"].add_argument("--server", action="store_true")
     take["hook"].add_argument("--remove", action="store_true")
+    take["hook"].add_argument("--most-seconds", type=seconds, metavar="N")
 
 
 def words_of_judging(take):

@@ -1,0 +1,48 @@
+"""How much of the processor a server spends on judging a push, where who keeps it set a limit."""
+
+import contextlib
+import math
+import re
+import resource
+import signal
+
+from git_gittuf.repository import Stopped
+from git_gittuf.shown import plain
+
+SETTING = "gittuf.mostSeconds"
+SECONDS = re.compile("[1-9][0-9]{0,5}")
+
+
+class Budget:
+    """What may be spent, in seconds, or without end; what was spent before it began counts too."""
+
+    most = None
+
+    def used(self):
+        spent = (resource.getrusage(it) for it in (resource.RUSAGE_SELF, resource.RUSAGE_CHILDREN))
+        return sum(it.ru_utime + it.ru_stime for it in spent)
+
+    def begin(self, repository):
+        found = repository.config(SETTING)
+        if found and not SECONDS.fullmatch(found[-1]):
+            # Whoever meant to set a limit is not to go on without.
+            said = f"{SETTING} is {plain(found[-1])!r}, and no number of seconds from 1 to 999999"
+            raise Stopped(f"{said}: git gittuf hook install --server --most-seconds N sets it", 2)
+        self.most = int(found[-1]) if found else None
+
+    def hold(self, process):
+        """Lets a program that was begun just now spend no more than what is left."""
+        if self.most is not None:
+            left = max(1, math.ceil(self.most - self.used()))
+            # One that has ended by now needs no limit.
+            with contextlib.suppress(ProcessLookupError):
+                resource.prlimit(process, resource.RLIMIT_CPU, (left, left + 1))
+
+    def expect_left(self, status):
+        """Ends where a program was ended by its limit, or more is spent than may be."""
+        if self.most is not None and (status in (-signal.SIGXCPU, -signal.SIGKILL) or self.used() > self.most):
+            said = f"judging takes more than {self.most} seconds of the processor, all that {SETTING} gives a push here"
+            raise Stopped(f"{said}; whether it is lawful was not found, and nothing of this push is taken", 1)
+
+
+budget = Budget()
