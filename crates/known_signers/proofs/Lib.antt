@@ -1,0 +1,2 @@
+mod SameFields
+mod MoreRows

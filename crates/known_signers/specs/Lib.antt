@@ -1,2 +1,6 @@
 -- what is asked
 pub mod Asked
+-- texts that were read
+pub mod ReadTexts
+-- what an approval's payload says
+pub mod ApprovalFields

@@ -4,6 +4,7 @@ ghost use Rattle.std.specs.Prelude.{◌≡◌, IfOk, IfSome};
 ghost use Rattle.std.specs.Option.{option_copied};
 ghost use Rattle.approvals.specs.Signers.{env_signers};
 
+use crate::copies::copied_envelope;
 use crate::same::{Same, same_items};
 use dsse_envelope::Envelope;
 use octets::Memory;
@@ -30,26 +31,13 @@ impl Model for FoundSigners {
     ghost invariant = { λ f. f.ids ≡ env_signers f.envelope f.keys };
 }
 
-fn copied(envelope: &Envelope) -> Result<Envelope, Memory>
-    ensures { IfOk result (λ copy. copy ≡ envelope.now) }
-{
-    let payload_type = envelope.payload_type.copy()?;
-    let payload = envelope.payload.copy()?;
-    let signatures = envelope.signatures.copy()?;
-    Ok(Envelope {
-        payload_type,
-        payload,
-        signatures,
-    })
-}
-
 impl FoundSigners {
     /// That these are the ids of those of the keys that signed the envelope.
     pub fn of(envelope: &Envelope, keys: &Keys, ids: &KeyIds) -> Result<FoundSigners, Memory>
         requires { ids.now ≡ env_signers envelope.now keys.now }
         ensures { IfOk result (λ found. (found.envelope ≡ envelope.now) × (found.keys ≡ keys.now)) }
     {
-        let envelope = copied(envelope)?;
+        let envelope = copied_envelope(envelope)?;
         let keys = keys.copy()?;
         let ids = ids.copy()?;
         Ok(FoundSigners {

@@ -1,21 +1,53 @@
-//! What is known of who signed, lent to whoever asks.
+//! What is known of who signed and of texts that were read, lent to whoever asks.
 
 ghost use Rattle.std.specs.Prelude.{◌≡◌, IfOk};
+ghost use Rattle.std.specs.Result.{result_ok};
+ghost use Rattle.json_fields.specs.Json.{json_of};
+ghost use Rattle.dsse_envelope.specs.Envelopes as envelopes;
+ghost use Rattle.root_metadata.specs.Roots as roots;
+ghost use Rattle.rule_files.specs.Files as files;
+ghost use Rattle.approvals.specs.Approvals.{lets_go};
 ghost use Rattle.approvals.specs.Signers.{env_signers};
 
+use crate::payloads::{Fields, let_go};
 use crate::rows::Rows;
+use crate::texts::{FromText, Texts};
 use dsse_envelope::Envelope;
+use git_object::{ObjectId, RefName};
 use octets::Memory;
-use root_metadata::{KeyIds, Keys};
+use root_metadata::{KeyIds, Keys, Root};
+use rule_files::RuleFile;
 use std::alloc::Global;
 use std::cell::Cell;
 
-/// What is known of who signed which envelope. Each row is so of its envelope and its keys wherever they stand, so it
-/// is good for each repository, each reference and each policy: nothing of it is ever wrong, and it may be let go at
-/// any time. It is lent by `&`, and learns while it is asked.
+/// What is known of who signed which envelope, and of what texts of policies and approvals are read as. Each row is so
+/// of its envelope and its keys, or of its text, wherever they stand, so it is good for each repository, each reference
+/// and each policy: nothing of it is ever wrong, and it may be let go at any time. It is lent by `&`, and learns while
+/// it is asked.
 #[derive(Drop)]
 pub struct KnownSigners {
     rows: Cell<Option<Rows>>,
+    envelopes: Cell<Option<Texts<Envelope>>>,
+    payloads: Cell<Option<Texts<Fields>>>,
+    roots: Cell<Option<Texts<Root>>>,
+    files: Cell<Option<Texts<RuleFile>>>,
+}
+
+// What a text is read as, by the texts that are kept.
+fn read_by<T: FromText>(
+    kept: &Cell<Option<Texts<T>>>,
+    alloc: Global,
+    text: &[u8],
+) -> Result<Option<T>, Memory>
+    ensures { IfOk result (λ found. found ≡ T.reading text.now) }
+{
+    let mut texts = match kept.take() {
+        Some(texts) => texts,
+        None => Texts::new(alloc),
+    };
+    let found = texts.read(alloc, text);
+    kept.set(Some(texts));
+    found
 }
 
 impl KnownSigners {
@@ -23,6 +55,10 @@ impl KnownSigners {
     pub fn new() -> KnownSigners {
         KnownSigners {
             rows: Cell::new(None),
+            envelopes: Cell::new(None),
+            payloads: Cell::new(None),
+            roots: Cell::new(None),
+            files: Cell::new(None),
         }
     }
 
@@ -39,5 +75,43 @@ impl KnownSigners {
         let found = rows.signers(alloc, envelope, keys);
         self.rows.set(Some(rows));
         found
+    }
+
+    /// The envelope that a text is, as `Envelope::read` answers it; None where it is refused. Here and in the three
+    /// functions below a text that was read before is not read again, unless what was found was let go.
+    pub fn envelope(&self, alloc: Global, text: &[u8]) -> Result<Option<Envelope>, Memory>
+        ensures { IfOk result (λ found. found ≡ result_ok (envelopes.reading text.now)) }
+    {
+        read_by(&self.envelopes, alloc, text)
+    }
+
+    /// The root that a payload is, as `Root::read` answers it; None where it is refused.
+    pub fn root(&self, alloc: Global, payload: &[u8]) -> Result<Option<Root>, Memory>
+        ensures { IfOk result (λ found. found ≡ result_ok (roots.reading payload.now)) }
+    {
+        read_by(&self.roots, alloc, payload)
+    }
+
+    /// The rule file that a payload is, as `RuleFile::read` answers it; None where it is refused.
+    pub fn rule_file(&self, alloc: Global, payload: &[u8]) -> Result<Option<RuleFile>, Memory>
+        ensures { IfOk result (λ found. found ≡ result_ok (files.reading payload.now)) }
+    {
+        read_by(&self.files, alloc, payload)
+    }
+
+    /// Whether a payload is that of an approval that lets a reference go from a target to a tree.
+    #[tactic(auto, using(crate::proofs::SameFields::same))]
+    pub fn lets_go(
+        &self,
+        alloc: Global,
+        payload: &[u8],
+        name: &RefName,
+        from: &ObjectId,
+        tree: &ObjectId,
+    ) -> Result<bool, Memory>
+        ensures { IfOk result (λ is. is ≡ lets_go name.now from.now tree.now (json_of payload.now)) }
+    {
+        let fields = read_by(&self.payloads, alloc, payload)?;
+        Ok(let_go(&fields, name, from, tree))
     }
 }

@@ -1,14 +1,21 @@
-//! Who signed an envelope, found once for the same envelope and the same keys.
+//! Who signed an envelope, and what a text of a policy or an approval is read as, found once for the same bytes.
 //!
 //! What it promises, and where to begin: `README.md` in this crate's folder.
 
 #![tactic(auto)]
 
 mod approving;
+mod copies;
 mod found;
+mod from_texts;
 mod known;
+mod loading;
+mod payloads;
 mod rows;
 mod same;
+mod texts;
 
 pub use approving::approvers;
+pub use copies::copied_file;
 pub use known::KnownSigners;
+pub use same::{Same, same_items};

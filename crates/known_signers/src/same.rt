@@ -1,10 +1,12 @@
-//! Whether two envelopes, or two lists of keys, are one.
+//! Whether two values are one.
 
 ghost use Rattle.std.specs.Prelude.{◌≡◌, ◌↔◌, IsTrue};
 
 use dsse_envelope::{Envelope, Signature};
 use octets::Octets;
-use root_metadata::{Key, KeyId};
+use ref_patterns::{Pattern, Space};
+use root_metadata::{Key, KeyId, Person};
+use rule_files::{Rule, RuleFile};
 use text_reader::same_bytes;
 
 /// Values that are told apart.
@@ -72,5 +74,69 @@ impl Same for Key {
             return false;
         }
         self.public.is_same(&other.public)
+    }
+}
+
+impl Same for Person {
+    fn is_same(&self, other: &Person) -> bool {
+        if !self.name.is_same(&other.name) {
+            return false;
+        }
+        same_items(self.keyids.as_slice(), other.keyids.as_slice())
+    }
+}
+
+// Whether two spaces are one.
+fn same_space(left: Space, right: Space) -> bool
+    ensures { IsTrue result ↔ (left ≡ right) }
+{
+    left == right
+}
+
+impl Same for Pattern {
+    fn is_same(&self, other: &Pattern) -> bool {
+        if !same_space(self.space(), other.space()) {
+            return false;
+        }
+        same_bytes(self.glob(), other.glob())
+    }
+}
+
+impl Same for Rule {
+    fn is_same(&self, other: &Rule) -> bool {
+        if self.terminating != other.terminating {
+            return false;
+        }
+        if self.threshold != other.threshold {
+            return false;
+        }
+        if !self.name.is_same(&other.name) {
+            return false;
+        }
+        if !same_items(self.patterns.as_slice(), other.patterns.as_slice()) {
+            return false;
+        }
+        same_items(self.persons.as_slice(), other.persons.as_slice())
+    }
+}
+
+impl Same for RuleFile {
+    fn is_same(&self, other: &RuleFile) -> bool {
+        if self.schema != other.schema {
+            return false;
+        }
+        if self.version != other.version {
+            return false;
+        }
+        if !self.name.is_same(&other.name) {
+            return false;
+        }
+        if !same_items(self.keys.as_slice(), other.keys.as_slice()) {
+            return false;
+        }
+        if !same_items(self.persons.as_slice(), other.persons.as_slice()) {
+            return false;
+        }
+        same_items(self.rules.as_slice(), other.rules.as_slice())
     }
 }

@@ -39,10 +39,10 @@ fn check_entries<R: Keeper>(
         return Ok(Err(PolicyFault::NoRoot));
     };
     let files = rule_files(alloc, entries)?;
-    let Some(signed) = load_root(alloc, keeper, &entry.id)? else {
+    let Some(signed) = load_root(alloc, keeper, known, &entry.id)? else {
         return Ok(Err(bad_file(alloc, b"root")?));
     };
-    match load_files(alloc, keeper, files.as_slice())? {
+    match load_files(alloc, keeper, known, files.as_slice())? {
         Err(fault) => Ok(Err(fault)),
         Ok(files) => Ok(judge(alloc, known, signed, files)?),
     }
@@ -51,8 +51,8 @@ fn check_entries<R: Keeper>(
 /// The policy of a target, where it is valid, and else the first of its faults, of which the numbers are 1 to 6: the
 /// target's state is absent or broken; there is no `metadata/root.json`; a file is missing, longer than 1 MiB or
 /// refused; too few signed the root; the rule files are no rules of a policy; too few signed a rule file. It makes at
-/// most 9 reads to peel the target, one for each tree of its walk, and 3 beside one for each rule file. No signature is
-/// checked of a file whose signers are known.
+/// most 9 reads to peel the target, one for each tree of its walk, and 3 beside one for each rule file. A text that was
+/// read before is not read again, and no signature is checked of a file whose signers are known.
 #[tactic(auto, unfolding(crate::specs::Policies::policy_of, crate::specs::Policies::policy_reads))]
 pub fn check_policy<R: Keeper>(
     alloc: Global,

@@ -12,6 +12,7 @@ use crate::FileAt;
 use crate::signed_files::{SignedFile, SignedFiles, SignedRoot, signed_file, signed_root};
 use git_object::ObjectId;
 use keeper_api::{Keeper, KeeperFault};
+use known_signers::KnownSigners;
 use octets::{Memory, Octets};
 use policy_epochs::PolicyFault;
 use std::alloc::Global;
@@ -21,6 +22,7 @@ use tree_paths::load_blob;
 pub fn load_root<R: Keeper>(
     alloc: Global,
     keeper: &mut R,
+    known: &KnownSigners,
     id: &ObjectId,
 ) -> Result<Option<SignedRoot>, KeeperFault>
     ensures read { IfOk result (λ found. (r : Repository) → R.content keeper.new ≡ Some r → found ≡ root_at r id.now) }
@@ -31,7 +33,7 @@ pub fn load_root<R: Keeper>(
     let Some(object) = load_blob(alloc, keeper, id)? else {
         return Ok(None);
     };
-    let root = signed_root(alloc, object.body())?;
+    let root = signed_root(alloc, known, object.body())?;
     Ok(root)
 }
 
@@ -39,6 +41,7 @@ pub fn load_root<R: Keeper>(
 fn load_file<R: Keeper>(
     alloc: Global,
     keeper: &mut R,
+    known: &KnownSigners,
     at: &FileAt,
 ) -> Result<Option<SignedFile>, KeeperFault>
     ensures read { IfOk result (λ found. (r : Repository) → R.content keeper.new ≡ Some r
@@ -51,7 +54,7 @@ fn load_file<R: Keeper>(
     let Some(object) = load_blob(alloc, keeper, &at.id)? else {
         return Ok(None);
     };
-    let file = signed_file(alloc, at.stem.as_slice(), object.body())?;
+    let file = signed_file(alloc, known, at.stem.as_slice(), object.body())?;
     Ok(file)
 }
 
@@ -67,6 +70,7 @@ pub fn bad_file(alloc: Global, stem: &[u8]) -> Result<PolicyFault, Memory>
 pub fn load_files<R: Keeper>(
     alloc: Global,
     keeper: &mut R,
+    known: &KnownSigners,
     ats: &[FileAt],
 ) -> Result<Result<SignedFiles, PolicyFault>, KeeperFault>
     ensures read { IfOk result (λ found. (r : Repository) → R.content keeper.new ≡ Some r
@@ -79,7 +83,7 @@ pub fn load_files<R: Keeper>(
 {
     let mut files = SignedFiles::new(alloc);
     'ats: for at in ats {
-        match load_file(alloc, keeper, at)? {
+        match load_file(alloc, keeper, known, at)? {
             None => return Ok(Err(bad_file(alloc, at.stem.as_slice())?)),
             Some(file) => files.push(file)?,
         }

@@ -4,10 +4,11 @@ ghost use Rattle.std.specs.Prelude.{◌≡◌, ◌++◌, ◌∷◌, [], IfOk, If
 ghost use Rattle.std.specs.Str.{bytes_eq};
 ghost use Rattle.policy_reading.specs.Signed.{envelope_in, file_in, payload_type, root_in, signed_file, signed_root};
 
-use dsse_envelope::{Envelope, EnvelopeFault};
+use dsse_envelope::Envelope;
+use known_signers::KnownSigners;
 use octets::{Items, Memory, Octets};
-use root_metadata::{MetaFault, Root};
-use rule_files::{RuleFault, RuleFile};
+use root_metadata::Root;
+use rule_files::RuleFile;
 use std::alloc::Global;
 use std::marker::Model;
 
@@ -95,75 +96,85 @@ fn is_of_type(envelope: &Envelope) -> bool
 
 // The envelope that a text is.
 #[tactic(auto, unfolding(crate::specs::Signed::envelope_in))]
-fn envelope_in(alloc: Global, text: &[u8]) -> Result<Option<Envelope>, Memory>
+fn envelope_in(alloc: Global, known: &KnownSigners, text: &[u8]) -> Result<Option<Envelope>, Memory>
     ensures { IfOk result (λ envelope. envelope ≡ envelope_in text.now) }
 {
-    match Envelope::read(alloc, text) {
-        Ok(envelope) => {
+    match known.envelope(alloc, text)? {
+        Some(envelope) => {
             if is_of_type(&envelope) {
                 Ok(Some(envelope))
             } else {
                 Ok(None)
             }
         }
-        Err(EnvelopeFault::Memory) => Err(Memory),
-        Err(
-            EnvelopeFault::NotJson
-            | EnvelopeFault::MissingField
-            | EnvelopeFault::BadCount { count: _ }
-            | EnvelopeFault::BadBase64,
-        ) => Ok(None),
+        None => Ok(None),
     }
 }
 
 // The root that an envelope's payload is.
 #[tactic(auto, unfolding(crate::specs::Signed::root_in))]
-fn root_in(alloc: Global, envelope: Envelope) -> Result<Option<SignedRoot>, Memory>
+fn root_in(
+    alloc: Global,
+    known: &KnownSigners,
+    envelope: Envelope,
+) -> Result<Option<SignedRoot>, Memory>
     ensures { IfOk result (λ root. root ≡ root_in envelope) }
 {
-    match Root::read(alloc, envelope.payload.as_slice()) {
-        Ok(root) => Ok(Some(SignedRoot { envelope, root })),
-        Err(MetaFault::Memory) => Err(Memory),
-        Err(_) => Ok(None),
+    match known.root(alloc, envelope.payload.as_slice())? {
+        Some(root) => Ok(Some(SignedRoot { envelope, root })),
+        None => Ok(None),
     }
 }
 
 // The rule file of this stem that an envelope's payload is.
 #[tactic(auto, unfolding(crate::specs::Signed::file_in))]
-fn file_in(alloc: Global, stem: &[u8], envelope: Envelope) -> Result<Option<SignedFile>, Memory>
+fn file_in(
+    alloc: Global,
+    known: &KnownSigners,
+    stem: &[u8],
+    envelope: Envelope,
+) -> Result<Option<SignedFile>, Memory>
     ensures read { IfOk result (λ file. file ≡ file_in stem.now envelope) }
     ensures named { IfOk result (λ file. IfSome file (λ signed. signed.file.name ≡ stem.now)) }
 {
-    match RuleFile::read(alloc, envelope.payload.as_slice()) {
-        Ok(file) => {
+    match known.rule_file(alloc, envelope.payload.as_slice())? {
+        Some(file) => {
             if file.name.as_slice() == stem {
                 Ok(Some(SignedFile { envelope, file }))
             } else {
                 Ok(None)
             }
         }
-        Err(RuleFault::Memory) => Err(Memory),
-        Err(_) => Ok(None),
+        None => Ok(None),
     }
 }
 
 /// The root that a text is, with its envelope; None where it is none.
-pub fn signed_root(alloc: Global, text: &[u8]) -> Result<Option<SignedRoot>, Memory>
+pub fn signed_root(
+    alloc: Global,
+    known: &KnownSigners,
+    text: &[u8],
+) -> Result<Option<SignedRoot>, Memory>
     ensures { IfOk result (λ root. root ≡ signed_root text.now) }
 {
-    match envelope_in(alloc, text)? {
+    match envelope_in(alloc, known, text)? {
         None => Ok(None),
-        Some(envelope) => root_in(alloc, envelope),
+        Some(envelope) => root_in(alloc, known, envelope),
     }
 }
 
 /// The rule file of this stem that a text is, with its envelope; None where it is none.
-pub fn signed_file(alloc: Global, stem: &[u8], text: &[u8]) -> Result<Option<SignedFile>, Memory>
+pub fn signed_file(
+    alloc: Global,
+    known: &KnownSigners,
+    stem: &[u8],
+    text: &[u8],
+) -> Result<Option<SignedFile>, Memory>
     ensures read { IfOk result (λ file. file ≡ signed_file stem.now text.now) }
     ensures named { IfOk result (λ file. IfSome file (λ signed. signed.file.name ≡ stem.now)) }
 {
-    match envelope_in(alloc, text)? {
+    match envelope_in(alloc, known, text)? {
         None => Ok(None),
-        Some(envelope) => file_in(alloc, stem, envelope),
+        Some(envelope) => file_in(alloc, known, stem, envelope),
     }
 }
