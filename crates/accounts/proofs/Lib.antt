@@ -1,4 +1,5 @@
 mod Rowed
+mod Signed
 mod Taking
 mod Walked
 mod Lines

@@ -22,7 +22,7 @@ ghost use Rattle.accounts.specs.Judging.{IsJudgedLog, IsOwn, JudgesNext, StandsF
 
 use crate::JudgedLog;
 use crate::rows::{
-    from_of, is_there, next_attested, next_epoch, opens, prior_of, signer_in, told_persons,
+    apart_signer, from_of, is_signed, next_attested, next_epoch, opens, prior_of, told_persons,
 };
 use account_lines::EntryRow;
 use by_whom::{ByWhom, open_to};
@@ -65,8 +65,7 @@ fn judge_entry<R: Keeper>(
     let prior = prior_of(&judged.engine, entry);
     let from = from_of(&judged.engine, entry);
     let numbers = open_to(alloc, judged.engine.entries(), entry)?;
-    let signer = signer_in(judged.engine.policy(), entry);
-    let signed = is_there(&signer);
+    let apart = apart_signer(judged.engine.policy(), entry);
     let epoch = judged.epoch;
     let verdict = match judged.engine.extend(alloc, keeper, entry) {
         Ok(verdict) => verdict,
@@ -75,7 +74,9 @@ fn judge_entry<R: Keeper>(
     };
     judged.epoch = next_epoch(epoch, opens(entry, &verdict), entry.number);
     let signers = judged.engine.signers().copy()?;
-    let persons = told_persons(alloc, judged.engine.policy(), entry, &signer, &signers)?;
+    let policy = judged.engine.policy();
+    let signed = is_signed(policy, entry, &judged.attested, &apart, &signers);
+    let persons = told_persons(alloc, policy, entry, &apart, &signers)?;
     judged
         .later
         .take(judged.engine.entries(), entry, numbers.as_slice())?;

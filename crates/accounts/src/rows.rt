@@ -1,14 +1,16 @@
 //! What an engine knows of the next entry before it takes it.
 
-ghost use Rattle.std.specs.Prelude.{◌≡◌, ◌&&◌, List, Some, cond, is_some, IfOk};
+ghost use Rattle.std.specs.Prelude.{◌≡◌, ◌&&◌, List, Some, cond, is_some, IfOk, if◌then◌else◌};
+ghost use Rattle.std.specs.List.{list_any};
 ghost use Rattle.std.specs.Option.{option_copied};
+ghost use Rattle.std.specs.Str.{bytes_eq};
 ghost use Rattle.rsl_chain.specs.Entries.{Taken, is_of};
 ghost use Rattle.git_object.specs.References.{policy_name};
 ghost use Rattle.entry_rules.specs.RealRules.{real_rules};
 ghost use Rattle.verify_ref.specs.Following.{Follows};
 ghost use Rattle.signing_persons.specs.Persons.{persons_of};
 ghost use Rattle.accounts.specs.Rows.{counted_by, from_of, prior_of, signer_in};
-ghost use Rattle.accounts.specs.Steps.{attested_then, is_authorised};
+ghost use Rattle.accounts.specs.Steps.{apart_signer, attested_then, is_among, is_apart, is_authorised, is_signed_among};
 
 use entry_rules::{Fault, signer_among};
 use git_object::{KeyId, ObjectId};
@@ -50,8 +52,8 @@ pub(crate) fn from_of(engine: &Engine, entry: &Entry) -> Option<ObjectId>
     }
 }
 
-/// The key that an entry names, where it is one of the policy and the signature is good by it.
-pub(crate) fn signer_in(policy: Option<&Policy>, entry: &Entry) -> Option<KeyId>
+// The key that an entry names, where it is one of the policy and the signature is good by it.
+fn signer_in(policy: Option<&Policy>, entry: &Entry) -> Option<KeyId>
     ensures { result ≡ signer_in (option_copied policy.entry) entry.now }
 {
     match policy {
@@ -60,11 +62,78 @@ pub(crate) fn signer_in(policy: Option<&Policy>, entry: &Entry) -> Option<KeyId>
     }
 }
 
-/// Whether an entry has a signer.
-pub(crate) fn is_there(signer: &Option<KeyId>) -> bool
-    ensures { result ≡ is_some signer.now }
+// Whether the rules do not find who signed an entry.
+fn is_apart(entry: &Entry) -> bool
+    ensures { result ≡ is_apart entry.now.body }
 {
-    signer.is_some()
+    match &entry.body {
+        EntryBody::Reference { name, target: _ } => name.is_policy(),
+        EntryBody::Annotation {
+            ids: _,
+            skip: _,
+            message: _,
+        } => true,
+    }
+}
+
+/// The signer of an entry of which the rules do not find who signed it, under the policy in force before it.
+pub(crate) fn apart_signer(policy: Option<&Policy>, entry: &Entry) -> Option<KeyId>
+    ensures { result ≡ apart_signer (option_copied policy.entry) entry.now }
+{
+    if is_apart(entry) {
+        signer_in(policy, entry)
+    } else {
+        None
+    }
+}
+
+fn has_key(keys: &[KeyId], id: &KeyId) -> bool
+    ensures { result ≡ list_any (λ key. bytes_eq key id.now) keys.now }
+{
+    keys.iter().any(|key| key.as_bytes() == id.as_bytes())
+}
+
+// Whether a key that is named is one of these.
+fn is_among(named: Option<KeyId>, keys: &[KeyId]) -> bool
+    ensures { result ≡ is_among named keys.now }
+{
+    match named {
+        Some(id) => has_key(keys, &id),
+        None => false,
+    }
+}
+
+// Whether the key that an entry names signed it, by those that the rules found to have signed or approved it. Its
+// signature is checked again only where that key may have approved alone.
+fn is_signed_among(
+    policy: Option<&Policy>,
+    entry: &Entry,
+    attested: &Option<ObjectId>,
+    signers: &KeyIds,
+) -> bool
+    ensures { result ≡ is_signed_among (option_copied policy.entry) entry.now attested.now signers.now }
+{
+    is_among(entry.signer, signers.as_slice())
+        && (attested.is_none() || signer_in(policy, entry).is_some())
+}
+
+/// Whether an entry has a signer: that which stands apart from what the rules find, or one by whom they find, under the
+/// policy in force behind it and with the attestations before it.
+pub(crate) fn is_signed(
+    policy: Option<&Policy>,
+    entry: &Entry,
+    attested: &Option<ObjectId>,
+    apart: &Option<KeyId>,
+    signers: &KeyIds,
+) -> bool
+    ensures { result ≡ (if is_apart entry.now.body then is_some apart.now else
+        is_signed_among (option_copied policy.entry) entry.now attested.now signers.now) }
+{
+    if is_apart(entry) {
+        apart.is_some()
+    } else {
+        is_signed_among(policy, entry, attested, signers)
+    }
 }
 
 // The keys whose persons are told of an entry.

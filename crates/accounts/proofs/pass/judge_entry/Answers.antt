@@ -1,7 +1,9 @@
-use Rattle.std.proofs.Common.{◌++◌, [], ◌∷◌, ℕ, Bool, List, Option, Some, cond, is_some, refl, ap, sym, subst, ◌∙◌}
+use Rattle.std.proofs.Common.{◌≡◌, ◌++◌, [], ◌∷◌, ℕ, Bool, List, Option, Some, cond, refl, ap, sym, subst, ◌∙◌}
+use Rattle.std.specs.Option.{option_copied}
 use Rattle.rsl_chain.specs.Entries.{Taken}
 use Rattle.judging.specs.Engines.{Stands}
-use Rattle.judging.specs.Logs.{policy_after}
+use Rattle.judging.specs.Logs.{last_signers, policy_after}
+use Rattle.judging.proofs.Takes.{signers_push}
 use Rattle.signing_persons.specs.Persons.{persons_of}
 use Rattle.judging.specs.declared.engine.Engine as judging
 use Rattle.by_whom.specs.Keeping.{AreOpen, Knows}
@@ -10,7 +12,9 @@ use Rattle.entry_rules.specs.RealRules.{real_rules}
 use Rattle.entry_rules.specs.declared.faults.Fault.{Fault}
 use Rattle.entry_rules.specs.declared.judge.EntryRules.{EntryRules}
 use Rattle.account_lines.specs.declared.rows.EntryRow.{EntryRow}
-use Rattle.accounts.specs.Rows.{counted_by, signer_in}
+use Rattle.accounts.specs.Rows.{counted_by}
+use Rattle.accounts.specs.Steps.{apart_signer}
+use Rattle.accounts.proofs.Signed.{counted_is, signed_found}
 use Rattle.accounts.proofs.Taking.{stands_more}
 use Rattle.accounts.proofs.pass.judge_entry.Goals as goal
 
@@ -19,12 +23,14 @@ returns-clause-stands g c = λ r told log stands.
     let t : Taken = record { entry = c.args.entry.now; repository = r } in
     let rules = real_rules c.args.judged.now.engine.rules.anchor in
     let takes = c.in-Ok.ensures.taken r log told stands.follows in
+    let apart : c.apart_signer-apart.result ≡ apart_signer (policy_after rules log) c.args.entry.now =
+    c.apart_signer-apart.ensures ∙ ap (λ (p : Option Policy). apart_signer p c.args.entry.now) (c.policy.ensures log stands.follows) in
     let row : EntryRow = record {
       id = c.args.entry.now.id;
       epoch = c.args.judged.now.epoch;
       prior = c.prior_of-prior.result;
       from = c.from_of-from.result;
-      signed = c.is_there-signed.result;
+      signed = c.is_signed-signed.result;
       signers = c.in_ok-signers.signers;
       persons = c.in_ok-persons.persons;
       verdict = c.in-Ok.verdict;
@@ -38,11 +44,15 @@ returns-clause-stands g c = λ r told log stands.
       epoch = refl;
       prior = c.prior_of-prior.ensures log stands.follows;
       from = c.from_of-from.ensures log stands.follows;
-      signed = c.is_there-signed.ensures ∙ ap is_some (c.signer_in-signer.ensures ∙ ap (λ (p : Option Policy). signer_in p c.args.entry.now) (c.policy.ensures log stands.follows));
+      signed = signed_found c.args.judged.now.engine.rules.anchor log t (option_copied c.policy-policy.result) c.apart_signer-apart.result c.args.judged.now.attested c.in_ok-signers.signers
+          c.is_signed-signed.result (c.policy-policy.ensures (log ++ t ∷ []) takes.follows ∙ ap (λ (r : EntryRules). policy_after (real_rules r.anchor) (log ++ t ∷ [])) c.extend.ensures.rules)
+          apart stands.attested
+          (c.in_ok-signers.ensures.same ∙ c.signers.ensures (log ++ t ∷ []) takes.follows ∙ ap (λ (r : EntryRules). last_signers (real_rules r.anchor) (log ++ t ∷ [])) c.extend.ensures.rules ∙ signers_push rules log t)
+          c.is_signed-signed.ensures;
       persons = c.in_ok-persons.ensures
-          ∙ ap (λ (p : Option Policy). persons_of p (counted_by c.args.entry.now.body c.signer_in-signer.result c.in_ok-signers.signers)) (c.policy-2.ensures (log ++ t ∷ []) takes.follows)
-          ∙ ap (λ (s : Option (List ℕ)). persons_of (policy_after (real_rules c.extend.new.self.rules.anchor) (log ++ t ∷ [])) (counted_by c.args.entry.now.body s c.in_ok-signers.signers))
-          (c.signer_in-signer.ensures ∙ ap (λ (p : Option Policy). signer_in p c.args.entry.now) (c.policy.ensures log stands.follows));
+          ∙ ap (λ (p : Option Policy). persons_of p (counted_by c.args.entry.now.body c.apart_signer-apart.result c.in_ok-signers.signers)) (c.policy-policy.ensures (log ++ t ∷ []) takes.follows)
+          ∙ ap (persons_of (policy_after (real_rules c.extend.new.self.rules.anchor) (log ++ t ∷ [])))
+          (ap (λ (s : Option (List ℕ)). counted_by c.args.entry.now.body s c.in_ok-signers.signers) apart ∙ counted_is (policy_after rules log) c.args.entry.now c.in_ok-signers.signers);
       signers = c.in_ok-signers.ensures.same ∙ c.signers.ensures (log ++ t ∷ []) takes.follows;
       rows = c.in_ok-push.ensures.added;
       attested = c.next_attested-judged.ensures;
