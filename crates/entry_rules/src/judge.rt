@@ -19,6 +19,7 @@ ghost use Rattle.entry_rules.specs.Signing.{tree_in};
 
 use crate::Fault;
 use crate::finding::{compared, find};
+use crate::known_paths::Kept;
 use crate::meeting::may_act;
 use crate::signing::signer_among;
 use git_object::{KeyId, ObjectId, RefName};
@@ -37,7 +38,7 @@ use tree_paths::{Comparison, KnownTrees};
 #[derive(Drop)]
 pub struct EntryRules {
     anchor: Option<KeyIds>,
-    signed: KnownSigners,
+    kept: Kept,
 }
 
 impl EntryRules {
@@ -47,7 +48,7 @@ impl EntryRules {
     {
         EntryRules {
             anchor,
-            signed: KnownSigners::new(),
+            kept: Kept::new(),
         }
     }
 }
@@ -121,7 +122,7 @@ fn epoch<R: Keeper>(
         + policy_reads r (target_of entry.now.body) }
 {
     let target = target_of(entry);
-    let known = &rules.signed;
+    let known = &rules.kept.signed;
     let found = check_policy(alloc, keeper, known, &target)?;
     Ok(epoch_by(alloc, known, &rules.anchor, current, found)?)
 }
@@ -204,7 +205,7 @@ impl<'a, R: Keeper> Judge<Policy, Fault, R> for KnowingRules<'a> {
             alloc,
             store,
             self.known,
-            &self.rules.signed,
+            &self.rules.kept,
             policy,
             entry,
             from,
