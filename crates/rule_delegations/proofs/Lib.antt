@@ -1,3 +1,4 @@
+mod EndBytes
 pub mod Orders
 mod Families
 mod Turns

@@ -11,3 +11,5 @@ pub mod Marks
 pub mod Seen
 pub mod Deep
 pub mod Walks
+-- texts that end as a glob does
+pub mod Ends
