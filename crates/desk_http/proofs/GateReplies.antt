@@ -12,11 +12,11 @@ use Rattle.gate_desk.specs.declared.gate_replies.GateReply.{GateReply}
 use Rattle.gate_desk.specs.declared.gate_replies.GateReply.TheVariants.{Denied, Desk}
 use Rattle.gate_shops.specs.Calls.{gate_done}
 use Rattle.gate_shops.specs.Steps.{IsToldAnswer, PushIsGateStep, answers_in, stands_in, told_in}
-use Rattle.desk_http.specs.Gates.{EachGateReplyIsStep, IsGateStepped, IsToldOf, told_of}
+use Rattle.desk_http.specs.Gates.{EachGateReplyIsStep, IsGateStepped, IsToldPushed, told_of}
 use Rattle.desk_http.specs.Steps.{IsNoPush}
 use Rattle.desk_http.proofs.Steps.{settled}
 
-told_answer : (answer : GateReply) → IsToldOf (told_of answer) → IsToldAnswer answer
+told_answer : (answer : GateReply) → IsToldPushed (told_of answer) → IsToldAnswer answer
 told_answer (Desk reply) told = told
 told_answer (Denied number line) told = told
 
@@ -44,4 +44,4 @@ module _ {R : Type 0} (k : keeper.Ghosts R) (law : PushIsGateStep k) (tells : (s
 
 pub each_gate_reply : {R : Type 0} (k : keeper.Ghosts R) → PushIsGateStep k → EachGateReplyIsStep k
 each_gate_reply k law tells body said old new is told =
-    replied k law tells body is.answer said old new is.pushed_is is.given (told_answer is.answer (subst IsToldOf is.pushed_is told))
+    replied k law tells body is.answer said old new is.pushed_is is.given (told_answer is.answer (subst IsToldPushed is.pushed_is told))

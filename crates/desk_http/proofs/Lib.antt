@@ -2,3 +2,4 @@ pub mod Steps
 pub mod Seating
 pub mod LogReads
 pub mod GateReplies
+pub mod SeatsServed

@@ -1,5 +1,5 @@
 -- What holds of each item of a list, and of its last.
-use Rattle.std.proofs.Common.{◌≡◌, ◌<◌, ℕ, zero, suc, List, [], ◌∷◌, ◌++◌, length, get_or, refl, subst, arith, length-append, append-nil}
+use Rattle.std.proofs.Common.{◌≡◌, ◌<◌, ◌+◌, ℕ, zero, suc, List, [], ◌∷◌, ◌++◌, length, get_or, refl, ap, subst, arith, length-append, append-nil}
 use Rattle.std.specs.Prelude.{All, Option, Some, None, IfSome}
 use Rattle.std.specs.Option.{option_to_list}
 use Rattle.std.proofs.lemmas.List.Elements.{All-append, All-cons}
@@ -31,3 +31,8 @@ module _ {A : Type 0} (P : A → Type 0) (xs : List A) where
   pub all_last : (last : Option A) → All P (xs ++ option_to_list last) → IfSome last P
   all_last (Some x) all = all_end P xs x all
   all_last None all = tt
+
+-- there is one fewer where there was a last
+pub one_fewer : {A : Type 0} (xs ys : List A) (last : Option A) → ys ≡ xs ++ option_to_list last → IfSome last (λ x. length xs + 1 ≡ length ys)
+one_fewer xs ys (Some x) is = omega (arith, length-append xs (x ∷ []), ap length is)
+one_fewer xs ys None is = tt

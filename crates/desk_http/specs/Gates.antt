@@ -24,9 +24,9 @@ told_of (Desk reply) = pushed.Replied reply
 told_of (Denied number line) = pushed.Denied line
 
 -- this says neither that the store failed nor that memory is wanting
-abbrev pub IsToldOf : Pushed → Type 0
-IsToldOf (pushed.Replied reply) = IsToldReply reply
-IsToldOf (pushed.Denied line) = Unit {0}
+abbrev pub IsToldPushed : Pushed → Type 0
+IsToldPushed (pushed.Replied reply) = IsToldReply reply
+IsToldPushed (pushed.Denied line) = Unit {0}
 
 module _ {R : Type 0} (k : keeper.Ghosts R) where
   -- what a desk with a gate answers of these bytes
@@ -49,5 +49,5 @@ module _ {R : Type 0} (k : keeper.Ghosts R) where
   abbrev pub EachGateReplyIsStep : Type 0
   EachGateReplyIsStep =
       ((store : R) → (r : Repository) × (k.content store ≡ Some r))
-      → (body : List ℕ) (said : Pushed) (old new : Sitting) → GatePushes body said old new → IsToldOf said
+      → (body : List ℕ) (said : Pushed) (old new : Sitting) → GatePushes body said old new → IsToldPushed said
       → IsNoPush body said old new ⊎ IsGateStepped body said old new

@@ -6,3 +6,5 @@ pub mod Answers
 pub mod Steps
 -- and where it has a gate
 pub mod Gates
+-- what its seats were asked while it served
+pub mod Served

@@ -1,18 +1,19 @@
 //! A desk that denies what the policy forbids, over HTTP.
 
-ghost use Rattle.std.specs.Prelude.{◌≡◌, ◌<◌, IfErr, IfOk, All, length};
+ghost use Rattle.std.specs.Prelude.{◌≡◌, ◌<◌, IfErr, IfOk, OnOk, All, length};
 ghost use Rattle.desk_histories.specs.Legal.{IsLegal};
 ghost use Rattle.desk_lock.specs.Seats.{AreNew, IsIdle};
 ghost use Rattle.desk_shops.specs.Calls.{IsLeftAlone};
 ghost use Rattle.gate_desk.specs.States.{KnowsStore};
 ghost use Rattle.gate_shops.specs.Standing.{IsJustLoadedState};
 ghost use Rattle.desk_http.specs.Opening.{IsOfOpening, ReadsLog, Serves};
+ghost use Rattle.desk_http.specs.Served.{AreServed};
 
 use crate::faults::{DeskFault, fault_of};
-use crate::serving::serve_at;
-use crate::{HttpDesk, HttpShop};
+use crate::serving::{serve_at, unserved};
+use crate::{GatedDesk, HttpDesk, HttpShop, Served};
 use desk_lock::Seat;
-use desk_serving::Pushed;
+use desk_serving::{Pushed, Serves};
 use edge_io::Failed;
 use gate_desk::{GateReply, GateState};
 use gate_shops::GateShop;
@@ -77,33 +78,32 @@ fn serve_lent_gate<R, W>(
     port: u16,
     workers: u32,
     connections: u32,
-) -> Result<(), DeskFault>
+) -> Served
 where
-    R: Keeper + Drop + Send,
+    R: Keeper + Drop + Send + 'static,
     W: Threads + Wait + Sync + Net<Listener = TcpListener, Stream = TcpStream>,
     requires { 0 < workers }
-    ensures { Serves R.Keeper store.old store.new result }
+    ensures serves { Serves R.Keeper store.old store.new result.end }
+    ensures served { AreServed ⟦<GatedDesk<R> as Serves>⟧ result.workers.items }
+    ensures count { OnOk result.end (length result.workers.items ≡ workers) }
 {
     let state = match load_gate(alloc, store) {
         Ok(state) => state,
-        Err(fault) => return Err(fault),
+        Err(fault) => return unserved(alloc, fault),
     };
     let listener = match listen(rt, port) {
         Ok(listener) => listener,
-        Err(Failed) => return Err(DeskFault::NoListener),
+        Err(Failed) => return unserved(alloc, DeskFault::NoListener),
     };
     let (desk, seats) = match gate_over(alloc, state, LentKeeper { store }, workers) {
         Ok(opened) => opened,
-        Err(_) => return Err(DeskFault::Memory),
+        Err(_) => return unserved(alloc, DeskFault::Memory),
     };
-    match serve_at(rt, alloc, &desk, &listener, seats, connections) {
-        Ok(()) => Ok(()),
-        Err(fault) => Err(fault),
-    }
+    serve_at(rt, alloc, &desk, &listener, seats, connections)
 }
 
-/// Serves as `serve_store` does, by a desk that denies each entry which the policy forbids. Before it serves, all entries
-/// of the log are judged.
+/// Serves as `serve_store` does, by a desk that denies each entry which the policy forbids: what the seats of its workers
+/// saw is what a desk over a gate's shop answers. Before it serves, all entries of the log are judged.
 pub fn serve_gate<R, W>(
     rt: &W,
     alloc: Global,
@@ -111,12 +111,14 @@ pub fn serve_gate<R, W>(
     port: u16,
     workers: u32,
     connections: u32,
-) -> (R, Result<(), DeskFault>)
+) -> (R, Served)
 where
-    R: Keeper + Drop + Send,
+    R: Keeper + Drop + Send + 'static,
     W: Threads + Wait + Sync + Net<Listener = TcpListener, Stream = TcpStream>,
     requires { 0 < workers }
-    ensures { Serves R.Keeper store result.0 result.1 }
+    ensures serves { Serves R.Keeper store result.0 result.1.end }
+    ensures served { AreServed ⟦<GatedDesk<R> as Serves>⟧ result.1.workers.items }
+    ensures count { OnOk result.1.end (length result.1.workers.items ≡ workers) }
 {
     let served = serve_lent_gate(rt, alloc, &mut store, port, workers, connections);
     (store, served)

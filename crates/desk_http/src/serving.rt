@@ -1,15 +1,17 @@
 //! Serving a port of this machine by a desk over a store.
 
-ghost use Rattle.std.specs.Prelude.{◌<◌, IfErr, All};
-ghost use Rattle.desk_lock.specs.Seats.{IsIdle};
+ghost use Rattle.std.specs.Prelude.{◌≡◌, ◌<◌, [], Err, IfErr, OnOk, All, length};
+ghost use Rattle.desk_histories.specs.Legal.{IsLegal};
+ghost use Rattle.desk_lock.specs.Seats.{AreNew, IsIdle};
 ghost use Rattle.desk_http.specs.Opening.{IsOfWorkers, Serves};
+ghost use Rattle.desk_http.specs.Served.{AreServed};
 
 use crate::faults::DeskFault;
 use crate::opening::{desk_over, load_log};
 use crate::staffing::workers_at;
-use crate::{HttpDesk, HttpShop};
+use crate::{HttpDesk, HttpShop, OpenDesk, Served};
 use desk_lock::Seat;
-use desk_serving::{NoGate, Worker, WorkerEnd, serve_all};
+use desk_serving::{NoGate, Serves, Worker, WorkerEnd, serve_all};
 use edge_io::Failed;
 use keeper_api::Keeper;
 use lent_keeper::LentKeeper;
@@ -24,6 +26,17 @@ fn are_served(workers: &[Worker<TcpDoor>]) -> bool {
     workers.iter().all(|worker| !matches!(worker.end, Some(WorkerEnd::DoorFailed(_))))
 }
 
+// Nobody was served.
+pub(crate) fn unserved(alloc: Global, fault: DeskFault) -> Served
+    ensures workers { result.workers.items ≡ [] }
+    ensures end { result.end ≡ Err fault }
+{
+    Served {
+        workers: Vec::new(alloc),
+        end: Err(fault),
+    }
+}
+
 /// Serves so many connections by a worker for each of these seats of a desk, side by side.
 pub(crate) fn serve_at<S, W>(
     rt: &W,
@@ -32,16 +45,19 @@ pub(crate) fn serve_at<S, W>(
     listener: &TcpListener,
     seats: Vec<Seat>,
     connections: u32,
-) -> Result<(), DeskFault>
+) -> Served
 where
     S: HttpShop + Drop + Send,
     W: Threads + Wait + Sync + Net<Listener = TcpListener, Stream = TcpStream>,
-    requires { All (IsIdle desk.now) seats.items }
-    ensures { IfErr result IsOfWorkers }
+    requires idle { All (IsIdle desk.now) seats.items }
+    requires new { AreNew IsLegal desk.now seats.items }
+    ensures served { AreServed ⟦<HttpDesk<S> as Serves>⟧ result.workers.items }
+    ensures count { OnOk result.end (length result.workers.items ≡ length seats.items) }
+    ensures fault { IfErr result.end IsOfWorkers }
 {
     let mut workers = match workers_at(alloc, listener, seats) {
         Ok(workers) => workers,
-        Err(fault) => return Err(fault),
+        Err(fault) => return unserved(alloc, fault),
     };
     serve_all(
         rt,
@@ -52,9 +68,15 @@ where
         connections,
     );
     if are_served(workers.as_slice()) {
-        Ok(())
+        Served {
+            workers,
+            end: Ok(()),
+        }
     } else {
-        Err(DeskFault::DoorFailed)
+        Served {
+            workers,
+            end: Err(DeskFault::DoorFailed),
+        }
     }
 }
 
@@ -66,35 +88,35 @@ fn serve_lent<R, W>(
     port: u16,
     workers: u32,
     connections: u32,
-) -> Result<(), DeskFault>
+) -> Served
 where
-    R: Keeper + Drop + Send,
+    R: Keeper + Drop + Send + 'static,
     W: Threads + Wait + Sync + Net<Listener = TcpListener, Stream = TcpStream>,
     requires { 0 < workers }
-    ensures { Serves R.Keeper store.old store.new result }
+    ensures serves { Serves R.Keeper store.old store.new result.end }
+    ensures served { AreServed ⟦<OpenDesk<R> as Serves>⟧ result.workers.items }
+    ensures count { OnOk result.end (length result.workers.items ≡ workers) }
 {
     let state = match load_log(alloc, store) {
         Ok(state) => state,
-        Err(fault) => return Err(fault),
+        Err(fault) => return unserved(alloc, fault),
     };
     let listener = match listen(rt, port) {
         Ok(listener) => listener,
-        Err(Failed) => return Err(DeskFault::NoListener),
+        Err(Failed) => return unserved(alloc, DeskFault::NoListener),
     };
     let (desk, seats) = match desk_over(alloc, state, LentKeeper { store }, workers) {
         Ok(opened) => opened,
-        Err(_) => return Err(DeskFault::Memory),
+        Err(_) => return unserved(alloc, DeskFault::Memory),
     };
-    match serve_at(rt, alloc, &desk, &listener, seats, connections) {
-        Ok(()) => Ok(()),
-        Err(fault) => Err(fault),
-    }
+    serve_at(rt, alloc, &desk, &listener, seats, connections)
 }
 
 /// Opens a desk over a store at a port of this machine, serves so many connections by each of so many workers side by
-/// side, and gives the store back. Want of memory aside, `LogBroken` comes exactly where the log breaks, and
-/// `KeeperFailed` exactly where the store counted a fault while its log was read. Where it ends by either, or by
-/// `NoListener`, nothing was done to the store but that its log was read.
+/// side, and gives the store back. What the seats of its workers saw is what a desk over a shop answers, which takes
+/// each entry that comes next. Want of memory aside, `LogBroken` comes exactly where the log breaks, and `KeeperFailed`
+/// exactly where the store counted a fault while its log was read. Where it ends by either, or by `NoListener`, nothing
+/// was done to the store but that its log was read.
 pub fn serve_store<R, W>(
     rt: &W,
     alloc: Global,
@@ -102,12 +124,14 @@ pub fn serve_store<R, W>(
     port: u16,
     workers: u32,
     connections: u32,
-) -> (R, Result<(), DeskFault>)
+) -> (R, Served)
 where
-    R: Keeper + Drop + Send,
+    R: Keeper + Drop + Send + 'static,
     W: Threads + Wait + Sync + Net<Listener = TcpListener, Stream = TcpStream>,
     requires { 0 < workers }
-    ensures { Serves R.Keeper store result.0 result.1 }
+    ensures serves { Serves R.Keeper store result.0 result.1.end }
+    ensures served { AreServed ⟦<OpenDesk<R> as Serves>⟧ result.1.workers.items }
+    ensures count { OnOk result.1.end (length result.1.workers.items ≡ workers) }
 {
     let served = serve_lent(rt, alloc, &mut store, port, workers, connections);
     (store, served)

@@ -1,8 +1,9 @@
 //! The workers of a desk.
 
-ghost use Rattle.std.specs.Prelude.{IfErr, IfOk, IfSome, All};
+ghost use Rattle.std.specs.Prelude.{◌≡◌, ◌+◌, IfErr, IfOk, IfSome, IfNone, All, length};
 ghost use Rattle.desk_lock.specs.Seats.{IsIdle, TurnId};
 ghost use Rattle.desk_http.specs.Opening.{IsOfWorkers};
+ghost use Rattle.desk_http.specs.Served.{IsFirst};
 
 use crate::faults::DeskFault;
 use desk_lock::Seat;
@@ -16,6 +17,10 @@ use std::net::TcpListener;
 fn last_of(seats: &mut Vec<Seat>) -> Option<Seat>
     ensures left { (t : TurnId) → All (IsIdle t) seats.old.items → All (IsIdle t) seats.new.items }
     ensures seat { (t : TurnId) → All (IsIdle t) seats.old.items → IfSome result (IsIdle t) }
+    ensures left_first { (t : TurnId) → All (IsFirst t) seats.old.items → All (IsFirst t) seats.new.items }
+    ensures first { (t : TurnId) → All (IsFirst t) seats.old.items → IfSome result (IsFirst t) }
+    ensures fewer { IfSome result (λ seat. length seats.new.items + 1 ≡ length seats.old.items) }
+    ensures none { IfNone result (length seats.old.items ≡ 0) }
 {
     seats.pop()
 }
@@ -29,13 +34,13 @@ pub fn workers_at(
 ) -> Result<Vec<Worker<TcpDoor>>, DeskFault>
     ensures idle { (t : TurnId) → All (IsIdle t) seats.items
         → IfOk result (λ workers. All (λ w. IsIdle t w.seat) workers.items) }
+    ensures first { (t : TurnId) → All (IsFirst t) seats.items
+        → IfOk result (λ workers. All (λ w. IsFirst t w.seat) workers.items) }
+    ensures count { IfOk result (λ workers. length workers.items ≡ length seats.items) }
     ensures fault { IfErr result IsOfWorkers }
 {
     let mut workers = Vec::new(alloc);
-    'seats: for _ in 0..seats.len() {
-        let Some(seat) = last_of(&mut seats) else {
-            return Ok(workers);
-        };
+    'seats: while let Some(seat) = last_of(&mut seats) {
         let door = match TcpDoor::at(listener) {
             Ok(door) => door,
             Err(Failed) => return Err(DeskFault::DoorFailed),

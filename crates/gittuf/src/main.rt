@@ -12,14 +12,13 @@ use crate::hints::{hint_at_desk, hint_at_shared_key, hint_at_slow_key};
 use crate::needs::{Needs, needs_of};
 use crate::serving::desk_of;
 use command_words::{FrontWords, KeyPlace, after_places};
-use desk_http::{serve_gate, serve_store};
 use edge_io::{Failed, FileDisk, MemDisk, OsClock, OsEntropy, StdSink, StdSource};
 use either_kind::EitherDisk;
 use endings::{Part, Refusal};
 use gittuf_cli::{Outside, run};
 use links::TcpPeer;
 use octets::Octets;
-use program_desk::say_end;
+use program_desk::{say_end, serve_asked};
 use program_start::words_of;
 use program_stores::{AnyKeeper, end_store, open_store};
 use std::process::ExitCode;
@@ -131,13 +130,8 @@ fn main(rt: HostRuntime) -> ExitCode {
     let (status, keeper) = match asked {
         Some(asked) if status == 0 => {
             hint_at_desk(&rt);
-            let (port, workers, connections) = (asked.port, asked.workers, asked.connections);
-            let (keeper, end) = if asked.gate {
-                serve_gate(&rt, rt.alloc(), keeper, port, workers, connections)
-            } else {
-                serve_store(&rt, rt.alloc(), keeper, port, workers, connections)
-            };
-            (say_end(rt.stdout(), rt.stderr(), &end), keeper)
+            let (keeper, served) = serve_asked(&rt, rt.alloc(), keeper, &asked);
+            (say_end(rt.stdout(), rt.stderr(), &served.end), keeper)
         }
         _ => (status, keeper),
     };
