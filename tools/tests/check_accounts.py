@@ -8,9 +8,9 @@ from itertools import count
 
 from check_inspecting import told
 from checking import INSPECT, ZEROS, Failure, Skip, want
-from rows_histories import POLICY, History
+from rows_histories import POLICY
 from rows_objects import AUTHOR
-from slow_verdicts import KEYS, LOST, Move, Note, Policy
+from slow_verdicts import KEYS, LOST, Move, Note
 from slow_verdicts import fault, is_back, left_behind, may_skip, not_epoch, numbers_of, policy_at, prior, rescued
 from slow_verdicts import skipped, verdict
 
@@ -22,32 +22,9 @@ def drawn():
     return rows_of_drawn_logs
 
 
-def targets_of(history):
-    """The ids of targets in a history, whose policies are sealed for it alone."""
-    rows = drawn()
-    sealed = rows.Sealed()
-
-    class Targets(rows.Targets):
-        def __missing__(self, target):
-            self[target] = self.history.commit(sealed.files(target) if isinstance(target, Policy) else rows.FILES[target])
-            return self[target]
-
-    return Targets(history)
-
-
 def history_of(log, kept):
-    """A repository with a log, in which each reference is where it is kept, and the ids of its targets."""
-    history = History()
-    ids = targets_of(history)
-    for entry in log:
-        if isinstance(entry, Move):
-            history.record(entry.name, ids[entry.target], entry.signer)
-        else:
-            listed = [history.ids[number - 1] if number else drawn().NOWHERE for number in entry.listed]
-            history.annotate(entry.skip, listed, entry.signer)
-    for name, target in kept.items():
-        history.repository.set(name, ids[target])
-    return history, ids
+    """The history of a log, whose policies are sealed for it alone, and the ids of its targets."""
+    return drawn().history_of(log, kept, drawn().sealed_in([(log, kept)]))
 
 
 def folder_of(repositories, name, repository):

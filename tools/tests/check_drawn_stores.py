@@ -7,20 +7,21 @@ from checking import in_this_run, want, want_run
 from made_databases import command
 from made_folders import IMPORTED
 from made_folders import command as folder_command
-from rows_of_drawn_logs import SEEDS, drawn_log, history_of, sealed_in
+from rows_of_drawn_logs import SEEDS, drawn_log, history_of, sealed_in, verdicts_of
 
 # So many logs are drawn in the shorter run, and in the longer one; of so many at a time each policy is sealed once.
 LOGS, MORE_LOGS, AT_A_TIME = 30, 9_500, 50
 
 
 def histories(count):
-    """Drawn logs behind those of the rows, each by its seed."""
+    """Drawn logs behind those of the rows, each by its seed, with the verdict on each reference."""
     for first in range(SEEDS.stop, SEEDS.stop + count, AT_A_TIME):
         seeds = range(first, min(first + AT_A_TIME, SEEDS.stop + count))
         logs = [drawn_log(seed) for seed in seeds]
         files = sealed_in(logs)
         for seed, (log, kept) in zip(seeds, logs):
-            yield seed, *history_of(log, kept, files)
+            history, ids = history_of(log, kept, files)
+            yield seed, history, verdicts_of(log, kept, ids)
 
 
 def stores_judge_alike(repositories):

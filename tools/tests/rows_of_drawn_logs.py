@@ -191,7 +191,7 @@ def line(name, found, ids):
 
 
 def history_of(log, kept, files_of_policies):
-    """The history of a drawn log, and for each reference the status and line of its verdict, and its name."""
+    """A repository with a log, in which each reference is where it is kept, and the ids of its targets."""
     history = History()
     ids = Targets(history, files_of_policies)
     for entry in log:
@@ -200,16 +200,23 @@ def history_of(log, kept, files_of_policies):
         else:
             listed = [history.ids[number - 1] if number else NOWHERE for number in entry.listed]
             history.annotate(entry.skip, listed, entry.signer)
-    for name in NAMES:
-        history.repository.set(name, ids[kept[name]])
-    return history, [(*line(name, verdict(log, name, kept[name]), ids), name) for name in NAMES]
+    for name, target in kept.items():
+        history.repository.set(name, ids[target])
+    return history, ids
+
+
+def verdicts_of(log, kept, ids):
+    """The status and the line of the verdict on each reference, and its name."""
+    return [(*line(name, verdict(log, name, kept[name]), ids), name) for name in NAMES]
 
 
 def row_of(place):
     """The row of a drawn log: the verdict on each of its references."""
 
     def row():
-        history, asks = history_of(*LOGS[place], policies())
+        log, kept = LOGS[place]
+        history, ids = history_of(log, kept, policies())
+        asks = verdicts_of(log, kept, ids)
         return history, asked(*asks[0]), *(asked_again(*it) for it in asks[1:])
 
     row.__name__ = f"drawn_log_{place}"
