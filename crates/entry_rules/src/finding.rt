@@ -20,7 +20,7 @@ ghost use Rattle.entry_rules.specs.Signing.{approved, joined, signer_among, tree
 use crate::Fault;
 use crate::changes::rules_fault;
 use crate::known_paths::Kept;
-use crate::signing::{approved, joined, listed_ids, signer_among};
+use crate::signing::{approved, joined, known_signer, listed_ids};
 use git_object::{ObjectId, RefName};
 use judging::{Finding, KeyIds};
 use keeper_api::{Keeper, KeeperFault};
@@ -102,7 +102,7 @@ fn signers_for<R: Keeper>(
         attested,
         tree,
     )?;
-    let signer = signer_among(&policy.keys, entry);
+    let signer = known_signer(alloc, signed, &policy.keys, entry);
     Ok(joined(alloc, signer, &approvers)?)
 }
 

@@ -50,6 +50,49 @@ pub fn signer_among(keys: &Keys, entry: &Entry) -> Option<KeyId>
     }
 }
 
+// Whether the key has this id and the entry's signature is good by it, by what is known.
+fn is_known_by(alloc: Global, known: &KnownSigners, entry: &Entry, id: &KeyId, key: &Key) -> bool
+    ensures { result ≡ is_signed_by entry.now id.now key.now }
+{
+    key.id.as_bytes() == id.as_bytes()
+        && known.is_good(
+            alloc,
+            key.public.as_slice(),
+            entry.signed.as_slice(),
+            entry.signature.as_slice(),
+        )
+}
+
+fn is_known_by_one(
+    alloc: Global,
+    known: &KnownSigners,
+    keys: &[Key],
+    entry: &Entry,
+    id: &KeyId,
+) -> bool
+    ensures { result ≡ list_any (is_signed_by entry.now id.now) keys.now }
+{
+    keys.iter()
+        .any(|key| is_known_by(alloc, known, entry, id, key))
+}
+
+/// As `signer_among`, but that the last signature which was found good is not checked again.
+pub fn known_signer(
+    alloc: Global,
+    known: &KnownSigners,
+    keys: &Keys,
+    entry: &Entry,
+) -> Option<KeyId>
+    ensures { result ≡ signer_among keys.now entry.now }
+{
+    let id = entry.signer?;
+    if is_known_by_one(alloc, known, keys.as_slice(), entry, &id) {
+        Some(id)
+    } else {
+        None
+    }
+}
+
 fn append(ids: &mut Items<KeyId>, more: &[KeyId]) -> Result<(), Memory>
     ensures { OnOk result (ids.new ≡ ids.old ++ more.now) }
 {

@@ -4,3 +4,5 @@ pub mod Asked
 pub mod ReadTexts
 -- what an approval's payload says
 pub mod ApprovalFields
+-- a signature of bytes
+pub mod Signed

@@ -1,19 +1,22 @@
 //! What is known of who signed and of texts that were read, lent to whoever asks.
 
-ghost use Rattle.std.specs.Prelude.{◌≡◌, IfOk};
+ghost use Rattle.std.specs.Prelude.{◌≡◌, true, IfOk, IsTrue};
 ghost use Rattle.std.specs.Result.{result_ok};
 ghost use Rattle.json_fields.specs.Json.{json_of};
 ghost use Rattle.dsse_envelope.specs.Envelopes as envelopes;
+ghost use Rattle.lms_keys.specs.Deciding.{is_good};
 ghost use Rattle.root_metadata.specs.Roots as roots;
 ghost use Rattle.rule_files.specs.Files as files;
 ghost use Rattle.approvals.specs.Approvals.{lets_go};
 ghost use Rattle.approvals.specs.Signers.{env_signers};
 
+use crate::good::GoodSignature;
 use crate::payloads::{Fields, let_go};
 use crate::rows::Rows;
 use crate::texts::{FromText, Texts};
 use dsse_envelope::Envelope;
 use git_object::{ObjectId, RefName};
+use lms_keys::verify_any;
 use octets::Memory;
 use root_metadata::{KeyIds, Keys, Root};
 use rule_files::RuleFile;
@@ -27,6 +30,7 @@ use std::cell::Cell;
 #[derive(Drop)]
 pub struct KnownSigners {
     rows: Cell<Option<Rows>>,
+    good: Cell<Option<GoodSignature>>,
     envelopes: Cell<Option<Texts<Envelope>>>,
     payloads: Cell<Option<Texts<Fields>>>,
     roots: Cell<Option<Texts<Root>>>,
@@ -50,11 +54,22 @@ fn read_by<T: FromText>(
     found
 }
 
+// Whether it is known that this signature of these bytes is good by the key.
+fn is_known(last: &Option<GoodSignature>, public: &[u8], signed: &[u8], signature: &[u8]) -> bool
+    ensures { IsTrue result → is_good public.now signed.now signature.now ≡ true }
+{
+    match last {
+        Some(last) => last.is_same(public, signed, signature),
+        None => false,
+    }
+}
+
 impl KnownSigners {
     /// Nothing is known. It takes no memory.
     pub fn new() -> KnownSigners {
         KnownSigners {
             rows: Cell::new(None),
+            good: Cell::new(None),
             envelopes: Cell::new(None),
             payloads: Cell::new(None),
             roots: Cell::new(None),
@@ -113,5 +128,40 @@ impl KnownSigners {
     {
         let fields = read_by(&self.payloads, alloc, payload)?;
         Ok(let_go(&fields, name, from, tree))
+    }
+
+    // Checks a signature, and keeps it where it is good. Where memory is wanting the last one stays.
+    fn check(
+        &self,
+        alloc: Global,
+        last: Option<GoodSignature>,
+        public: &[u8],
+        signed: &[u8],
+        signature: &[u8],
+    ) -> bool
+        ensures { result ≡ is_good public.now signed.now signature.now }
+    {
+        if !verify_any(public, signed, signature) {
+            self.good.set(last);
+            return false;
+        }
+        match GoodSignature::of(alloc, public, signed, signature) {
+            Ok(found) => self.good.set(Some(found)),
+            Err(_) => self.good.set(last),
+        }
+        true
+    }
+
+    /// Whether it is a good signature of these bytes by a public key, as `verify_any` answers. The last one that was
+    /// found good is not checked again.
+    pub fn is_good(&self, alloc: Global, public: &[u8], signed: &[u8], signature: &[u8]) -> bool
+        ensures { result ≡ is_good public.now signed.now signature.now }
+    {
+        let last = self.good.take();
+        if is_known(&last, public, signed, signature) {
+            self.good.set(last);
+            return true;
+        }
+        self.check(alloc, last, public, signed, signature)
     }
 }

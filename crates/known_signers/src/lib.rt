@@ -8,6 +8,7 @@ mod approving;
 mod copies;
 mod found;
 mod from_texts;
+mod good;
 mod known;
 mod loading;
 mod payloads;
