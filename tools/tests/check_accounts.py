@@ -8,8 +8,9 @@ from itertools import count
 
 from check_inspecting import told
 from checking import INSPECT, ZEROS, Failure, Skip, want
-from rows_histories import POLICY
+from rows_histories import KEEPER, MAIN, MAINTAINER, NEWCOMER, OWNER, POLICY, REVIEWER, History, top_file
 from rows_objects import AUTHOR
+from rows_policies import root_of_people, rule
 from slow_verdicts import KEYS, LOST, Move, Note
 from slow_verdicts import fault, is_back, left_behind, may_skip, not_epoch, numbers_of, policy_at, prior, rescued
 from slow_verdicts import skipped, verdict
@@ -64,6 +65,29 @@ def epoch_at(log, number):
     return max((at for at in numbers_of(log, POLICY, number) if not_epoch(log, at) is None), default=None)
 
 
+def said_by(policy):
+    """What a drawn policy says in words. Of schema 1, it knows no persons, and names who is asked by the ids of keys."""
+    own, key = drawn().ROOT_KEYS[policy.holder].id, KEYS[policy.holder].id
+    return {
+        "keys": [own, *(it.id for it in KEYS)],
+        "persons": [],
+        "rules": [f"role root by {own}", f"role targets by {own}", f"rule heads git:refs/heads/* by {key} open"],
+        "thresholds": ["role root 1", "role targets 1", "rule heads 1"],
+    }
+
+
+def changed_by(was, now):
+    """What changed from what one policy says to what another does."""
+    return {it: {"added": [at for at in now[it] if at not in was[it]], "removed": [at for at in was[it] if at not in now[it]]} for it in was}
+
+
+def changed_at(log, number):
+    """The field of what the policy that an entry brings into force changes of the one before it, where there was one."""
+    entry = log[number - 1]
+    before = policy_at(log, number) if entry.name == POLICY and not_epoch(log, number) is None else None
+    return {"changed": changed_by(said_by(before), said_by(entry.target))} if before else {}
+
+
 def told_of(log, number, history, ids):
     """What is to be told of an entry, without its key, its signature and its signers. No drawn policy knows persons."""
     entry, own = log[number - 1], {"number": number, "id": history.ids[number - 1], "epoch": epoch_at(log, number)}
@@ -83,6 +107,7 @@ def told_of(log, number, history, ids):
         **{"verdict": "refused" if why else "authorised", "fault": fault_fields(why) if why else None},
         "skipped": first(at for at in skips if may_skip(log, at, entry.name)),
         "rescued": first(rescues) if why else None,
+        **changed_at(log, number),
     }
 
 
@@ -92,7 +117,8 @@ def hold_entries(repositories, place, log, kept):
     folder = folder_of(repositories, f"drawn {place}", history.repository)
     status, found = told(folder, word="log")
     wanted = [told_of(log, number, history, ids) for number in range(1, len(log) + 1)]
-    want((status, [{it: line[it] for it in entry} for line, entry in zip(found, wanted)]), (0, wanted), f"drawn log {place}")
+    found = [{it: line[it] for it in {*entry, *({"changed"} & set(line))}} for line, entry in zip(found, wanted)]
+    want((status, found), (0, wanted), f"drawn log {place}")
     status, found = told(folder, *kept)
     wanted = [verdict_of(log, name, kept[name], history, ids) for name in kept]
     want((status, found), (int(any(it["verdict"] != "accepted" for it in wanted)), wanted), f"the verdicts of drawn log {place}")
@@ -116,6 +142,40 @@ def tells_drawn_logs(repositories):
     for place, (log, kept) in enumerate(drawn().LOGS):
         hold_entries(repositories, place, log, kept)
     return f"{sum(len(log) for log, _ in drawn().LOGS)} entries"
+
+
+def people_history():
+    """A log of two policies of schema 2, of which the second has a person and a rule more, and another key, role and threshold."""
+    history = History()
+    rules = [rule("main", "git:refs/heads/main", ["dan"])]
+    root = root_of_people(1, [OWNER, KEEPER], {"alice": [OWNER], "bob": [KEEPER]}, ["alice"], ["alice"])
+    history.policy({"root": (root, [OWNER]), "targets": (top_file([MAINTAINER], rules, 1, {"dan": [MAINTAINER]}), [OWNER])})
+    people = {"dan": [MAINTAINER], "eve": [REVIEWER]}
+    rules = [rule("docs", "file:a b*", ["dan"], terminating=True), rule("main", "git:refs/heads/main", ["dan", "eve"], 2)]
+    root = root_of_people(2, [OWNER, NEWCOMER], {"alice": [OWNER], "bob": [NEWCOMER]}, ["alice"], ["alice", "bob"])
+    top = top_file([MAINTAINER, REVIEWER], rules, 2, people)
+    history.policy({"root": (root, [OWNER]), "targets": (top, [OWNER])})
+    history.record(MAIN, history.commit({b"a": b"a"}), MAINTAINER)
+    return history
+
+
+def tells_changes(repositories):
+    """gittuf-inspect log tells what a policy changes of the one before it, and of no other entry that something changed"""
+    status, found = told(folder_of(repositories, "changed policies", people_history().repository), word="log")
+    changed = {
+        "keys": {"added": [NEWCOMER.id, REVIEWER.id], "removed": [KEEPER.id]},
+        "persons": {"added": [f"bob {NEWCOMER.id}", f"eve {REVIEWER.id}"], "removed": [f"bob {KEEPER.id}"]},
+        "rules": {
+            "added": [
+                "role targets by alice bob",
+                "rule docs file:a%20b* by dan terminating",
+                "rule main git:refs/heads/main by dan eve open",
+            ],
+            "removed": ["role targets by alice", "rule main git:refs/heads/main by dan open"],
+        },
+        "thresholds": {"added": ["rule docs 1", "rule main 2"], "removed": ["rule main 1"]},
+    }
+    want((status, [it.get("changed", ZEROS) for it in found]), (0, [ZEROS, changed, ZEROS]), "what changed, where the field stands")
 
 
 def mend_of(log, name, history, ids):
@@ -175,7 +235,7 @@ def tells_what_mends(repositories):
     return f"{done} mended, {hopeless} that nobody may mend so"
 
 
-CHECKS = (tells_drawn_logs, tells_what_mends)
+CHECKS = (tells_drawn_logs, tells_changes, tells_what_mends)
 
 
 class Folders:

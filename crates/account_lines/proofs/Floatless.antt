@@ -1,9 +1,9 @@
 -- No number in a line has a fraction, so each line is the text of its value.
-use Rattle.std.proofs.Common.{◌≡◌, ◌∙◌, ℕ, Bool, false, List, Option, refl, ap}
+use Rattle.std.proofs.Common.{◌≡◌, ◌∙◌, ℕ, Bool, false, List, Option, Some, None, refl, ap}
 use Rattle.std.specs.Prelude.{IfOk, Result, option_and_then}
 use Rattle.std.proofs.lemmas.Result.{IfOk-weaker}
-use Rattle.serde_json.specs.Data.{Data}
-use Rattle.serde_json.specs.Written.{has_float}
+use Rattle.serde_json.specs.Data.{Data, Members}
+use Rattle.serde_json.specs.Written.{has_float, members_have_float}
 use Rattle.json_lines.specs.Values.{hex_data, line_text, number_data, text_data}
 use Rattle.json_lines.proofs.Floatless.{list_floatless, option_floatless, text_floatless}
 use Rattle.rsl_chain.specs.declared.entries.Entry.{Entry}
@@ -16,11 +16,13 @@ use Rattle.judging.specs.declared.verdicts.EntryVerdict.TheVariants.{Authorised,
 use Rattle.judging.specs.declared.verdicts.Verdict.{Verdict}
 use Rattle.judging.specs.declared.verdicts.Verdict.TheVariants.{Accepted, TipDiffers, Violation}
 use Rattle.mends.specs.declared.mend.Mend.{Mend}
+use Rattle.policy_changes.specs.declared.changes.Difference.{Difference}
+use Rattle.policy_changes.specs.declared.changes.PolicyChange.{PolicyChange}
 use Rattle.policy_epochs.specs.Telling.{fault_text}
 use Rattle.entry_rules.specs.declared.faults.Fault.{Fault}
 use Rattle.entry_rules.specs.declared.faults.Fault.TheVariants.{Broken, NoPolicy, NotEpoch, PathRule, RefRule}
 use Rattle.account_lines.specs.Lines.{body_data, fault_data, mend_data, refusal_data, skip_data, unrecorded_data, verdict_data}
-use Rattle.account_lines.specs.Lines.{violation_data}
+use Rattle.account_lines.specs.Lines.{change_data, changed_members, difference_data, violation_data}
 use Rattle.account_lines.specs.declared.rows.EntryRow.{EntryRow}
 use Rattle.account_lines.specs.declared.rows.Later.{Later}
 
@@ -37,10 +39,19 @@ refusal_floatless Authorised = refl
 refusal_floatless (Refused fault) = fault_floatless fault
 refusal_floatless Noted = refl
 
+difference_floatless : (told : Difference) → has_float (difference_data told) ≡ false
+difference_floatless told = rw (list_floatless text_data text_floatless told.added, list_floatless text_data text_floatless told.removed) refl
+
+change_floatless : (change : PolicyChange) → has_float (change_data change) ≡ false
+change_floatless change = rw (difference_floatless change.keys, difference_floatless change.persons, difference_floatless change.rules, difference_floatless change.thresholds) refl
+
+changed_floatless : (change : Option PolicyChange) (rest : Members) → members_have_float rest ≡ false → members_have_float (changed_members change rest) ≡ false
+changed_floatless None rest h = h
+changed_floatless (Some change) rest h = rw (change_floatless change) h
+
 pub body_floatless : (entry : Entry) (row : EntryRow) (later : Later) (body : EntryBody) → has_float (body_data entry row later body) ≡ false
 body_floatless entry row later (Reference name target) =
-    rw (
-      option_floatless text_data text_floatless (author_of entry.signed),
+    rw (option_floatless text_data text_floatless (author_of entry.signed)) (changed_floatless row.changed _ (rw (
       option_floatless number_data (λ _. refl) row.epoch,
       refusal_floatless row.verdict,
       option_floatless hex_data (λ _. refl) row.from,
@@ -52,7 +63,7 @@ body_floatless entry row later (Reference name target) =
       list_floatless hex_data (λ _. refl) row.signers,
       option_floatless number_data (λ _. refl) later.skipper,
       option_floatless number_data (λ _. refl) (option_and_then time_of (author_of entry.signed)),
-    ) refl
+    ) refl))
 body_floatless entry row later (Annotation ids skip message) =
     rw (
       option_floatless text_data text_floatless (author_of entry.signed),

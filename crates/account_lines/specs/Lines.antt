@@ -1,5 +1,5 @@
 -- The lines that tell an entry and a verdict: objects of JSON, with the fields in the order of their names' bytes.
-use Rattle.std.specs.Prelude.{ℕ, Bool, true, false, List, Option, codes, option_and_then}
+use Rattle.std.specs.Prelude.{ℕ, Bool, true, false, List, Option, Some, None, codes, option_and_then}
 use Rattle.json_lines.specs.Values.{hex_data, line_text, list_data, number_data, option_data, text_data}
 use Rattle.serde_json.specs.Data.{Data, Members, boolean, member, no_members, null, object, string}
 use Rattle.rsl_chain.specs.declared.entries.Entry.{Entry}
@@ -12,6 +12,8 @@ use Rattle.judging.specs.declared.verdicts.EntryVerdict.TheVariants.{Authorised,
 use Rattle.judging.specs.declared.verdicts.Verdict.{Verdict}
 use Rattle.judging.specs.declared.verdicts.Verdict.TheVariants.{Accepted, TipDiffers, Violation}
 use Rattle.mends.specs.declared.mend.Mend.{Mend}
+use Rattle.policy_changes.specs.declared.changes.Difference.{Difference}
+use Rattle.policy_changes.specs.declared.changes.PolicyChange.{PolicyChange}
 use Rattle.policy_epochs.specs.Telling.{fault_text}
 use Rattle.entry_rules.specs.declared.faults.Fault.{Fault}
 use Rattle.entry_rules.specs.declared.faults.Fault.TheVariants.{Broken, NoPolicy, NotEpoch, PathRule, RefRule}
@@ -33,6 +35,24 @@ fault_data (PathRule path rule got need) = object (member (codes "got") (number_
     (member (codes "rule") (text_data rule) no_members)))))
 fault_data (NotEpoch why) = object (member (codes "kind") (string (codes "not-epoch"))
     (member (codes "why") (text_data (fault_text why)) no_members))
+
+-- ---- what a policy changes
+
+-- the texts that it says and the one before it did not, and those that it no longer says
+abbrev pub difference_data : Difference → Data
+difference_data told = object (member (codes "added") (list_data text_data told.added)
+    (member (codes "removed") (list_data text_data told.removed) no_members))
+
+abbrev pub change_data : PolicyChange → Data
+change_data change = object (member (codes "keys") (difference_data change.keys)
+    (member (codes "persons") (difference_data change.persons)
+    (member (codes "rules") (difference_data change.rules)
+    (member (codes "thresholds") (difference_data change.thresholds) no_members))))
+
+-- where there is a change, before other fields
+abbrev pub changed_members : Option PolicyChange → Members → Members
+changed_members None rest = rest
+changed_members (Some change) rest = member (codes "changed") (change_data change) rest
 
 -- ---- entries
 
@@ -59,12 +79,12 @@ time_data entry = option_data number_data (option_and_then time_of (author_of en
 -- of an entry of a reference: who made it, and how it was judged
 abbrev pub judged_members : Entry → EntryRow → Members → Members
 judged_members entry row rest =
-    member (codes "author") (author_data entry)
+    member (codes "author") (author_data entry) (changed_members row.changed
     (member (codes "epoch") (option_data number_data row.epoch)
     (member (codes "fault") (refusal_data row.verdict)
     (member (codes "from") (option_data hex_data row.from)
     (member (codes "id") (hex_data entry.id)
-    (member (codes "key") (option_data hex_data entry.signer) rest)))))
+    (member (codes "key") (option_data hex_data entry.signer) rest))))))
 
 -- where it stands
 abbrev pub placed_members : Entry → List ℕ → EntryRow → Later → Members → Members

@@ -7,6 +7,7 @@ ghost use Rattle.account_lines.specs.Lines.{annotation_data, annotation_word, bo
 ghost use Rattle.account_lines.specs.Lines.{listing_members, noting_members, placed_members, reference_data};
 ghost use Rattle.account_lines.specs.Lines.{refusal_data, signed_members, verdict_word};
 
+use crate::changes::put_changed;
 use crate::faults::fault_json;
 use crate::fields::put_first;
 use crate::made::{author_json, texts_json, time_json};
@@ -61,6 +62,7 @@ fn put_judged(
     put_first(fields, alloc, "fault", fault)?;
     let epoch = option_json(alloc, row.epoch.as_ref())?;
     put_first(fields, alloc, "epoch", epoch)?;
+    put_changed(fields, alloc, &row.changed)?;
     let author = author_json(alloc, entry)?;
     put_first(fields, alloc, "author", author)
 }

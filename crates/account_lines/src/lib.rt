@@ -4,6 +4,7 @@
 
 #![tactic(auto)]
 
+mod changes;
 mod entries;
 mod faults;
 mod fields;

@@ -4,6 +4,7 @@ use entry_rules::Fault;
 use git_object::ObjectId;
 use judging::{EntryVerdict, KeyIds};
 use octets::{Items, Octets};
+use policy_changes::PolicyChange;
 
 /// What is known of an entry once it is judged.
 #[derive(Drop)]
@@ -26,6 +27,9 @@ pub struct EntryRow {
     pub persons: Items<Octets>,
     /// Whether it is authorised, refused for a fault, or an annotation.
     pub verdict: EntryVerdict<Fault>,
+    /// What the policy that it brings into force changes of the one before it; None where it brings none, or there was
+    /// none.
+    pub changed: Option<PolicyChange>,
 }
 
 /// What later entries make of an entry of a reference.

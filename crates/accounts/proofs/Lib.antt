@@ -1,6 +1,7 @@
 mod Rowed
 mod Signed
 mod Taking
+mod Changing
 mod Walked
 mod Lines
 mod Skipping

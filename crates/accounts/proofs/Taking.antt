@@ -24,12 +24,12 @@ use Rattle.verify_ref.specs.declared.engine.Engine.{Engine}
 use Rattle.account_lines.specs.declared.rows.EntryRow.{EntryRow}
 use Rattle.accounts.specs.Judging.{StandsFor}
 use Rattle.by_whom.specs.Keeping.{Knows}
-use Rattle.accounts.specs.Rows.{counted_by, epoch_of, from_of, prior_of, row_of, rows_of, signer_in}
+use Rattle.accounts.specs.Rows.{changed_of, counted_by, epoch_of, from_of, prior_of, row_of, rows_of, signer_in}
 use Rattle.accounts.specs.Steps.{attested_then, is_authorised}
 use Rattle.accounts.specs.declared.judged_log.JudgedLog.{JudgedLog}
 use Rattle.accounts.proofs.Rowed.{epoch_more, rows_more}
 
-authorised_is : (body : EntryBody) (fault : Option Fault) → (is_of body policy_name && is_authorised (body_verdict fault body)) ≡ (is_of body policy_name && is_none fault)
+pub authorised_is : (body : EntryBody) (fault : Option Fault) → (is_of body policy_name && is_authorised (body_verdict fault body)) ≡ (is_of body policy_name && is_none fault)
 authorised_is (Reference name target) None = refl
 authorised_is (Reference name target) (Some fault) = refl
 authorised_is (Annotation ids skip message) fault = refl
@@ -66,6 +66,7 @@ pub record IsFound (log : List Taken) (t : Taken) (was now : JudgedLog) (row : E
   pub signers : row.signers ≡ last_signers (real_rules now.engine.rules.anchor) (log ++ t ∷ [])
   pub persons : row.persons ≡ persons_of (policy_after (real_rules now.engine.rules.anchor) (log ++ t ∷ []))
       (counted_by t.entry.body (signer_in (policy_after (real_rules was.engine.rules.anchor) log) t.entry) row.signers)
+  pub changed : row.changed ≡ changed_of (real_rules was.engine.rules.anchor) log t
   pub rows : now.rows ≡ was.rows ++ row ∷ []
   pub attested : now.attested ≡ attested_then was.attested t.entry.body
   pub names : now.names ≡ with_body was.names t.entry.body
@@ -91,6 +92,7 @@ module _ (log : List Taken) (t : Taken) (was now : JudgedLog) (row : EntryRow) (
       found.signed ∙ ap (λ (a : Option (List (List ℕ))). is_some (signer_in (policy_after (real_rules a) log) t.entry)) same in
       let signers : row.signers ≡ signers_of rules log t = found.signers ∙ signers_push rules log t in
       let verdict : row.verdict ≡ verdict_of rules log t = found.takes.answer in
+      let changed : row.changed ≡ changed_of rules log t = found.changed ∙ ap (λ (a : Option (List (List ℕ))). changed_of (real_rules a) log t) same in
       let signer = signer_in (policy_after rules log) t.entry in
       let persons : row.persons ≡ persons_of (policy_after rules log) (counted_by t.entry.body signer (signers_of rules log t)) =
       found.persons
@@ -109,6 +111,7 @@ module _ (log : List Taken) (t : Taken) (was now : JudgedLog) (row : EntryRow) (
         signers = signers i;
         persons = persons i;
         verdict = verdict i;
+        changed = changed i;
       }
 
   epoch_is : now.epoch ≡ epoch_of (real_rules now.engine.rules.anchor) (log ++ t ∷ [])

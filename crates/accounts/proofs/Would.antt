@@ -32,11 +32,11 @@ first_is (x ∷ xs) = refl
 module _ (judged : JudgedLog) (log : List Taken) (stands : StandsFor log judged) where
   pub row_is : (p : Proposed) (found : Would) (row : EntryRow) → row.id ≡ zeros → row.epoch ≡ judged.epoch → row.prior ≡ prior (real_rules judged.engine.rules.anchor) log p.name
       → row.from ≡ prior_target (real_rules judged.engine.rules.anchor) log p.name → row.signed ≡ false → row.signers ≡ found.signers
-      → row.persons ≡ persons_of (policy_after (real_rules judged.engine.rules.anchor) log) found.signers → row.verdict ≡ answer_of (first_of found.faults)
+      → row.persons ≡ persons_of (policy_after (real_rules judged.engine.rules.anchor) log) found.signers → row.verdict ≡ answer_of (first_of found.faults) → row.changed ≡ None
       → row ≡ would_row judged.engine.rules.anchor log p found
-  row_is p found row id epoch before from signed signers persons verdict =
+  row_is p found row id epoch before from signed signers persons verdict changed =
       let last = epoch ∙ stands.epoch in
-      λ i. record { id = id i; epoch = last i; prior = before i; from = from i; signed = signed i; signers = signers i; persons = persons i; verdict = verdict i }
+      λ i. record { id = id i; epoch = last i; prior = before i; from = from i; signed = signed i; signers = signers i; persons = persons i; verdict = verdict i; changed = changed i }
 
   pub stood_is : (name : List ℕ) (from : Option (List ℕ)) (stood : Stood) → from ≡ prior_target (real_rules judged.engine.rules.anchor) log name
       → stood.from ≡ unwrap_or from zeros → stood.attested ≡ judged.attested → stood ≡ stood_at judged.engine.rules.anchor log name

@@ -107,6 +107,7 @@ would_row anchor log p found = record {
   signers = found.signers;
   persons = persons_of (policy_after (real_rules anchor) log) found.signers;
   verdict = answer_of (first_of found.faults);
+  changed = None;
 }
 
 abbrev pub no_later : Later

@@ -1,17 +1,19 @@
 -- What is known of each entry of a log once it is judged: by the entries before it, and it alone.
 use Rattle.std.specs.Prelude.{◌&&◌, ◌++◌, ◌∷◌, [], ℕ, Bool, List, length}
-use Rattle.std.specs.Prelude.{Option, Some, None, is_some}
+use Rattle.std.specs.Prelude.{Option, Some, None, is_none, is_some, if◌then◌else◌}
 use Rattle.std.specs.List.{filter}
 use Rattle.git_object.specs.References.{policy_name}
-use Rattle.rsl_chain.specs.Entries.{Taken}
+use Rattle.rsl_chain.specs.Entries.{Taken, is_of}
 use Rattle.rsl_chain.specs.declared.entries.Entry.{Entry}
 use Rattle.rsl_chain.specs.declared.entries.EntryBody.{EntryBody}
 use Rattle.rsl_chain.specs.declared.entries.EntryBody.TheVariants.{Reference, Annotation}
 use Rattle.recovery.specs.Lanes.{last_of}
-use Rattle.judging.specs.Logs.{authorised, entry_at, is_entry_of, numbers, policy_after, prior}
+use Rattle.judging.specs.Logs.{authorised, entry_at, fault_of, is_entry_of, numbers, policy_after, prior}
 use Rattle.judging.specs.Logs.{prior_target, signers_of}
 use Rattle.judging.specs.Rules.{Rules}
 use Rattle.judging.specs.Verdicts.{verdict_of}
+use Rattle.policy_changes.specs.Changes.{change_between}
+use Rattle.policy_changes.specs.declared.changes.PolicyChange.{PolicyChange}
 use Rattle.policy_epochs.specs.declared.policies.Policy.{Policy}
 use Rattle.entry_rules.specs.RealRules.{real_rules}
 use Rattle.entry_rules.specs.Signing.{listed, signer_among}
@@ -48,6 +50,18 @@ abbrev pub counted_by : EntryBody → Option (List ℕ) → List (List ℕ) → 
 counted_by (Reference name target) signer signers = signers
 counted_by (Annotation ids skip message) signer signers = listed signer
 
+-- what a policy changes of the one before it, where both are there
+abbrev pub changed_between : Option Policy → Option Policy → Option PolicyChange
+changed_between None now = None
+changed_between (Some was) None = None
+changed_between (Some was) (Some now) = Some (change_between was now)
+
+-- what the policy that the entry brings into force changes of the one before it
+abbrev pub changed_of : Rules Policy Fault → List Taken → Taken → Option PolicyChange
+changed_of rules earlier t =
+    if is_of t.entry.body policy_name && is_none (fault_of rules earlier (Some t))
+    then changed_between (policy_after rules earlier) (policy_after rules (earlier ++ t ∷ [])) else None
+
 -- of the entry that comes after these
 abbrev pub row_of : Option (List (List ℕ)) → List Taken → Taken → EntryRow
 row_of anchor earlier t = record {
@@ -61,6 +75,7 @@ row_of anchor earlier t = record {
       (counted_by t.entry.body (signer_in (policy_after (real_rules anchor) earlier) t.entry)
       (signers_of (real_rules anchor) earlier t));
   verdict = verdict_of (real_rules anchor) earlier t;
+  changed = changed_of (real_rules anchor) earlier t;
 }
 
 -- of each of the later entries, which stand behind the earlier ones

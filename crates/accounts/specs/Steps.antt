@@ -1,5 +1,6 @@
 -- What is answered of one entry.
-use Rattle.std.specs.Prelude.{◌&&◌, ◌||◌, ℕ, Bool, true, false, List, Option, Some, None, is_none, is_some, if◌then◌else◌}
+use Rattle.std.specs.Prelude.{◌&&◌, ◌||◌, ℕ, Bool, true, false, List, Option, Some, None}
+use Rattle.std.specs.Prelude.{is_none, is_some, if◌then◌else◌}
 use Rattle.std.specs.List.{list_any}
 use Rattle.std.specs.Str.{bytes_eq}
 use Rattle.git_object.specs.References.{attestations_name, policy_name}
@@ -9,6 +10,10 @@ use Rattle.rsl_chain.specs.declared.entries.EntryBody.{EntryBody}
 use Rattle.rsl_chain.specs.declared.entries.EntryBody.TheVariants.{Reference, Annotation}
 use Rattle.judging.specs.declared.verdicts.EntryVerdict.{EntryVerdict}
 use Rattle.judging.specs.declared.verdicts.EntryVerdict.TheVariants.{Authorised, Refused, Noted}
+use Rattle.policy_changes.specs.Changes.{change_said}
+use Rattle.policy_changes.specs.Words.{says_of}
+use Rattle.policy_changes.specs.declared.changes.PolicyChange.{PolicyChange}
+use Rattle.policy_changes.specs.declared.says.PolicySays.{PolicySays}
 use Rattle.policy_epochs.specs.declared.policies.Policy.{Policy}
 use Rattle.entry_rules.specs.declared.faults.Fault.{Fault}
 use Rattle.accounts.specs.Rows.{signer_in}
@@ -41,3 +46,15 @@ is_among (Some id) keys = list_any (λ key. bytes_eq key id) keys
 abbrev pub is_signed_among : Option Policy → Entry → Option (List ℕ) → List (List ℕ) → Bool
 is_signed_among policy entry attested signers =
     is_among entry.signer signers && (is_none attested || is_some (signer_in policy entry))
+
+-- what the policy in force says, before an entry that is the policy's reference's
+abbrev pub said_before : Option Policy → Bool → Option PolicySays
+said_before None own = None
+said_before (Some policy) own = if own then Some (says_of policy) else None
+
+-- what changed from that to the policy in force behind the entry, where that brought it there
+abbrev pub changed_then : Bool → Option PolicySays → Option Policy → Option PolicyChange
+changed_then false said now = None
+changed_then true None now = None
+changed_then true (Some said) None = None
+changed_then true (Some said) (Some policy) = Some (change_said said (says_of policy))

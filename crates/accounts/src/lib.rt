@@ -5,7 +5,9 @@
 
 #![tactic(auto)]
 
+mod changes;
 mod entry_lines;
+mod finding;
 mod judged_log;
 pub mod laws;
 mod mending;

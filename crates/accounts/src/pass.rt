@@ -21,9 +21,8 @@ ghost use Rattle.accounts.specs.Fronts.{IsJudgedBefore, ReadsBefore};
 ghost use Rattle.accounts.specs.Judging.{IsJudgedLog, IsOwn, JudgesNext, StandsFor};
 
 use crate::JudgedLog;
-use crate::rows::{
-    apart_signer, from_of, is_signed, next_attested, next_epoch, opens, prior_of, told_persons,
-};
+use crate::finding::{after_of, before_of};
+use crate::rows::{from_of, next_attested, next_epoch, opens, prior_of};
 use account_lines::EntryRow;
 use by_whom::{ByWhom, open_to};
 use entry_rules::Fault;
@@ -65,18 +64,18 @@ fn judge_entry<R: Keeper>(
     let prior = prior_of(&judged.engine, entry);
     let from = from_of(&judged.engine, entry);
     let numbers = open_to(alloc, judged.engine.entries(), entry)?;
-    let apart = apart_signer(judged.engine.policy(), entry);
+    let before = before_of(alloc, judged.engine.policy(), entry, judged.attested)?;
     let epoch = judged.epoch;
     let verdict = match judged.engine.extend(alloc, keeper, entry) {
         Ok(verdict) => verdict,
         Err(KeeperFault::Failed) => return Err(LogFault::Failed),
         Err(KeeperFault::Memory) => return Err(LogFault::Memory),
     };
-    judged.epoch = next_epoch(epoch, opens(entry, &verdict), entry.number);
-    let signers = judged.engine.signers().copy()?;
+    let opens = opens(entry, &verdict);
+    judged.epoch = next_epoch(epoch, opens, entry.number);
     let policy = judged.engine.policy();
-    let signed = is_signed(policy, entry, &judged.attested, &apart, &signers);
-    let persons = told_persons(alloc, policy, entry, &apart, &signers)?;
+    let signers = judged.engine.signers();
+    let after = after_of(alloc, policy, signers, entry, &before, opens)?;
     judged
         .later
         .take(judged.engine.entries(), entry, numbers.as_slice())?;
@@ -87,10 +86,11 @@ fn judge_entry<R: Keeper>(
         epoch,
         prior,
         from,
-        signed,
-        signers,
-        persons,
+        signed: after.signed,
+        signers: after.signers,
+        persons: after.persons,
         verdict,
+        changed: after.changed,
     })?;
     Ok(())
 }

@@ -187,7 +187,8 @@ fn is_authorised(verdict: &EntryVerdict<Fault>) -> bool
     }
 }
 
-fn is_policys(entry: &Entry) -> bool
+/// Whether an entry is one of the policy's reference.
+pub(crate) fn is_policys(entry: &Entry) -> bool
     ensures { result ≡ is_of entry.now.body policy_name }
 {
     match &entry.body {

@@ -87,6 +87,7 @@ fn would_line(
         signers: found.signers.copy()?,
         persons: persons_of(alloc, judged.engine.policy(), found.signers.as_slice())?,
         verdict: answer_of(&found.faults)?,
+        changed: None,
     };
     let later = Later {
         skipper: None,
