@@ -14,7 +14,7 @@ ghost use Rattle.rule_delegations.specs.Chains.{rule_at};
 ghost use Rattle.root_metadata.specs.Persons.{count_in};
 
 use crate::Fault;
-use crate::known_paths::KnownPaths;
+use crate::known_paths::Kept;
 use crate::meeting::meets;
 use git_object::RefName;
 use octets::{Memory, Octets};
@@ -84,7 +84,7 @@ fn told_of_path(rules: &Rules, path: &Octets, signers: &KeyIds) -> Result<Option
 
 fn path_fault(
     alloc: Global,
-    known: &KnownPaths,
+    known: &Kept,
     rules: &Rules,
     paths: &[Octets],
     signers: &KeyIds,
@@ -103,7 +103,7 @@ fn path_fault(
 /// the paths, they are not looked through again.
 pub fn rules_fault(
     alloc: Global,
-    known: &KnownPaths,
+    known: &Kept,
     rules: &Rules,
     name: &RefName,
     paths: &[Octets],

@@ -186,7 +186,7 @@ fn find_change<R: Keeper>(
                 Some(to),
             )?;
             let rules = &policy.rules;
-            let fault = rules_fault(alloc, &kept.paths, rules, name, paths.as_slice(), &signers)?;
+            let fault = rules_fault(alloc, kept, rules, name, paths.as_slice(), &signers)?;
             let signers = listed_ids(alloc, &signers)?;
             Ok(Finding { fault, signers })
         }

@@ -16,17 +16,20 @@ use std::cell::Cell;
 // So many paths are looked for in what is known.
 const MANY: usize = 64;
 
-/// What is known of which of many paths is the first that signers do not meet. Each row is so of its rules, signers and
-/// paths wherever they stand, as those of `KnownSigners` are. It is lent by `&`, and learns while it is asked.
+/// What is known, in one pass, of who signed and of texts, and of which of many paths is the first that signers do not
+/// meet. Each row of the last is so of its rules, signers and paths wherever they stand, as those of `KnownSigners`
+/// are. It is lent by `&`, and learns while it is asked.
 #[derive(Drop)]
-pub struct KnownPaths {
+pub struct Kept {
+    pub signed: KnownSigners,
     rows: Cell<Option<UnmetRows>>,
 }
 
-impl KnownPaths {
+impl Kept {
     /// Nothing is known. It takes no memory.
-    pub fn new() -> KnownPaths {
-        KnownPaths {
+    pub fn new() -> Kept {
+        Kept {
+            signed: KnownSigners::new(),
             rows: Cell::new(None),
         }
     }
@@ -52,22 +55,5 @@ impl KnownPaths {
         let first = rows.first_unmet(alloc, rules, signers, paths);
         self.rows.set(Some(rows));
         first
-    }
-}
-
-/// What is known, in one pass, of who signed, of texts and of paths.
-#[derive(Drop)]
-pub struct Kept {
-    pub signed: KnownSigners,
-    pub paths: KnownPaths,
-}
-
-impl Kept {
-    /// Nothing is known. It takes no memory.
-    pub fn new() -> Kept {
-        Kept {
-            signed: KnownSigners::new(),
-            paths: KnownPaths::new(),
-        }
     }
 }
