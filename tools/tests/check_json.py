@@ -2,7 +2,8 @@
 
 import json
 
-from checking import want
+from checking import Skip, want
+from git_gittuf import inspecting
 from guarded_clones import MAIN, another
 
 FILE, RULE = "docs/a page", "papers"
@@ -52,6 +53,31 @@ def says_whom_rules_ask(repositories):
     clones.gittuf("alice", "policy", "discard")
 
 
+def says_what_a_policy_changes(repositories):
+    """log says by -v and as JSON what a policy that came into force changes of the one before it, where gittuf-inspect is here"""
+    clones = with_edit(repositories, "changed")
+    clones.sign("alice")
+    clones.gittuf("alice", "policy", "apply")
+    clones.gittuf("alice", "policy", "rule", RULE, "file:docs/*", "--persons", "alice,bob", "--threshold", "2")
+    clones.sign("alice")
+    clones.gittuf("alice", "policy", "apply")
+    found = [it.get("changed") for it in objects(clones, "alice", "log") if it.get("ref") == "refs/gittuf/policy"]
+    lines = [it for it in clones.gittuf("alice", "log", "-v").decode().splitlines() if it.startswith(("  + ", "  - "))]
+    if not inspecting.place():
+        want((found, lines), ([None] * 4, []), "what is told without gittuf-inspect")
+        raise Skip("gittuf-inspect is not here")
+    nothing = {"added": [], "removed": []}
+    first, second, third = found[1:]
+    want(found[0], None, "what the first policy changes")
+    papers = "rule papers file:docs/* by bob open", "rule papers file:docs/* by alice bob open"
+    want((first["rules"], first["thresholds"]["added"]), ({"added": [papers[0]], "removed": []}, ["rule papers 1"]), "what the second adds")
+    want((second["keys"], second["persons"], second["thresholds"]["added"]), (nothing, nothing, ["rule tags 2"]), "what the third adds")
+    wanted = {"added": [papers[1]], "removed": [papers[0]]}, {"added": ["rule papers 2"], "removed": ["rule papers 1"]}
+    want((third["rules"], third["thresholds"]), wanted, "what the fourth changes")
+    told = [f"  - {papers[0]}", f"  + {papers[1]}", "  - threshold of rule papers 1", "  + threshold of rule papers 2"]
+    want(lines[-4:], told, "what log -v says of that")
+
+
 def says_what_is_edited(repositories):
     """policy show and doctor say as JSON what their lines say: the policy in force and the edited one, who signed that, and what is odd"""
     clones = with_edit(repositories, "shown as JSON")
@@ -71,4 +97,4 @@ def says_what_is_edited(repositories):
     want([f"{it['what']}: {it['mends']}" for it in odd], lines, "what is odd of alice")
 
 
-CHECKS = (says_whom_rules_ask, says_what_is_edited)
+CHECKS = (says_whom_rules_ask, says_what_a_policy_changes, says_what_is_edited)

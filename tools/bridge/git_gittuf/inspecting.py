@@ -199,3 +199,14 @@ def log(work, entries):
         return {it["id"].encode(): it for it in rows} if is_known else None
     except (LookupError, TypeError, AttributeError):
         return None
+
+
+def change_in(told):
+    """What a policy changes of the one before it, where it is told as that; else nothing."""
+    parts, ways = ("keys", "persons", "rules", "thresholds"), ("added", "removed")
+    try:
+        found = {part: {way: told[part][way] for way in ways} for part in parts}
+        is_told = all(isinstance(texts, list) and all(isinstance(it, str) for it in texts) for it in found.values() for texts in it.values())
+        return found if is_told else None
+    except (LookupError, TypeError):
+        return None

@@ -77,15 +77,29 @@ class Listing:
         return found
 
 
+def changes(work, found):
+    """What each policy that came into force changes of the one before it, by its entry, as far as gittuf-inspect tells it."""
+    told = inspecting.log(work, found.entries) if len(found.epochs) > 1 and inspecting.place() else None
+    rows = {it["number"]: it.get("changed") for it in (told or {}).values()}
+    return {number: inspecting.change_in(it) for number, it in rows.items() if it is not None and inspecting.change_in(it)}
+
+
+def change_in_words(told):
+    """The lines on what a policy changes of the one before it."""
+    for part, what in (("keys", "key "), ("persons", "person "), ("rules", ""), ("thresholds", "threshold of ")):
+        for way, sign in (("removed", "-"), ("added", "+")):
+            yield from (f"  {sign} {what}{plain(it)}" for it in told[part][way])
+
+
 def in_words(told, line, people):
-    """The program's line, and below it who signed and approved it, when, what skips it, and what is said."""
+    """The program's line, and below it who signed and approved it, when, what skips it, what is said, and what a policy changes."""
     approved = f", approved by {', '.join(map(plain, told['approved']))}" if told.get("approved") else ""
     skipped = f", and entry {told['skipped']} says skip" if told.get("skipped") else ""
     lines = [line, f"  by {people.shown(told['key'])}{approved}, {told['time'] or 'at no time'}{skipped}"]
     if "entries" in told:
         what = ", ".join(f"entry {it}" if isinstance(it, int) else str(it)[:12] for it in told["entries"])
         lines.append(f"  of {what}{': ' + plain(told['message']) if told['message'] else ''}")
-    return lines
+    return lines + list(change_in_words(told["changed"])) if "changed" in told else lines
 
 
 def log(work, words):
@@ -98,11 +112,13 @@ def log(work, words):
     from git_gittuf import accounts
 
     found, lines = Listing(work, printed), printed.decode(errors="surrogateescape").splitlines()
-    account = accounts.Accounts(work, found)
+    account, changed = accounts.Accounts(work, found), changes(work, found)
     for entry, line in zip(found.entries, lines):
         told = found.of(entry)
         if told["kind"] == "ref":
             told.update(approved=account.approvals.get(entry[0], []), skipped=account.skipped_by(entry))
+        if entry[0] in changed:
+            told["changed"] = changed[entry[0]]
         if words.json:
             print(json.dumps(told, sort_keys=True))
         else:

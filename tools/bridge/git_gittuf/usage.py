@@ -68,7 +68,8 @@ Every day
       [--anyway]
   note ENTRY .. [-m TEXT]       sign a note on entries
   log [-v | --json]             print the log, a line for each entry; -v and --json say who signed it and who approved the
-                                change, when, what it says, and which entry skips it
+                                change, when, what it says, which entry skips it, and what a policy changes of the one
+                                before it
   report [-o FILE]              write a page of HTML for an auditor: the verdicts, the log with who signed it, the policy,
       [--root ..] [--pinned]    and what this rests on
       [--entry ..] [--remote R]
