@@ -55,6 +55,27 @@ class Log:
         return self
 
 
+class Keeping:
+    """A key that keeps the last signature that it made."""
+
+    def __init__(self, key):
+        self.key, self.id, self.last = key, key.id, None
+
+    def sign(self, leaf, message):
+        self.last = self.key.sign(leaf, message)
+        return self.last
+
+
+class Borrowed:
+    """Whoever signs with the last signature that a key made."""
+
+    def __init__(self, keeping):
+        self.keeping, self.id = keeping, keeping.id
+
+    def sign(self, _leaf, _message):
+        return self.keeping.last
+
+
 def add(number):
     return b"add\n", b"done %d\n" % number
 
@@ -113,6 +134,16 @@ def unsigned():
     yield log.record(log.history.commit(BEFORE)), denied(2, b"violation refs/heads/main 2 ref-rule main 0 of 1")
     log.drop()
     yield log.record(log.history.commit(AFTER), None, SIDE), done(2), verdict(b"accepted refs/heads/side 1 entries", SIDE)
+
+
+def borrowed():
+    """The signature of the entry before, which was just found good, is none of another entry that names its key."""
+    log, key = Log(), Keeping(MAINTAINER)
+    yield begun(log)
+    yield log.record(log.history.commit(BEFORE), key), done(2)
+    target = log.history.commit(AFTER)
+    yield log.record(target, Borrowed(key)), denied(3, b"violation refs/heads/main 3 ref-rule main 0 of 1"), tip(2)
+    yield log.drop().record(target, key), done(3), verdict(b"accepted refs/heads/main 2 entries")
 
 
 def fixed():
@@ -247,7 +278,7 @@ def failing():
     yield loaded(2), accepted
 
 
-ROWS = (refused, unsigned, fixed, not_fixed, annotated, policies, approved, moved, repaired, failing)
+ROWS = (refused, unsigned, borrowed, fixed, not_fixed, annotated, policies, approved, moved, repaired, failing)
 
 
 def files():
