@@ -19,7 +19,6 @@ ghost use Rattle.entry_rules.specs.Signing.{tree_in};
 
 use crate::Fault;
 use crate::finding::{compared, find};
-use crate::known_paths::Kept;
 use crate::meeting::may_act;
 use crate::signing::signer_among;
 use git_object::{KeyId, ObjectId, RefName};
@@ -38,7 +37,7 @@ use tree_paths::{Comparison, KnownTrees};
 #[derive(Drop)]
 pub struct EntryRules {
     anchor: Option<KeyIds>,
-    kept: Kept,
+    signed: KnownSigners,
 }
 
 impl EntryRules {
@@ -48,7 +47,7 @@ impl EntryRules {
     {
         EntryRules {
             anchor,
-            kept: Kept::new(),
+            signed: KnownSigners::new(),
         }
     }
 }
@@ -122,7 +121,7 @@ fn epoch<R: Keeper>(
         + policy_reads r (target_of entry.now.body) }
 {
     let target = target_of(entry);
-    let known = &rules.kept.signed;
+    let known = &rules.signed;
     let found = check_policy(alloc, keeper, known, &target)?;
     Ok(epoch_by(alloc, known, &rules.anchor, current, found)?)
 }
@@ -205,7 +204,7 @@ impl<'a, R: Keeper> Judge<Policy, Fault, R> for KnowingRules<'a> {
             alloc,
             store,
             self.known,
-            &self.rules.kept,
+            &self.rules.signed,
             policy,
             entry,
             from,
