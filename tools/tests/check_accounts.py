@@ -160,8 +160,9 @@ def people_history():
 
 
 def tells_changes(repositories):
-    """gittuf-inspect log tells what a policy changes of the one before it, and of no other entry that something changed"""
-    status, found = told(folder_of(repositories, "changed policies", people_history().repository), word="log")
+    """gittuf-inspect log tells what a policy changes of the one before it, and policy --against what one would change"""
+    place = folder_of(repositories, "changed policies", people_history().repository)
+    status, found = told(place, word="log")
     changed = {
         "keys": {"added": [NEWCOMER.id, REVIEWER.id], "removed": [KEEPER.id]},
         "persons": {"added": [f"bob {NEWCOMER.id}", f"eve {REVIEWER.id}"], "removed": [f"bob {KEEPER.id}"]},
@@ -176,6 +177,11 @@ def tells_changes(repositories):
         "thresholds": {"added": ["rule docs 1", "rule main 2"], "removed": ["rule main 1"]},
     }
     want((status, [it.get("changed", ZEROS) for it in found]), (0, [ZEROS, changed, ZEROS]), "what changed, where the field stands")
+    back = {part: {"added": it["removed"], "removed": it["added"]} for part, it in changed.items()}
+    policies = [it["target"] for it in found[:2]]
+    would = [told(place, "--against", it, word="policy")[1][0]["changed"] for it in policies]
+    want(would, [back, {part: {"added": [], "removed": []} for part in changed}], "what the policies would change")
+    want(told(place, "--against", found[2]["target"], word="policy")[1][0].get("changed", ZEROS), ZEROS, "what no policy would")
 
 
 def mend_of(log, name, history, ids):

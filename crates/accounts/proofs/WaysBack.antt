@@ -20,7 +20,7 @@ use Rattle.mends.specs.Walking.{IsWalked}
 use Rattle.mends.proofs.Walks.{less_next, step}
 use Rattle.account_lines.specs.declared.rows.EntryRow.{EntryRow}
 use Rattle.accounts.specs.Judging.{StandsFor}
-use Rattle.accounts.specs.Rows.{from_of, prior_of, row_of}
+use Rattle.accounts.specs.Rows.{from_of, prior_of}
 use Rattle.accounts.specs.declared.judged_log.JudgedLog.{JudgedLog}
 use Rattle.accounts.proofs.Rowed.{row_there}
 

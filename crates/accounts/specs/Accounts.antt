@@ -14,6 +14,7 @@ use Rattle.judging.specs.declared.verdicts.Verdict.{Verdict}
 use Rattle.judging.specs.declared.verdicts.Verdict.TheVariants.{Accepted, TipDiffers, Violation}
 use Rattle.mends.specs.Mends.{mend_of}
 use Rattle.policy_epochs.specs.declared.policies.Policy.{Policy}
+use Rattle.policy_changes.specs.declared.changes.PolicyChange.{PolicyChange}
 use Rattle.entry_rules.specs.RealRules.{real_rules}
 use Rattle.entry_rules.specs.declared.faults.Fault.{Fault}
 use Rattle.verify_ref.specs.Logs.{AreEntries}
@@ -28,6 +29,7 @@ use Rattle.account_lines.specs.Lines.{entry_line, unrecorded_line, verdict_line,
 use Rattle.account_lines.specs.declared.rows.EntryRow.{EntryRow}
 use Rattle.account_lines.specs.declared.rows.Later.{Later}
 use Rattle.accounts.specs.Rows.{epoch_of, row_of}
+use Rattle.accounts.specs.Steps.{would_change}
 use Rattle.accounts.specs.Unrecorded.{is_unrecorded}
 
 -- what later entries of a log make of the entry of a number
@@ -96,9 +98,9 @@ would_entry number p = record {
   signed = [];
 }
 
--- what is known of it behind these entries, by what would be found of it
-abbrev pub would_row : Option (List (List ℕ)) → List Taken → Proposed → Would → EntryRow
-would_row anchor log p found = record {
+-- what is known of it behind these entries, by what would be found of it and what its policy would change
+abbrev pub would_row : Option (List (List ℕ)) → List Taken → Proposed → Would → Option PolicyChange → EntryRow
+would_row anchor log p found change = record {
   id = zeros;
   epoch = epoch_of (real_rules anchor) log;
   prior = prior (real_rules anchor) log p.name;
@@ -107,7 +109,7 @@ would_row anchor log p found = record {
   signers = found.signers;
   persons = persons_of (policy_after (real_rules anchor) log) found.signers;
   verdict = answer_of (first_of found.faults);
-  changed = None;
+  changed = change;
 }
 
 abbrev pub no_later : Later
@@ -122,4 +124,5 @@ pub record IsToldWould (anchor : Option (List (List ℕ))) (r : Repository) (p :
   pub entries : AreEntries r ids log
   pub next : number ≡ length log + 1
   pub is : IsWould anchor r (policy_after (real_rules anchor) log) (stood_at anchor log p.name) p found
-  pub told : line ≡ entry_line (would_entry number p) (would_row anchor log p found) no_later
+  pub told : line ≡ entry_line (would_entry number p) (would_row anchor log p found
+      (would_change (policy_after (real_rules anchor) log) r p)) no_later

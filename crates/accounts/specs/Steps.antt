@@ -1,9 +1,10 @@
 -- What is answered of one entry.
 use Rattle.std.specs.Prelude.{◌&&◌, ◌||◌, ℕ, Bool, true, false, List, Option, Some, None}
-use Rattle.std.specs.Prelude.{is_none, is_some, if◌then◌else◌}
+use Rattle.std.specs.Prelude.{is_none, is_some, Result, Ok, Err, if◌then◌else◌}
 use Rattle.std.specs.List.{list_any}
 use Rattle.std.specs.Str.{bytes_eq}
 use Rattle.git_object.specs.References.{attestations_name, policy_name}
+use Rattle.git_object.specs.Repository.{Repository}
 use Rattle.rsl_chain.specs.Entries.{is_of, target_of}
 use Rattle.rsl_chain.specs.declared.entries.Entry.{Entry}
 use Rattle.rsl_chain.specs.declared.entries.EntryBody.{EntryBody}
@@ -14,8 +15,11 @@ use Rattle.policy_changes.specs.Changes.{change_said}
 use Rattle.policy_changes.specs.Words.{says_of}
 use Rattle.policy_changes.specs.declared.changes.PolicyChange.{PolicyChange}
 use Rattle.policy_changes.specs.declared.says.PolicySays.{PolicySays}
+use Rattle.policy_epochs.specs.declared.faults.PolicyFault.{PolicyFault}
 use Rattle.policy_epochs.specs.declared.policies.Policy.{Policy}
+use Rattle.policy_reading.specs.Policies.{policy_of}
 use Rattle.entry_rules.specs.declared.faults.Fault.{Fault}
+use Rattle.would_be.specs.declared.proposals.Proposed.{Proposed}
 use Rattle.accounts.specs.Rows.{signer_in}
 
 abbrev pub is_authorised : EntryVerdict Fault → Bool
@@ -58,3 +62,13 @@ changed_then false said now = None
 changed_then true None now = None
 changed_then true (Some said) None = None
 changed_then true (Some said) (Some policy) = Some (change_said said (says_of policy))
+
+-- what a policy that was found changes of the one in force, where both are
+abbrev pub change_by : Option Policy → Result Policy PolicyFault → Option PolicyChange
+change_by None found = None
+change_by (Some policy) (Err why) = None
+change_by (Some policy) (Ok now) = Some (change_said (says_of policy) (says_of now))
+
+-- what an entry of the policy's reference would, whether or not it brought its policy into force
+abbrev pub would_change : Option Policy → Repository → Proposed → Option PolicyChange
+would_change policy r p = if bytes_eq p.name policy_name then change_by policy (policy_of r p.target) else None

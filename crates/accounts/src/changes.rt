@@ -6,14 +6,22 @@ ghost use Rattle.rsl_chain.specs.Entries.{is_of};
 ghost use Rattle.git_object.specs.References.{policy_name};
 ghost use Rattle.policy_changes.specs.Changes.{change_said};
 ghost use Rattle.policy_changes.specs.Words.{says_of};
-ghost use Rattle.accounts.specs.Steps.{changed_then, said_before};
+ghost use Rattle.octets.specs.Causes.{HasCause};
+ghost use Rattle.git_object.specs.Repository.{Repository};
+ghost use Rattle.keeper_api.specs.Faults.{keeper_failed};
+ghost use Rattle.keeper_api.specs.Undisturbed.{Undisturbed};
+ghost use Rattle.accounts.specs.Steps.{change_by, changed_then, said_before, would_change};
 
 use crate::rows::is_policys;
+use keeper_api::{Keeper, KeeperFault};
+use known_signers::KnownSigners;
 use octets::Memory;
 use policy_changes::{PolicyChange, PolicySays, change_said, says_of};
-use policy_epochs::Policy;
+use policy_epochs::{Policy, PolicyFault};
+use policy_reading::check_policy;
 use rsl_chain::Entry;
 use std::alloc::Global;
+use would_be::Proposed;
 
 // What a policy says, where it is asked for.
 fn said_where(alloc: Global, policy: &Policy, own: bool) -> Result<Option<PolicySays>, Memory>
@@ -80,4 +88,44 @@ pub(crate) fn changed_then(
     } else {
         Ok(None)
     }
+}
+
+// What a policy that was found changes of the one in force.
+fn change_by(
+    alloc: Global,
+    policy: &Policy,
+    found: &Result<Policy, PolicyFault>,
+) -> Result<Option<PolicyChange>, Memory>
+    ensures { IfOk result (λ changed. changed ≡ change_by (Some policy.now) found.now) }
+{
+    match found {
+        Ok(now) => {
+            let said = says_of(alloc, policy)?;
+            Ok(Some(change_to(alloc, &said, now)?))
+        }
+        Err(_) => Ok(None),
+    }
+}
+
+/// What a proposed entry of the policy's reference would change of the policy in force, whether or not it brought its
+/// own into force: None for another reference, and where one of the two policies is none.
+pub(crate) fn would_change<R: Keeper>(
+    alloc: Global,
+    keeper: &mut R,
+    policy: Option<&Policy>,
+    proposed: &Proposed,
+) -> Result<Option<PolicyChange>, KeeperFault>
+    ensures changed { IfOk result (λ changed. (r : Repository) → R.content keeper.new ≡ Some r
+        → changed ≡ would_change (option_copied policy.entry) r proposed.now) }
+    ensures same { Undisturbed R.Keeper keeper.old keeper.new }
+    ensures cause { HasCause keeper_failed (R.faults keeper.old) (R.faults keeper.new) result }
+{
+    let Some(policy) = policy else {
+        return Ok(None);
+    };
+    if !proposed.name.is_policy() {
+        return Ok(None);
+    }
+    let found = check_policy(alloc, keeper, &KnownSigners::new(), &proposed.target)?;
+    Ok(change_by(alloc, policy, &found)?)
 }

@@ -15,12 +15,14 @@ ghost use Rattle.accounts.specs.Accounts.{IsToldWould, no_later, would_entry, wo
 ghost use Rattle.accounts.specs.Judging.{IsJudgedLog, StandsFor};
 
 use crate::JudgedLog;
+use crate::changes::would_change;
 use account_lines::{EntryRow, Later, entry_line, verdict_line};
 use entry_rules::Fault;
 use git_object::{ObjectId, RefName};
 use judging::{EntryVerdict, Verdict};
 use keeper_api::{Keeper, KeeperFault};
 use octets::{Copied, Items, Memory, Octets};
+use policy_changes::PolicyChange;
 use root_metadata::KeyIds;
 use rsl_chain::{Entry, EntryBody};
 use signing_persons::persons_of;
@@ -65,17 +67,19 @@ fn answer_of(faults: &Items<Fault>) -> Result<EntryVerdict<Fault>, Memory>
     }
 }
 
-// The line of an entry of a number, by where its reference stands and what would be found of it.
+// The line of an entry of a number, by where its reference stands, what would be found of it and what its policy would
+// change.
 fn would_line(
     alloc: Global,
     judged: &JudgedLog,
     number: u64,
     proposed: &Proposed,
     found: &Would,
+    changed: Option<PolicyChange>,
 ) -> Result<Octets, Memory>
     ensures { IfOk result (λ line. (log : List Taken) → StandsFor log judged.now
         → line ≡ entry_line (would_entry number proposed.now)
-        (would_row judged.now.engine.rules.anchor log proposed.now found.now) no_later) }
+        (would_row judged.now.engine.rules.anchor log proposed.now found.now changed) no_later) }
 {
     let entry = would_entry(alloc, number, proposed)?;
     let row = EntryRow {
@@ -87,7 +91,7 @@ fn would_line(
         signers: found.signers.copy()?,
         persons: persons_of(alloc, judged.engine.policy(), found.signers.as_slice())?,
         verdict: answer_of(&found.faults)?,
-        changed: None,
+        changed,
     };
     let later = Later {
         skipper: None,
@@ -130,8 +134,12 @@ pub fn tell_would<R: Keeper>(
         Ok(found) => found,
         Err(fault) => return Err(fault),
     };
+    let changed = match would_change(alloc, keeper, policy, proposed) {
+        Ok(changed) => changed,
+        Err(fault) => return Err(fault),
+    };
     let number = judged.rows.as_slice().len() as u64 + 1;
-    match would_line(alloc, judged, number, proposed, &found) {
+    match would_line(alloc, judged, number, proposed, &found, changed) {
         Ok(line) => Ok(ToldWould {
             number,
             found,

@@ -1,5 +1,4 @@
 use Rattle.std.proofs.Common.{◌∙◌, Some, ap}
-use Rattle.rsl_chain.specs.Entries.{Taken}
 use Rattle.rsl_chain.specs.declared.entries.Entry.{Entry}
 use Rattle.accounts.specs.Skips.{skip_told, skips_told}
 use Rattle.accounts.proofs.Skipping.{found_some, no_break_at}

@@ -1,4 +1,4 @@
-use Rattle.std.proofs.Common.{◌∙◌, Option, None, ap, false, refl, subst, sym}
+use Rattle.std.proofs.Common.{◌∙◌, Option, ap, false, refl, subst, sym}
 use Rattle.std.proofs.lemmas.Result.{IfOk-weaker}
 use Rattle.judging.specs.Engines.{Stands}
 use Rattle.judging.specs.declared.engine.Engine.{Engine}
@@ -27,9 +27,9 @@ returns c =
       signers = c.in_ok-copy.field-0;
       persons = c.in_ok-persons_of.field-0;
       verdict = c.in_ok-answer_of.field-0;
-      changed = None;
+      changed = c.args.changed;
     } in
     let is = row_is c.args.judged.now log stands c.args.proposed.now c.args.found.now row c.zeros.ensures refl (c.prior.ensures rules log follows) (c.prior_target.ensures log stands.follows) refl
     c.in_ok-copy.ensures.same (c.in_ok-persons_of.ensures ∙ ap (persons_of (option_copied c.policy.result)) c.as_slice.ensures
-    ∙ ap (λ (p : Option Policy). persons_of p c.args.found.now.signers) (c.policy.ensures log stands.follows)) c.in_ok-answer_of.ensures refl in
+    ∙ ap (λ (p : Option Policy). persons_of p c.args.found.now.signers) (c.policy.ensures log stands.follows)) c.in_ok-answer_of.ensures in
     made ∙ (λ i. entry_line (c.in_ok-entry.ensures i) (is i) no_later)) c.entry_line.ensures
