@@ -161,7 +161,8 @@ def tells_would(repositories):
     would(before, SECOND, ALICE, name=NONE, signers=[ALICE], **nothing)
     would(before, NOBODY, ALICE, faults=[{"id": NOBODY, "kind": "broken"}], signers=[])
     policy = {"name": POLICY, "signers": [], "from": POLICY_AT, "prior": 1}
-    would(before, POLICY_AT, NOBODY, **policy)
+    same = {it: {"added": [], "removed": []} for it in ("keys", "persons", "rules", "thresholds")}
+    would(before, POLICY_AT, NOBODY, changed=same, **policy)
     would(before, ZEROS, ALICE, faults=[{"kind": "not-epoch", "why": "unreadable"}], **policy)
     empty = kept(repositories, "inspected empty")
     os.remove(os.path.join(empty, *LOG.split("/")))
