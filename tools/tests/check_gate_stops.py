@@ -5,6 +5,7 @@ import os
 import shlex
 import signal
 import subprocess
+import sys
 import time
 
 from checking import at_terminal, in_this_run, run, want
@@ -132,6 +133,14 @@ def refuses_what_takes_long(repositories):
     want(b"gittuf.mostSeconds is 'soon', and no number" in errors, True, f"whether an odd limit is told: {errors}")
     clones.gittuf("server.git", "hook", "install", "--server", "--most-seconds", "900")
     clones.git("push", *words, who="alice")
+    clones.gittuf("server.git", "hook", "--remove")
+    # What a hook of others spends, which is called first, is no judging.
+    path = os.path.join(clones.path("server.git"), "hooks", "pre-receive")
+    with open(path, "w", encoding="utf-8") as file:
+        file.write(f"#!/bin/sh\nexec {shlex.quote(sys.executable)} -c 'import time\nwhile time.process_time() < 4: pass'\n")
+    os.chmod(path, 0o755)
+    clones.gittuf("server.git", "hook", "install", "--server", "--most-seconds", "3")
+    clones.git("push", "--quiet", "origin", "HEAD:refs/heads/idea", who="alice")
     clones.gittuf("server.git", "hook", "--remove")
     want(run("git", "-C", clones.path("server.git"), "config", "gittuf.mostSeconds")[0], 1, "whether the limit is gone with the hook")
 

@@ -14,13 +14,13 @@ SECONDS = re.compile("[1-9][0-9]{0,5}")
 
 
 class Budget:
-    """What may be spent, in seconds, or without end; what was spent before it began counts too."""
+    """What may be spent, in seconds, or without end. A hook of others that was called first has spent its own."""
 
-    most = None
+    most, before = None, 0
 
     def used(self):
         spent = (resource.getrusage(it) for it in (resource.RUSAGE_SELF, resource.RUSAGE_CHILDREN))
-        return sum(it.ru_utime + it.ru_stime for it in spent)
+        return sum(it.ru_utime + it.ru_stime for it in spent) - self.before
 
     def begin(self, repository):
         found = repository.config(SETTING)
@@ -28,7 +28,7 @@ class Budget:
             # Whoever meant to set a limit is not to go on without.
             said = f"{SETTING} is {plain(found[-1])!r}, and no number of seconds from 1 to 999999"
             raise Stopped(f"{said}: git gittuf hook install --server --most-seconds N sets it", 2)
-        self.most = int(found[-1]) if found else None
+        self.most, self.before = int(found[-1]) if found else None, self.used()
 
     def hold(self, process):
         """Lets a program that was begun just now spend no more than what is left."""
@@ -40,7 +40,7 @@ class Budget:
 
     def expect_left(self, status):
         """Ends where a program was ended by its limit, or more is spent than may be."""
-        if self.most is not None and (status in (-signal.SIGXCPU, -signal.SIGKILL) or self.used() > self.most):
+        if self.most is not None and (status == -signal.SIGXCPU or self.used() > self.most):
             said = f"judging takes more than {self.most} seconds of the processor, all that {SETTING} gives a push here"
             raise Stopped(f"{said}; whether it is lawful was not found, and nothing of this push is taken", 1)
 
