@@ -15,8 +15,8 @@ from guarded_clones import MAIN
 
 # So many pushes are killed in the shorter run, and in the longer one.
 STOPS, MORE = 4, 12
-# So many entries take the program more than a second to judge.
-ENTRIES = 8_000
+# So many entries take seconds to judge, also where a machine is quick.
+ENTRIES = 24_000
 # The server's side goes on where who pushes is killed, as on another machine: it is of no group of his, and each process of
 # it has the pipe open.
 OTHER_MACHINE = """#!/bin/sh
