@@ -51,6 +51,20 @@ impl Object {
         Ok(Object { stored })
     }
 
+    /// An object of this kind and body under the id that they have, which is not computed again.
+    pub fn identified(
+        alloc: Global,
+        id: ObjectId,
+        kind: Kind,
+        body: Octets,
+    ) -> Result<Object, Memory>
+        requires { id ≡ object_id kind body }
+        ensures { IfOk result (λ o. o ≡ record { kind = kind; body = body }) }
+    {
+        let stored = Arc::new(alloc, Stored { id, kind, body })?;
+        Ok(Object { stored })
+    }
+
     /// The object's own id, which is not computed again.
     pub fn id(&self) -> ObjectId
         ensures { result ≡ object_id self.now.kind self.now.body }
