@@ -70,13 +70,23 @@ class Fuzz:
     def people(self):
         return {"a": self.keys[:1], "b": self.keys[1:]}
 
+    def ended(self, words, given):
+        """Runs the program within its limits."""
+        with subprocess.Popen(
+            (PROGRAM, *words), cwd=self.folder, stdin=subprocess.PIPE, stdout=subprocess.PIPE, stderr=subprocess.PIPE
+        ) as program:
+            limit(program.pid)
+            try:
+                output, errors = program.communicate(given, CLOCK_SECONDS)
+            except subprocess.TimeoutExpired:
+                program.kill()
+                raise Found(words, given, f"it did not end in {CLOCK_SECONDS} s") from None
+        return subprocess.CompletedProcess(words, program.returncode, output, errors)
+
     def held(self, words, given=b"", statuses=(0, 1, 2, 3, 4, 5, 6), verdict=False):
         """Runs the program, and holds how it ended to the table."""
         start = time.monotonic()
-        try:
-            ran = subprocess.run((PROGRAM, *words), input=given, cwd=self.folder, capture_output=True, timeout=CLOCK_SECONDS, preexec_fn=limited, check=False)
-        except subprocess.TimeoutExpired:
-            raise Found(words, given, f"it did not end in {CLOCK_SECONDS} s") from None
+        ran = self.ended(words, given)
         said = f"it ended with {ran.returncode} after {time.monotonic() - start:.1f} s, and said {ran.stderr[-300:]!r}"
         if ran.returncode not in statuses or not LINES[ran.returncode].fullmatch(ran.stderr):
             raise Found(words, given, said)
@@ -210,7 +220,8 @@ class Found(Failure):
         self.given = given
 
 
-def limited():
-    resource.setrlimit(resource.RLIMIT_AS, (MEMORY, MEMORY))
-    resource.setrlimit(resource.RLIMIT_CPU, (SECONDS, SECONDS))
-    resource.setrlimit(resource.RLIMIT_CORE, (0, 0))
+def limit(process):
+    """Limits a program that has just begun. A function before its first step would have the whole of Python copied for it."""
+    limits = ((resource.RLIMIT_AS, MEMORY), (resource.RLIMIT_CPU, SECONDS), (resource.RLIMIT_CORE, 0))
+    for which, most in limits:
+        resource.prlimit(process, which, (most, most))
