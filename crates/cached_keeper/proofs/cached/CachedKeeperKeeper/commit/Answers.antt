@@ -1,0 +1,10 @@
+use Rattle.std.proofs.Common.{ap, sym, ◌∙◌}
+use Rattle.cached_keeper.proofs.cached.CachedKeeperKeeper.commit.Goals as goal
+
+pub invariant_of-self : goal.invariant_of-self
+invariant_of-self g c = λ r told id pair is. absurd (c.new.ensures id pair is)
+
+pub returns-clause-content : goal.returns-clause-content
+returns-clause-content g c = λ now told.
+    let made = c.commit.ensures.content now told in
+    (made.0, sym (ap (λ v. g.R.Keeper.content v.0) c.self.view_is) ∙ made.1, made.2)

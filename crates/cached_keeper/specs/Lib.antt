@@ -1,0 +1,2 @@
+-- what is cached, and that it stands in a repository
+pub mod Caching
