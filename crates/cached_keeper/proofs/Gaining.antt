@@ -13,7 +13,7 @@ use Rattle.octets.specs.BytesMap.{by_bytes}
 use Rattle.octets.specs.Content.{Stays}
 use Rattle.git_object.specs.Objects.{Pair}
 use Rattle.git_object.specs.Repository.{Repository}
-use Rattle.cached_keeper.specs.Caching.{GainsOnly, IsCached, IsNoMore, StandsIn}
+use Rattle.cached_keeper.specs.Caching.{GainsOnly, IsCache, IsCached, IsEmpty, IsNoMore, IsWithin, StandsIn}
 use Rattle.cached_keeper.specs.declared.cached_objects.CachedObjects.{CachedObjects}
 
 module _ (was now : tree.BTreeMap (List ℕ) Pair) (its_id : List ℕ) (its : Pair) where
@@ -60,3 +60,11 @@ module _ (before after : CachedObjects) (its_id : List ℕ) (its : Pair) where
 -- with no gain, and the same held
 pub stands_on : (before after : CachedObjects) (was now : Option Repository) → StandsIn before was → Stays was now → IsNoMore before after → StandsIn after now
 stands_on before after was now stands stays less r told id pair there = stands r (stays r told) id pair (less id pair there)
+
+-- a cache before a store that holds the same
+pub cache_on : (cached : CachedObjects) (was now : Option Repository) → IsCache cached was → Stays was now → IsCache cached now
+cache_on cached was now is stays = record { stands = λ r told. is.stands r (stays r told); within = is.within }
+
+-- one that is empty may stand before any store
+pub cache_empty : (cached : CachedObjects) (now : Option Repository) → IsEmpty cached → IsWithin cached → IsCache cached now
+cache_empty cached now empty within = record { stands = λ r told id pair is. absurd (empty id pair is); within = within }

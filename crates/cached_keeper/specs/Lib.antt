@@ -1,2 +1,2 @@
--- what is cached, and that it stands in a repository
+-- what is cached, that it stands in a repository, and how much it is
 pub mod Caching

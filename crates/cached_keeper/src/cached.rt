@@ -21,13 +21,13 @@ pub struct CachedKeeper<R: Keeper> {
 
 impl<R: Keeper> Model for CachedKeeper<R> {
     ghost use Rattle.std.specs.Prelude.{ℕ};
-    ghost use Rattle.cached_keeper.specs.Caching.{StandsIn};
+    ghost use Rattle.cached_keeper.specs.Caching.{IsCache};
 
     ghost Value = { R × ℕ };
 
     ghost view = { λ k. (k.inner, k.answered) };
 
-    ghost invariant = { λ k. StandsIn k.cached (R.content k.inner) };
+    ghost invariant = { λ k. IsCache k.cached (R.content k.inner) };
 }
 
 impl<R: Keeper> CachedKeeper<R> {

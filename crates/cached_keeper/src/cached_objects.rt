@@ -1,10 +1,11 @@
 //! Objects that are kept in memory under the ids that they were asked for, in two generations.
 
-ghost use Rattle.std.specs.Prelude.{◌≡◌, ℕ, List, Some, if◌then◌else◌, IfSome, OnErr, OnOk};
+ghost use Rattle.std.specs.Prelude.{◌≡◌, ◌+◌, ◌≤◌, ◌^◌, ℕ, List, Some, length, if◌then◌else◌, IfSome, OnErr, OnOk};
 ghost use Rattle.std.specs.BTreeMap as tree;
 ghost use Rattle.std.specs.Ordering.{is_eq};
 ghost use Rattle.octets.specs.BytesMap.{by_bytes};
-ghost use Rattle.cached_keeper.specs.Caching.{GainsOnly, IsCached, IsEmpty, IsNoMore};
+ghost use Rattle.cached_keeper.specs.Caching.{GainsOnly, HasRoom, IsCached, IsEmpty, IsNoMore, IsWithin};
+ghost use Rattle.cached_keeper.specs.Caching.{bytes_of};
 
 use git_object::{Object, ObjectId};
 use octets::{Copied, Memory};
@@ -30,7 +31,10 @@ pub(crate) struct CachedObjects {
     weight: u64,
 }
 
-fn weight_of(object: &Object) -> u64 {
+fn weight_of(object: &Object) -> u64
+    ensures least { length object.now.body ≤ result }
+    ensures most { length object.now.body ≤ 2 ^ 20 → result ≤ 2 ^ 25 }
+{
     (object.body().len() as u64).saturating_add(BESIDE_BODY)
 }
 
@@ -50,6 +54,7 @@ fn put_object(
     ensures put { OnOk result ((q : List ℕ) → tree.get by_bytes objects.new q
         ≡ (if is_eq (by_bytes id.now q) then Some object else tree.get by_bytes objects.old q)) }
     ensures same { OnErr result (objects.new.entries ≡ objects.old.entries) }
+    ensures bytes { bytes_of objects.new ≤ bytes_of objects.old + length object.body }
 {
     let _had = objects.insert(*id, object)?;
     Ok(())
@@ -58,7 +63,8 @@ fn put_object(
 impl CachedObjects {
     /// No object. It takes no memory.
     pub(crate) fn new(alloc: Global) -> CachedObjects
-        ensures { IsEmpty result }
+        ensures empty { IsEmpty result }
+        ensures within { IsWithin result }
     {
         CachedObjects {
             recent: BTreeMap::new(alloc),
@@ -69,18 +75,23 @@ impl CachedObjects {
 
     // Makes room for an object of this weight in the recent generation.
     fn make_room(&mut self, alloc: Global, weight: u64)
-        ensures { IsNoMore self.old self.new }
+        ensures same { IsNoMore self.old self.new }
+        ensures room { weight ≤ 2 ^ 25 → IsWithin self.old → HasRoom self.new weight }
     {
-        if self.weight.saturating_add(weight) > HEAVIEST_GENERATION {
-            self.earlier = mem::replace(&mut self.recent, BTreeMap::new(alloc));
-            self.weight = 0;
+        let heavier = self.weight.saturating_add(weight);
+        if heavier <= HEAVIEST_GENERATION {
+            self.weight = heavier;
+            return;
         }
-        self.weight = self.weight.saturating_add(weight);
+        self.earlier = mem::replace(&mut self.recent, BTreeMap::new(alloc));
+        self.weight = weight;
     }
 
     // Keeps an object in the recent generation, unless memory is wanting.
     fn put(&mut self, alloc: Global, id: &ObjectId, object: Object)
-        ensures { GainsOnly self.old self.new id.now object }
+        requires { length object.body ≤ 2 ^ 20 }
+        ensures gains { GainsOnly self.old self.new id.now object }
+        ensures within { IsWithin self.old → IsWithin self.new }
     {
         self.make_room(alloc, weight_of(&object));
         let _kept = put_object(&mut self.recent, id, object);
@@ -88,7 +99,8 @@ impl CachedObjects {
 
     /// Keeps an object under an id, unless it is long or memory is wanting.
     pub(crate) fn keep(&mut self, alloc: Global, id: &ObjectId, object: &Object)
-        ensures { GainsOnly self.old self.new id.now object.now }
+        ensures gains { GainsOnly self.old self.new id.now object.now }
+        ensures within { IsWithin self.old → IsWithin self.new }
     {
         if object.body().len() as u64 > LONGEST_BODY {
             return;
@@ -103,6 +115,7 @@ impl CachedObjects {
     pub(crate) fn find(&mut self, alloc: Global, id: &ObjectId) -> Option<Object>
         ensures found { IfSome result (IsCached self.old id.now) }
         ensures same { IsNoMore self.old self.new }
+        ensures within { IsWithin self.old → IsWithin self.new }
     {
         if let Some(object) = copy_at(&self.recent, id) {
             return Some(object);

@@ -1,8 +1,9 @@
 use Rattle.std.proofs.Common.{ap, sym, ◌∙◌}
+use Rattle.cached_keeper.proofs.Gaining.{cache_empty}
 use Rattle.cached_keeper.proofs.cached.CachedKeeperKeeper.commit.Goals as goal
 
 pub invariant_of-self : goal.invariant_of-self
-invariant_of-self g c = λ r told id pair is. absurd (c.new.ensures id pair is)
+invariant_of-self g c = cache_empty c.new.result (g.R.Keeper.content c.commit.new.self) c.new.ensures.empty c.new.ensures.within
 
 pub returns-clause-content : goal.returns-clause-content
 returns-clause-content g c = λ now told.
