@@ -50,8 +50,8 @@ module _ (before after : CachedObjects) (its_id : List ℕ) (its : Pair) where
   ]
 
   -- what it gained was read from the repository
-  pub stands_more : (was now : Option Repository) (found : Option Pair) → StandsIn before was → Stays was now → GainsOnly before after its_id its → found ≡ Some its
-      → ((r : Repository) → now ≡ Some r → found ≡ get r.objects its_id) → StandsIn after now
+  pub stands_more : (was now : Option Repository) (found : Option Pair) → StandsIn before was → Stays was now → GainsOnly before after its_id its
+      → found ≡ Some its → ((r : Repository) → now ≡ Some r → found ≡ get r.objects its_id) → StandsIn after now
   stands_more was now found stands stays gains is read r told id pair there = elim (gains id pair there) [
     | inl had ↦ stands r (stays r told) id pair had
     | inr same ↦ ap (get r.objects) same.0 ∙ sym (read r told) ∙ is ∙ ap Some (sym same.1)

@@ -14,25 +14,25 @@ returns-in-Some-clause-answer g c = λ r told. sym (c.self.invariant.stands r to
 
 pub invariant_of-self-in_err-found : goal.invariant_of-self-in_err-found
 invariant_of-self-in_err-found g c = record {
-  stands = stands_on c.self.inside.cached c.find.new.self (g.R.Keeper.content c.self.inside.inner) (g.R.Keeper.content c.read_object.new.self) c.self.invariant.stands
-      c.read_object.ensures.same.content c.find.ensures.same;
+  stands = stands_on c.self.inside.cached c.find.new.self (g.R.Keeper.content c.self.inside.inner) (g.R.Keeper.content c.read_object.new.self)
+      c.self.invariant.stands c.read_object.ensures.same.content c.find.ensures.same;
   within = c.find.ensures.within c.self.invariant.within;
 }
 
 pub invariant_of-self-in-Some-found : goal.invariant_of-self-in-Some-found
 invariant_of-self-in-Some-found g c =
     let now = g.R.Keeper.content c.read_object.new.self in
-    let before : StandsIn c.find.new.self now = stands_on c.self.inside.cached c.find.new.self (g.R.Keeper.content c.self.inside.inner) now c.self.invariant.stands
-    c.read_object.ensures.same.content c.find.ensures.same in
+    let before : StandsIn c.find.new.self now = stands_on c.self.inside.cached c.find.new.self (g.R.Keeper.content c.self.inside.inner) now
+    c.self.invariant.stands c.read_object.ensures.same.content c.find.ensures.same in
     record {
-      stands = stands_more c.find.new.self c.keep.new.self c.args.id.now c.in-Some-found.object now now c.in_ok-found.found before (λ r told. told) c.keep.ensures.gains
-          c.in-Some-found.is c.in_ok-found.ensures.answer;
+      stands = stands_more c.find.new.self c.keep.new.self c.args.id.now c.in-Some-found.object now now c.in_ok-found.found before (λ r told. told)
+          c.keep.ensures.gains c.in-Some-found.is c.in_ok-found.ensures.answer;
       within = c.keep.ensures.within (c.find.ensures.within c.self.invariant.within);
     }
 
 pub invariant_of-self-in_default-found : goal.invariant_of-self-in_default-found
 invariant_of-self-in_default-found g c = record {
-  stands = stands_on c.self.inside.cached c.find.new.self (g.R.Keeper.content c.self.inside.inner) (g.R.Keeper.content c.read_object.new.self) c.self.invariant.stands
-      c.read_object.ensures.same.content c.find.ensures.same;
+  stands = stands_on c.self.inside.cached c.find.new.self (g.R.Keeper.content c.self.inside.inner) (g.R.Keeper.content c.read_object.new.self)
+      c.self.invariant.stands c.read_object.ensures.same.content c.find.ensures.same;
   within = c.find.ensures.within c.self.invariant.within;
 }
