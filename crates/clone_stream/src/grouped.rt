@@ -13,9 +13,17 @@ use object_lanes::{Unnamed, group_ids};
 use std::alloc::Global;
 use text_reader::same_bytes;
 
-// How many bytes of a stream are read before the reader is given more space, and how much that is.
-const SMALL_STREAM: u64 = 4096;
-const WIDE: usize = 4194304;
+// How large a buffer is to be had where so many bytes of a stream were read: clearing it is not to cost a short stream
+// more than it gains.
+fn space_for(taken: u64) -> usize {
+    if taken <= 4096 {
+        0
+    } else if taken <= 262_144 {
+        262_144
+    } else {
+        4_194_304
+    }
+}
 
 // Takes the object in front, where it may come; its id is its own. It is not taken where memory is wanting.
 fn take_object(
@@ -93,9 +101,7 @@ pub fn take_group(
         return false;
     }
     let start = reader.taken();
-    if start > SMALL_STREAM {
-        reader.widen(alloc, WIDE);
-    }
+    reader.widen(alloc, space_for(start));
     let Some(group) = whole_records(alloc, reader.buffered()) else {
         return false;
     };

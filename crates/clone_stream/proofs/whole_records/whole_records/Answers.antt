@@ -1,4 +1,4 @@
-use Rattle.std.proofs.Common.{◌≡◌, ◌≤◌, ◌-◌, ◌++◌, ◌∷◌, [], ℕ, List, length, sym, ap, subst, ◌∙◌, arith, length-append}
+use Rattle.std.proofs.Common.{◌≡◌, ◌-◌, ◌++◌, ◌∷◌, [], ℕ, List, length, sym, ap, subst, ◌∙◌, arith, length-append}
 use Rattle.std.specs.Prelude.{decimal}
 use Rattle.object_lanes.specs.declared.heads.Unnamed.{Unnamed}
 use Rattle.clone_stream.specs.Grouped.{AreClaims, IsClaim, claimed_record, claimed_text}
