@@ -1,4 +1,4 @@
--- How two maps tell the place of an id in a list: one by the first eight bytes of ids, and one by whole ids, for those
+-- How two maps tell the place of an id in a list: one by the first four bytes of ids, and one by whole ids, for those
 -- whose front has another's place. Which id stands at a place the list itself tells.
 use Rattle.std.specs.Prelude.{◌≡◌, ◌==◌, ◌⊎◌, ℕ, Bool, false, List, Option, Some, None, if◌then◌else◌}
 use Rattle.std.specs.Prelude.{slice_get, take}
@@ -13,9 +13,9 @@ use Rattle.placed_items.specs.Places.{place_of}
 abbrev pub place_in : tree.BTreeMap (List ℕ) ℕ → List ℕ → Option ℕ
 place_in places = tree.get by_bytes places
 
--- the first eight bytes of an id
+-- the first four bytes of an id
 abbrev pub front_of : List ℕ → List ℕ
-front_of id = take 8 id
+front_of id = take 4 id
 
 -- whether an item is there and stands under the id
 abbrev pub stands_under : {T : Type 0} → (T → List ℕ) → Option T → List ℕ → Bool

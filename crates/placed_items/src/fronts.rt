@@ -1,4 +1,4 @@
-//! Places under the first eight bytes of ids, and under whole ids.
+//! Places under the first four bytes of ids, and under whole ids.
 
 ghost use Rattle.std.specs.Prelude.{◌≡◌, ◌↔◌, ℕ, List, Some, None, if◌then◌else◌};
 ghost use Rattle.std.specs.Prelude.{IsTrue, OnOk, OnErr};
@@ -22,14 +22,14 @@ fn is_at(found: Option<usize>, place: usize) -> bool
 }
 
 /// The first bytes of an id.
-pub type Front = [u8; 8];
+pub type Front = [u8; 4];
 
-/// The first eight bytes of an id.
+/// The first four bytes of an id.
 pub fn front_of(id: &ObjectId) -> Front
     ensures { result ≡ front_of id.now }
 {
-    let mut front = [0; 8];
-    front.copy_from_slice(&id.as_bytes()[..8]);
+    let mut front = [0; 4];
+    front.copy_from_slice(&id.as_bytes()[..4]);
     front
 }
 
