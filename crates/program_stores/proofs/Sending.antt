@@ -1,6 +1,7 @@
 -- A store of any kind may go to another thread.
 use denote.Param.Send.{IsSend, AllSend, sendable, struct_send, recorded_send, param_send}
 use denote.Struct.Declared.{shape}
+use Rattle.cached_keeper.proofs.cached.CachedKeeper.TheSendSync as cached
 use Rattle.either_kind.proofs.either_keeper.EitherKeeper.TheSendSync as either
 use Rattle.keeper_api.proofs.memory_keeper.MemKeeper.TheSendSync as memory
 use Rattle.keeper_directory.proofs.dir_keepers.DirKeeper.TheSendSync as folder
@@ -21,7 +22,7 @@ host_send : IsSend host.the_row
 host_send = search sendable depth 9
 
 fields : AllSend (shape the_type).fields
-fields = (either.the_field_send _ _ memory.the_send (either.the_send (dir.the_row libc.the_row file.the_row names.the_row) _ (folder.the_send _ _ _ runtime.the_send) (database.the_send _ _ (store.the_send _ _ (modelled.the_send host.the_row unseen.the_row _ _ host_send)))), tt)
+fields = (either.the_field_send _ _ memory.the_send (either.the_send _ _ (cached.the_send (dir.the_row libc.the_row file.the_row names.the_row) _ (folder.the_send _ _ _ runtime.the_send)) (database.the_send _ _ (store.the_send _ _ (modelled.the_send host.the_row unseen.the_row _ _ host_send)))), tt)
 
 pub row_send : IsSend the_row
 row_send = recorded_send _ _ _ the_type.to_one (struct_send (shape the_type) fields)
