@@ -12,8 +12,8 @@ use octets::Memory;
 use std::collections::BTreeMap;
 
 /// The place of each id: under its first four bytes, and under the whole id where these have the place of another id
-/// or the place needs more than 32 bits. A place of 32 bits under four bytes takes a quarter of what one under a whole id
-/// does. Whoever makes ids that begin alike has each of them stand whole, as all ids would in a map of ids.
+/// or the place needs more than 32 bits. A place of 32 bits under four bytes takes a quarter of what one under a whole
+/// id does. Whoever makes ids that begin alike has each of them stand whole, as all ids would in a map of ids.
 #[derive(Drop)]
 pub struct Places {
     pub fronts: BTreeMap<Front, u32>,
