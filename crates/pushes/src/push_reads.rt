@@ -13,13 +13,13 @@ use std::alloc::Global;
 use std::sync::Arc;
 use text_reader::strip_front;
 
-// The push of a text that is within the limit.
-fn read_within(alloc: Global, whole: &Arc<Octets>) -> Result<Push, PushFault>
-    requires { length (arc_value whole.now) ≤ largest_push }
-    ensures found { IfOk result (λ push. IsPushText push (arc_value whole.now)) }
-    ensures bad { IfErr result (IsRefused (arc_value whole.now)) }
+// The push of a text that is within the limit, lent as what it is and as bytes.
+fn read_within(alloc: Global, whole: &Arc<Octets>, body: &[u8]) -> Result<Push, PushFault>
+    requires same { body.now ≡ arc_value whole.now }
+    requires small { length body.now ≤ largest_push }
+    ensures found { IfOk result (λ push. IsPushText push body.now) }
+    ensures bad { IfErr result (IsRefused body.now) }
 {
-    let body = whole.as_slice();
     let Some(text) = strip_front(body, b"gittuf-push 1\n") else {
         return Err(PushFault::Malformed { at: 0 });
     };
@@ -55,5 +55,5 @@ pub fn read_push(alloc: Global, text: Octets) -> Result<Push, PushFault>
     let Ok(whole) = Arc::new(alloc, text) else {
         return Err(PushFault::Memory);
     };
-    read_within(alloc, &whole)
+    read_within(alloc, &whole, whole.as_slice())
 }
