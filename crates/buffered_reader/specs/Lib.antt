@@ -2,5 +2,4 @@ pub mod Ahead
 pub mod Bytes
 pub mod Faults
 pub mod Lines
-pub mod Spaces
 pub mod Stops

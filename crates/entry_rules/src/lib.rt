@@ -8,11 +8,9 @@ mod changes;
 mod faults;
 mod finding;
 mod judge;
-mod known_paths;
 pub mod laws;
 mod meeting;
 mod signing;
-mod unmet;
 
 pub use faults::Fault;
 pub use judge::{EntryRules, KnowingRules};

@@ -5,7 +5,6 @@
 
 #![tactic(auto)]
 
-mod bodies;
 mod commits;
 mod header_lines;
 mod id_digits;

@@ -10,6 +10,7 @@ mod found;
 mod from_texts;
 mod good;
 mod known;
+mod loading;
 mod payloads;
 mod rows;
 mod same;

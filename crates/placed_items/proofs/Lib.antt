@@ -1,3 +1,1 @@
 pub mod Placing
-pub mod OneId
-pub mod Telling

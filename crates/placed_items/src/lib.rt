@@ -4,7 +4,6 @@
 
 #![tactic(auto)]
 
-mod fronts;
 mod index;
 pub mod laws;
 mod placed;

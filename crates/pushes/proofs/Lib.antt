@@ -1,4 +1,3 @@
-pub mod Ends
 pub mod ObjectLines
 pub mod Fronts
 pub mod Finding
