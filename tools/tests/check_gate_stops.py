@@ -122,6 +122,16 @@ def refuses_what_takes_long(repositories):
     for number in ("0", "x"):
         clones.refused("server.git", "hook", "install", "--server", "--most-seconds", number, status=2, part="is no number of seconds")
     clones.refused("alice", "hook", "install", "--most-seconds", "5", status=2, part="hook install --server --most-seconds N")
+    # What a hook of others spends, which is called first, is no judging.
+    path = os.path.join(clones.path("server.git"), "hooks", "pre-receive")
+    with open(path, "w", encoding="utf-8") as file:
+        file.write(f"#!/bin/sh\nexec {shlex.quote(sys.executable)} -c 'import time\nwhile time.process_time() < 4: pass'\n")
+    os.chmod(path, 0o755)
+    clones.gittuf("server.git", "hook", "install", "--server", "--most-seconds", "3")
+    clones.git("push", "--quiet", "origin", "HEAD:refs/heads/idea", who="alice")
+    clones.gittuf("server.git", "hook", "--remove")
+    want(run("git", "-C", clones.path("server.git"), "config", "gittuf.mostSeconds")[0], 1, "whether the limit is gone with the hook")
+    os.remove(path)
     clones.gittuf("server.git", "hook", "install", "--server", "--most-seconds", "1")
     other = clones.git("commit-tree", "-p", MAIN, "-m", "other", f"{MAIN}^{{tree}}", who="alice").decode().strip()
     clones.git("branch", "many", other, who="alice")
@@ -133,16 +143,6 @@ def refuses_what_takes_long(repositories):
     want(b"gittuf.mostSeconds is 'soon', and no number" in errors, True, f"whether an odd limit is told: {errors}")
     clones.gittuf("server.git", "hook", "install", "--server", "--most-seconds", "900")
     clones.git("push", *words, who="alice")
-    clones.gittuf("server.git", "hook", "--remove")
-    # What a hook of others spends, which is called first, is no judging.
-    path = os.path.join(clones.path("server.git"), "hooks", "pre-receive")
-    with open(path, "w", encoding="utf-8") as file:
-        file.write(f"#!/bin/sh\nexec {shlex.quote(sys.executable)} -c 'import time\nwhile time.process_time() < 4: pass'\n")
-    os.chmod(path, 0o755)
-    clones.gittuf("server.git", "hook", "install", "--server", "--most-seconds", "3")
-    clones.git("push", "--quiet", "origin", "HEAD:refs/heads/idea", who="alice")
-    clones.gittuf("server.git", "hook", "--remove")
-    want(run("git", "-C", clones.path("server.git"), "config", "gittuf.mostSeconds")[0], 1, "whether the limit is gone with the hook")
 
 
 CHECKS = (
