@@ -55,7 +55,7 @@ def one_imports_at_a_time(repositories):
         slow = imports(place)
         give(slow, first[: 10 * turn])
         if turn % 2:
-            wait_for(os.path.join(place, "open.lock"))
+            wait_for_holder(os.path.join(place, "open.lock"))
             want(ended(imports(place), second), (4, b"", b"fault\n"), "what the second import answers")
             want_run(command(place, "verify-ref", "refs/heads/a"), 4, b"", b"fault\n")
             want_run(command(place, "export"), 4, b"", b"fault\n")
@@ -73,6 +73,17 @@ def one_imports_at_a_time(repositories):
         want(sorted(os.listdir(place))[:1], ["objects"], "what is in the folder")
     left = [it for it in os.listdir(repositories.folder) if it.endswith(".lock")]
     want(left, [], "the folders that are left beside")
+
+
+def wait_for_holder(path):
+    """Waits for a mark that a process holds, which it takes a moment after it made the file."""
+    wait_for(path)
+    for _ in range(10_000):
+        with open("/proc/locks", encoding="ascii") as table:
+            if any(f":{os.stat(path).st_ino} " in line for line in table):
+                return
+        time.sleep(0.001)
+    raise Failure(f"nobody holds {path}")
 
 
 @contextlib.contextmanager
