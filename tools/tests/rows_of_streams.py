@@ -134,6 +134,56 @@ def places_of_refusals():
     return History(), *(Asked("stream", stream, answer) for stream, answer in rows)
 
 
+def blobs_in_order(count, size):
+    """So many blobs of so many bytes, as (id, body), by rising ids."""
+    bodies = [b"%d\n" % it + b"x" * (size - len(b"%d\n" % it)) for it in range(count)]
+    return sorted((object_id(b"blob", it), it) for it in bodies)
+
+
+def record_of(id, body, size=None, end=b"\n"):
+    return f"object {id} blob {len(body) if size is None else size}\n".encode() + body + end
+
+
+def objects_that_are_hashed_together():
+    """Of a run of objects the first that is wrong decides, wherever it stands: none behind it, and no group of them."""
+    blobs = blobs_in_order(24, 400)
+    records = [record_of(*it) for it in blobs]
+    whole = HEAD + b"".join(records)
+    rows = [(whole + END, "taken"), (whole + ref_line(MAIN, blobs[0][0]) + END, "taken")]
+    for at in (7, 8, 20):
+        id, body = blobs[at]
+        front, line, rest = HEAD + b"".join(records[:at]), len(records[at]) - len(body) - 1, b"".join(records[at + 1 :]) + END
+        other = id[:-1] + ("0" if id[-1] != "0" else "1")
+        flipped = body[:-1] + b"y"
+        late = record_of(*blobs[at]) + records[at - 1]
+        rows += [
+            (front + record_of(other, body) + rest, f"id-differs {other} {id}"),
+            (front + record_of(id, flipped) + rest, f"id-differs {id} {object_id(b'blob', flipped)}"),
+            (front + record_of(id, body, end=b"\r") + rest, f"bad-line {len(front) + line + len(body)}"),
+            (front + record_of(id, body, size="0400") + rest, f"bad-line {len(front)}"),
+            (front + record_of(id, body, size=LARGEST + 1) + rest, f"too-large {LARGEST}"),
+            (front + records[at][:-9], f"truncated {len(front) + len(records[at]) - 9}"),
+            (HEAD + b"".join(records[: at - 1]) + late + rest, f"order {len(front)}"),
+            (front + records[at] + records[at] + rest, f"order {len(front) + len(records[at])}"),
+            (front + ref_line(MAIN, id) + records[at] + rest, f"order {len(front) + len(ref_line(MAIN, id))}"),
+        ]
+    return History(), *(Asked("stream", stream, answer) for stream, answer in rows)
+
+
+def objects_behind_a_source_that_fails():
+    """A source of many objects that fails at a call of it: what was read before that decides."""
+    blobs = blobs_in_order(24, 400)
+    records = [record_of(*it) for it in blobs]
+    whole = HEAD + b"".join(records) + END
+    early, late = (whole.replace(records[at], record_of(blobs[at][0], blobs[at][1][:-1] + b"y")) for at in (2, 20))
+    runs = []
+    for stream, call, ends in ((whole, 1, None), (whole, 2, None), (early, 1, None), (early, 2, 2), (late, 2, None), (late, 50, 2)):
+        over = [failing("source", call)]
+        runs += [Anew(), refused(VERIFY, 3, f"stream {ends}", source=stream, over=over) if ends else refused(VERIFY, 4, "fault", source=stream, over=over)]
+        runs += [given(EMPTY)]
+    return History(), *runs
+
+
 def endings_that_no_row_comes_to():
     """Want of memory, and refusals of streams by their numbers."""
     rows = [Asked("refused", [str(number)], f"3 stream {number}\n") for number in (1, 8, 255)]
@@ -205,6 +255,8 @@ ROWS = (
     streams_judged,
     streams_refused,
     places_of_refusals,
+    objects_that_are_hashed_together,
+    objects_behind_a_source_that_fails,
     endings_that_no_row_comes_to,
     bodies_of_some_sizes,
     objects_outside_that_fail,

@@ -19,6 +19,7 @@ mod surveys;
 
 pub use attest_faults::AttestFault;
 pub use attesting::{Attested, attest, attest_at};
+pub use loading::load_file;
 pub use lookups::{approvers, load_approval, path_of};
 pub use payload_fields::{APPROVAL_TYPE, is_approval};
 pub use payloads::payload_of;

@@ -52,7 +52,7 @@ fn find_entry<R: Keeper>(
 /// The file at a path of the tree of a target: the target is peeled through at most 8 tags to a commit, directories of
 /// all names of the path but the last lead to a file, executable or not, that is a blob of at most 1 MiB. None where
 /// any of this fails. Its body has the file's bytes. It makes at most ten reads beside one for each name of the path.
-pub(crate) fn load_file<R: Keeper>(
+pub fn load_file<R: Keeper>(
     alloc: Global,
     keeper: &mut R,
     target: &ObjectId,

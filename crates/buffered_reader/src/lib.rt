@@ -8,6 +8,7 @@ mod exact_reads;
 mod line_reads;
 mod lines;
 mod reader;
+mod space;
 
 pub use exact_reads::ExactFault;
 pub use line_reads::LineFault;

@@ -6,14 +6,16 @@ ghost use Rattle.std.specs.Prelude.{take, drop, min, IfOk, IfSome, IfNone, IsTru
 ghost use Rattle.octets.specs.Causes.{HasCause, each};
 ghost use Rattle.octets.specs.Content.{with_front};
 
+use crate::space::Space;
 use edge_io::{Failed, Source};
+use std::alloc::Global;
 use std::marker::Model;
 
 /// A buffer before a source, which gives no more than a number of bytes. It holds no source: each call takes
 /// one, and a reader is used with one source only.
 #[derive(Drop)]
 pub struct BufferedReader {
-    buffer: [u8; 4096],
+    space: Space,
     from: usize,
     to: usize,
     taken: u64,
@@ -25,11 +27,11 @@ impl Model for BufferedReader {
 
     ghost Value = { Reading };
 
-    ghost use Rattle.std.specs.Prelude.{◌≤◌, ◌+◌, ◌-◌, take, drop};
+    ghost use Rattle.std.specs.Prelude.{◌≤◌, ◌<◌, ◌+◌, ◌-◌, length, take, drop};
 
-    ghost view = { λ s. record { buffered = take (s.to - s.from) (drop s.from s.buffer); taken = s.taken; limit = s.limit } };
+    ghost view = { λ s. record { buffered = take (s.to - s.from) (drop s.from s.space); taken = s.taken; limit = s.limit } };
 
-    ghost invariant = { λ s. (s.from ≤ s.to) × (s.to ≤ 4096) × (s.taken + (s.to - s.from) ≤ s.limit) };
+    ghost invariant = { λ s. (s.from ≤ s.to) × (s.to ≤ length s.space) × (0 < length s.space) × (s.taken + (s.to - s.from) ≤ s.limit) };
 }
 
 // The lesser of a length and a number of bytes.
@@ -65,7 +67,7 @@ impl BufferedReader {
         ensures { result ≡ record { buffered = []; taken = 0; limit = limit } }
     {
         BufferedReader {
-            buffer: [0; 4096],
+            space: Space::new(),
             from: 0,
             to: 0,
             taken: 0,
@@ -103,17 +105,18 @@ impl BufferedReader {
         self.from == self.to
     }
 
-    // The buffered bytes, lent.
-    fn buffered(&self) -> &[u8]
+    /// The bytes that are buffered, lent: the front of what is ahead, and no more than the limit allows. They are not
+    /// taken yet, and the source is not asked.
+    pub fn buffered(&self) -> &[u8]
         ensures { result.now ≡ self.now.buffered }
     {
-        let (front, _) = self.buffer.split_at(self.to);
+        let (front, _) = self.space.as_slice().split_at(self.to);
         let (_, buffered) = front.split_at(self.from);
         buffered
     }
 
-    // Takes bytes off the front of the buffer.
-    fn pass(&mut self, count: usize)
+    /// Takes bytes off the front of what is buffered.
+    pub fn pass(&mut self, count: usize)
         requires { count ≤ length self.old.buffered }
         ensures after { self.new ≡ record self.old {
           buffered = drop count self.old.buffered;
@@ -134,10 +137,28 @@ impl BufferedReader {
         self.taken += count as u64;
     }
 
+    /// Gives the reader a buffer of so many bytes on the heap, where it has a smaller one; what is buffered stays.
+    /// Where memory is wanting the reader keeps the buffer that it has.
+    pub fn widen(&mut self, alloc: Global, len: usize)
+        ensures { self.new ≡ self.old }
+    {
+        if len <= self.space.len() {
+            return;
+        }
+        let Ok(mut wide) = vec![in alloc; 0u8; len] else {
+            return;
+        };
+        let count = self.to - self.from;
+        let (front, _) = wide.as_mut_slice().split_at_mut(count);
+        front.copy_from_slice(self.buffered());
+        self.from = 0;
+        self.to = count;
+        self.space = Space::wide(wide);
+    }
+
     // Reads from the source into the empty buffer, and answers how many bytes, 0 at the end of the input.
-    fn refill<S: Source>(&mut self, source: &mut S, room: usize) -> Result<usize, Failed>
+    fn refill<S: Source>(&mut self, source: &mut S, room: u64) -> Result<usize, Failed>
         requires drained { self.old.buffered ≡ [] }
-        requires small { room ≤ 4096 }
         requires limited { self.old.taken + room ≤ self.old.limit }
         ensures read { IfOk result (λ count. (length self.new.buffered ≡ count)
             × (S.left source.old ≡ with_front self.new.buffered (S.left source.new))) }
@@ -149,8 +170,8 @@ impl BufferedReader {
     {
         self.from = 0;
         self.to = 0;
-        let (space, _) = self.buffer.split_at_mut(room);
-        let count = source.read(space)?;
+        let room = at_most(self.space.len(), room);
+        let count = self.space.fill(source, room)?;
         self.to = count;
         Ok(count)
     }
@@ -172,7 +193,7 @@ impl BufferedReader {
         if !self.is_drained() {
             return Ok(true);
         }
-        let room = at_most(4096, self.room());
+        let room = self.room();
         if room == 0 {
             return Ok(false);
         }

@@ -2,6 +2,8 @@ pub mod Broken
 pub mod Built
 pub mod Entries
 pub mod Exported
+pub mod GoingOn
+pub mod Grouping
 pub mod Growing
 pub mod Lacking
 pub mod Lasts

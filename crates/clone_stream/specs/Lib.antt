@@ -17,8 +17,10 @@ pub mod Grammar
 pub mod Breaks
 pub mod Reading
 pub mod Fronts
--- States between calls that are not published: reading on, a record that was read, the parts of a stream, writing on.
+-- States between calls that are not published: reading on, a record that was read, records that stand whole in what is
+-- buffered, the parts of a stream, writing on.
 pub mod Stopping
 pub mod Records
+pub mod Grouped
 pub mod Parts
 pub mod Exports

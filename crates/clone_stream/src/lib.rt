@@ -6,6 +6,7 @@
 
 mod export;
 mod export_faults;
+mod grouped;
 pub mod laws;
 mod line_words;
 mod record_reads;
@@ -14,6 +15,7 @@ mod records;
 mod stream_faults;
 mod stream_reads;
 mod streams;
+mod whole_records;
 
 pub use export::write_stream;
 pub use export_faults::ExportFault;

@@ -76,9 +76,9 @@ pub fn split_head(line: &[u8]) -> Option<(ObjectId, Kind, &[u8])>
     Some((id, kind, digits))
 }
 
-// The head of an object's line. `NotHead` comes exactly where it is none, and `TooLarge` exactly where the size
-// is past 16 MiB.
-fn read_head(line: &[u8]) -> Result<ObjectLine, HeadFault>
+/// The head of an object's line. `NotHead` comes exactly where it is none, and `TooLarge` exactly where the size
+/// is past 16 MiB.
+pub(crate) fn read_head(line: &[u8]) -> Result<ObjectLine, HeadFault>
     ensures valid { IfOk result IsHead }
     ensures found { IfOk result (λ head. line.now ≡ object_line head.id head.kind (decimal head.size)) }
     ensures no_head { IsErrOf result HeadFault.NotHead → IsObjectLine line.now → ⊥ }

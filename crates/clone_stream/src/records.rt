@@ -18,6 +18,7 @@ ghost use Rattle.clone_stream.specs.Stopping.{ReadsOn};
 ghost use Rattle.clone_stream.specs.Streams.{IsRef, object_record};
 ghost use Rattle.clone_stream.specs.Words.{IsHead};
 
+use crate::grouped::take_group;
 use crate::line_words::{ObjectLine, Words};
 use crate::record_reads::{next_object, next_words};
 use crate::stream_faults::Break;
@@ -69,8 +70,8 @@ fn follows_ref(refs: &[RefChange], name: &RefName) -> bool
     }
 }
 
-// Whether an object of this id may come: no reference came, and its id is greater than the last.
-fn may_come(objects: &[Object], refs: &[RefChange], id: &ObjectId) -> bool
+/// Whether an object of this id may come: no reference came, and its id is greater than the last.
+pub fn may_come(objects: &[Object], refs: &[RefChange], id: &ObjectId) -> bool
     ensures { IsTrue result ↔ ComesObject (last_read objects.now refs.now) id.now }
 {
     if !refs.is_empty() {
@@ -175,6 +176,9 @@ pub fn read_records<S: Source>(
     let mut objects = Objects::new(alloc);
     let mut refs = RefChanges::new(alloc);
     'records: loop {
+        if take_group(alloc, reader, &mut objects, refs.as_slice()) {
+            continue;
+        }
         match next_record(alloc, reader, source, objects.as_slice(), refs.as_slice()) {
             Ok(Record::Object(object)) => objects.push(object)?,
             Ok(Record::Ref(value)) => refs.push(set(value))?,

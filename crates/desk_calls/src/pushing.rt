@@ -8,6 +8,7 @@ ghost use Rattle.desk_calls.specs.Calls.{AnswersPush, Pushes, Returns, reply_of}
 use crate::{Desk, DeskShop};
 use desk_lock::Seat;
 use desk_steps::Reply;
+use octets::Octets;
 use pushes::{Push, PushFault, read_push};
 use std::alloc::Global;
 use std::sync::Wait;
@@ -48,14 +49,14 @@ impl<S: DeskShop + Drop> Desk<S> {
     /// Answers a push's text. The text is read first, and one that is no push is answered without a turn: `Malformed`
     /// and `TooLarge` come as of `read_push`. Then a doubt is settled, and where it stays nothing is asked. What else
     /// is answered, is answered in the turn in which the entry is added.
-    pub fn push<W: Wait>(&self, rt: &W, alloc: Global, seat: &mut Seat, body: &[u8]) -> S::Answer
+    pub fn push<W: Wait>(&self, rt: &W, alloc: Global, seat: &mut Seat, text: Octets) -> S::Answer
         requires idle { IsIdle self.now seat.old }
         ensures idle { IsIdle self.now seat.new }
         ensures seat { Returns S.is_legal seat.old seat.new }
-        ensures answer { Pushes S.stands S.told S.answers S.is_done S.is_fault S.plain body.now result seat.old
+        ensures answer { Pushes S.stands S.told S.answers S.is_done S.is_fault S.plain text result seat.old
             seat.new }
     {
-        match read_push(alloc, body) {
+        match read_push(alloc, text) {
             Ok(push) => self.push_read(rt, alloc, seat, &push),
             Err(fault) => S::plain(reply_of(fault)),
         }

@@ -48,8 +48,8 @@ impl<S: HttpShop + Drop> Serves for HttpDesk<S> {
 
     ghost streams = { λ d old new text. Streams S.is_legal S.stands S.told S.streams text old new };
 
-    fn push<W: Wait>(&self, rt: &W, alloc: Global, seat: &mut Seat, body: &[u8]) -> Pushed {
-        S::to_pushed(self.desk.push(rt, alloc, seat, body))
+    fn push<W: Wait>(&self, rt: &W, alloc: Global, seat: &mut Seat, text: Octets) -> Pushed {
+        S::to_pushed(self.desk.push(rt, alloc, seat, text))
     }
 
     fn tip<W: Wait>(

@@ -20,19 +20,19 @@ pub(crate) fn answer<D: Serves, K: Sink, W: Wait>(
     alloc: Global,
     desk: &D,
     seat: &mut Seat,
-    asked: &Asked,
+    asked: Asked,
     sink: &mut K,
 ) -> End
     requires { IsIdle (D.turn desk.now) seat.old }
-    ensures answered { Answered D.Serves K.Sink desk.now asked.now seat.old seat.new sink.old sink.new result }
+    ensures answered { Answered D.Serves K.Sink desk.now asked seat.old seat.new sink.old sink.new result }
     ensures idle { IsIdle (D.turn desk.now) seat.new }
 {
     match asked {
         Asked::Tip => tell_tip(sink, &desk.tip(rt, alloc, seat)),
-        Asked::Verify { name } => tell_text(sink, &desk.verdict(rt, alloc, seat, name)),
+        Asked::Verify { name } => tell_text(sink, &desk.verdict(rt, alloc, seat, &name)),
         Asked::Stream => tell_text(sink, &desk.stream(rt, alloc, seat)),
-        Asked::Push { body } => tell_pushed(sink, &desk.push(rt, alloc, seat, body.as_slice())),
-        Asked::Refused { why } => tell_refusal(sink, why),
+        Asked::Push { body } => tell_pushed(sink, &desk.push(rt, alloc, seat, body)),
+        Asked::Refused { why } => tell_refusal(sink, &why),
         Asked::Memory => tell_reply(sink, &Reply::Memory),
         Asked::Silent => End::Silent,
         Asked::LinkFailed => End::LinkFailed,

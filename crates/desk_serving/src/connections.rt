@@ -42,7 +42,7 @@ pub fn serve_connection<D: Serves, S: Source, K: Sink, G: Gate, W: Wait>(
     let number = seat.number();
     let asked = read_request(alloc, &mut link.source);
     gate.pass(rt, number, Point::Read);
-    let end = answer(rt, alloc, desk, seat, &asked, &mut link.sink);
+    let end = answer(rt, alloc, desk, seat, asked, &mut link.sink);
     gate.pass(rt, number, Point::Answered);
     end
 }

@@ -40,9 +40,9 @@ pub trait Serves {
     ghost streams: { Self → Sitting → Sitting → Result (List ℕ) Reply → Type 0 };
 
     /// Takes a push, or answers why not.
-    fn push<W: Wait>(&self, rt: &W, alloc: Global, seat: &mut Seat, body: &[u8]) -> Pushed
+    fn push<W: Wait>(&self, rt: &W, alloc: Global, seat: &mut Seat, text: Octets) -> Pushed
         requires { IsIdle (turn self.now) seat.old }
-        ensures answer { pushes self.now body.now seat.old seat.new result }
+        ensures answer { pushes self.now text seat.old seat.new result }
         ensures idle { IsIdle (turn self.now) seat.new };
 
     /// How many entries there are, and the id of the last.

@@ -14,12 +14,14 @@ ghost use Rattle.rule_delegations.specs.Chains.{rule_at};
 ghost use Rattle.root_metadata.specs.Persons.{count_in};
 
 use crate::Fault;
+use crate::known_paths::{KnownPaths, first_known};
 use crate::meeting::meets;
 use git_object::RefName;
 use octets::{Memory, Octets};
 use ref_patterns::Space;
 use root_metadata::KeyIds;
 use rule_delegations::{Rules, Short};
+use std::alloc::Global;
 
 // What is told of the rule that a name reaches first; None where it reaches none.
 fn first_short(rules: &Rules, space: Space, text: &[u8], signers: &KeyIds) -> Option<Short>
@@ -56,8 +58,8 @@ fn is_unmet(rules: &Rules, path: &Octets, signers: &KeyIds) -> bool
     !meets(rules, Space::File, path.as_slice(), signers)
 }
 
-// The first of the paths that is not met.
-fn first_unmet<'p>(rules: &Rules, paths: &'p [Octets], signers: &KeyIds) -> Option<&'p Octets>
+/// The first of the paths that is not met.
+pub fn first_unmet<'p>(rules: &Rules, paths: &'p [Octets], signers: &KeyIds) -> Option<&'p Octets>
     ensures { option_copied result ≡ find (is_unmet rules.now signers.now) paths.now }
 {
     paths.iter().find(|path| is_unmet(rules, path, signers))
@@ -80,19 +82,28 @@ fn told_of_path(rules: &Rules, path: &Octets, signers: &KeyIds) -> Result<Option
     }))
 }
 
-fn path_fault(rules: &Rules, paths: &[Octets], signers: &KeyIds) -> Result<Option<Fault>, Memory>
+fn path_fault(
+    alloc: Global,
+    known: &KnownPaths,
+    rules: &Rules,
+    paths: &[Octets],
+    signers: &KeyIds,
+) -> Result<Option<Fault>, Memory>
     ensures { IfOk result (λ fault. fault ≡ path_fault rules.now signers.now
         (find (is_unmet rules.now signers.now) paths.now)) }
 {
-    match first_unmet(rules, paths, signers) {
-        Some(path) => told_of_path(rules, path, signers),
+    match first_known(known, alloc, rules, signers, paths)? {
+        Some(path) => told_of_path(rules, &path, signers),
         None => Ok(None),
     }
 }
 
 /// The fault of a change between two states that differ at exactly these paths, which stand in the order of their
-/// bytes: the reference's name, or else the first of the paths, that is not met by the signers.
+/// bytes: the reference's name, or else the first of the paths, that is not met by the signers. Where that is known of
+/// the paths, they are not looked through again.
 pub fn rules_fault(
+    alloc: Global,
+    known: &KnownPaths,
     rules: &Rules,
     name: &RefName,
     paths: &[Octets],
@@ -103,6 +114,6 @@ pub fn rules_fault(
 {
     match ref_fault(rules, name, signers)? {
         Some(fault) => Ok(Some(fault)),
-        None => path_fault(rules, paths, signers),
+        None => path_fault(alloc, known, rules, paths, signers),
     }
 }

@@ -19,6 +19,7 @@ ghost use Rattle.entry_rules.specs.Signing.{approved, joined, signer_among, tree
 
 use crate::Fault;
 use crate::changes::rules_fault;
+use crate::judge::EntryRules;
 use crate::signing::{approved, joined, known_signer, listed_ids};
 use git_object::{ObjectId, RefName};
 use judging::{Finding, KeyIds};
@@ -144,7 +145,7 @@ fn find_change<R: Keeper>(
     alloc: Global,
     keeper: &mut R,
     known: &KnownTrees,
-    signed: &KnownSigners,
+    kept: &EntryRules,
     policy: &Policy,
     entry: &Entry,
     name: &RefName,
@@ -167,6 +168,7 @@ fn find_change<R: Keeper>(
 {
     match compared(alloc, keeper, known, from, target)? {
         Comparison::Broken { id } => {
+            let signed = &kept.signed;
             find_broken(
                 alloc, keeper, signed, policy, entry, name, target, from, attested, id,
             )
@@ -175,7 +177,7 @@ fn find_change<R: Keeper>(
             let signers = signers_for(
                 alloc,
                 keeper,
-                signed,
+                &kept.signed,
                 policy,
                 entry,
                 name,
@@ -183,7 +185,8 @@ fn find_change<R: Keeper>(
                 attested,
                 Some(to),
             )?;
-            let fault = rules_fault(&policy.rules, name, paths.as_slice(), &signers)?;
+            let rules = &policy.rules;
+            let fault = rules_fault(alloc, &kept.paths, rules, name, paths.as_slice(), &signers)?;
             let signers = listed_ids(alloc, &signers)?;
             Ok(Finding { fault, signers })
         }
@@ -196,7 +199,7 @@ pub fn find<R: Keeper>(
     alloc: Global,
     keeper: &mut R,
     known: &KnownTrees,
-    signed: &KnownSigners,
+    kept: &EntryRules,
     policy: &Policy,
     entry: &Entry,
     from: &ObjectId,
@@ -218,7 +221,7 @@ pub fn find<R: Keeper>(
     match &entry.body {
         EntryBody::Reference { name, target } => {
             find_change(
-                alloc, keeper, known, signed, policy, entry, name, target, from, attested,
+                alloc, keeper, known, kept, policy, entry, name, target, from, attested,
             )
         }
         EntryBody::Annotation {

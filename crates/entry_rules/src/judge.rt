@@ -19,6 +19,7 @@ ghost use Rattle.entry_rules.specs.Signing.{tree_in};
 
 use crate::Fault;
 use crate::finding::{compared, find};
+use crate::known_paths::KnownPaths;
 use crate::meeting::may_act;
 use crate::signing::signer_among;
 use git_object::{KeyId, ObjectId, RefName};
@@ -37,7 +38,8 @@ use tree_paths::{Comparison, KnownTrees};
 #[derive(Drop)]
 pub struct EntryRules {
     anchor: Option<KeyIds>,
-    signed: KnownSigners,
+    pub(crate) signed: KnownSigners,
+    pub(crate) paths: KnownPaths,
 }
 
 impl EntryRules {
@@ -48,6 +50,7 @@ impl EntryRules {
         EntryRules {
             anchor,
             signed: KnownSigners::new(),
+            paths: KnownPaths::new(None),
         }
     }
 }
@@ -201,14 +204,7 @@ impl<'a, R: Keeper> Judge<Policy, Fault, R> for KnowingRules<'a> {
         attested: Option<&ObjectId>,
     ) -> Result<Finding<Fault>, JudgeFault> {
         judged(find(
-            alloc,
-            store,
-            self.known,
-            &self.rules.signed,
-            policy,
-            entry,
-            from,
-            attested,
+            alloc, store, self.known, self.rules, policy, entry, from, attested,
         ))
     }
 

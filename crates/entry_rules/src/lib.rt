@@ -8,9 +8,11 @@ mod changes;
 mod faults;
 mod finding;
 mod judge;
+mod known_paths;
 pub mod laws;
 mod meeting;
 mod signing;
+mod unmet;
 
 pub use faults::Fault;
 pub use judge::{EntryRules, KnowingRules};

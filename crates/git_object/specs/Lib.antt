@@ -4,6 +4,8 @@ pub mod Ids
 pub mod Names
 -- the names that are fixed
 pub mod References
+-- the bytes of a body
+pub mod Bodies
 -- objects, and the id of one
 pub mod Objects
 -- what a repository holds

@@ -5,6 +5,7 @@
 
 #![tactic(auto)]
 
+mod bodies;
 mod commits;
 mod header_lines;
 mod id_digits;

@@ -1,8 +1,10 @@
 //! An object with the id that its kind and body have.
 
-ghost use Rattle.std.specs.Prelude.{◌≡◌, IfOk};
+ghost use Rattle.std.specs.Prelude.{◌≡◌, ◌≤◌, ◌-◌, drop, length, take, IfOk};
+ghost use Rattle.std.specs.Arc.{arc_value};
 ghost use Rattle.git_object.specs.Objects.{object_id};
 
+use crate::bodies::Body;
 use crate::{Kind, ObjectId, id_of};
 use octets::{Copied, Memory, Octets};
 use std::alloc::Global;
@@ -17,7 +19,7 @@ pub const LARGEST_BODY: u64 = 16777216;
 struct Stored {
     id: ObjectId,
     kind: Kind,
-    body: Octets,
+    body: Body,
 }
 
 /// A kind and a body. The id is computed once, when the object is made; all of it is shared among copies, so that a
@@ -47,6 +49,46 @@ impl Object {
         ensures { IfOk result (λ o. o ≡ record { kind = kind; body = body }) }
     {
         let id = id_of(kind, body.as_slice());
+        Object::of(alloc, id, kind, Body::own(body))
+    }
+
+    /// An object of this kind and body under the id that they have, which is not computed again.
+    pub fn identified(
+        alloc: Global,
+        id: ObjectId,
+        kind: Kind,
+        body: Octets,
+    ) -> Result<Object, Memory>
+        requires { id ≡ object_id kind body }
+        ensures { IfOk result (λ o. o ≡ record { kind = kind; body = body }) }
+    {
+        Object::of(alloc, id, kind, Body::own(body))
+    }
+
+    /// An object of this kind, whose body is the part of a text from a byte up to another, under the id that it has, which is
+    /// not computed again. The body is not copied: the text stays as long as the object or a copy of it.
+    pub fn shared(
+        alloc: Global,
+        id: ObjectId,
+        kind: Kind,
+        text: &Arc<Octets>,
+        from: usize,
+        to: usize,
+    ) -> Result<Object, Memory>
+        requires order { from ≤ to }
+        requires within { to ≤ length (arc_value text.now) }
+        requires own { id ≡ object_id kind (take (to - from) (drop from (arc_value text.now))) }
+        ensures { IfOk result (λ o. o ≡ record { kind = kind; body = take (to - from) (drop from (arc_value text.now)) }) }
+    {
+        let text = Arc::try_clone(text)?;
+        Object::of(alloc, id, kind, Body::shared(text, from, to))
+    }
+
+    // An object of this kind and body under the id that they have.
+    fn of(alloc: Global, id: ObjectId, kind: Kind, body: Body) -> Result<Object, Memory>
+        requires { id ≡ object_id kind body }
+        ensures { IfOk result (λ o. o ≡ record { kind = kind; body = body }) }
+    {
         let stored = Arc::new(alloc, Stored { id, kind, body })?;
         Ok(Object { stored })
     }

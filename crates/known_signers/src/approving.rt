@@ -9,8 +9,7 @@ ghost use Rattle.approvals.specs.Approvals.{is_approval};
 ghost use Rattle.approvals.specs.Lookups.{approval_at, approval_of, approvers_of};
 
 use crate::KnownSigners;
-use crate::loading::load_file;
-use approvals::{APPROVAL_TYPE, path_of};
+use approvals::{APPROVAL_TYPE, load_file, path_of};
 use dsse_envelope::Envelope;
 use git_object::{ObjectId, RefName};
 use keeper_api::{Keeper, KeeperFault};

@@ -10,7 +10,6 @@ mod found;
 mod from_texts;
 mod good;
 mod known;
-mod loading;
 mod payloads;
 mod rows;
 mod same;

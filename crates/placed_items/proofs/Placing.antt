@@ -1,23 +1,14 @@
 -- Places in a list that gains and loses a last item.
 use Rattle.std.proofs.Common.{◌≡◌, ℕ, ◌+◌, ◌-◌, ◌<◌, Bool, true, false, ◌||◌, cond, List, [], ◌∷◌, ◌++◌, Option, Some, None, suc, length, take, refl, sym, ap}
-use Rattle.std.proofs.Common.{subst, ◌∙◌, arith}
-use Rattle.std.specs.BTreeMap as tree
-use Rattle.std.specs.Cmp.{eq_by_cmp_equiv}
-use Rattle.std.specs.Cmp.Lexicographic.{bytes_decides, nat_list_cmp_total}
-use Rattle.std.specs.FinMap.{nat_cmp-IsAntisymmetric, slice_cmp-IsAntisymmetric}
-use Rattle.std.specs.Ordering.{is_eq}
-use Rattle.std.specs.declared.cmp.Ordering.{Ordering}
-use Rattle.std.specs.declared.cmp.Ordering.TheVariants.{Equal, Less, Greater}
-use Rattle.std.proofs.lemmas.Bool.Decides.{same_from_decides}
+use Rattle.std.proofs.Common.{◌∙◌, arith}
 use Rattle.std.proofs.lemmas.List.{length_push, take_at}
-use Rattle.octets.specs.BytesMap.{by_bytes}
 use Rattle.std.specs.Prelude.{IfSome, is_some, slice_get}
 use Rattle.std.specs.Option.{option_map}
 use Rattle.std.specs.Str.{bytes_eq}
 use Rattle.std.proofs.lemmas.Slice.Eq.{bytes_eq-Decides}
 use Prim.Native.Nat as Nat
 use Rattle.std.proofs.lemmas.Bool.{true≢false}
-use Rattle.placed_items.specs.Places.{AreIndexed, FirstPlace, has_id, place_of, placed_last}
+use Rattle.placed_items.specs.Places.{FirstPlace, has_id, place_of, placed_last}
 
 module _ {T : Type 0} (id : T → List ℕ) where
   some_map : (b : Bool) (o : Option ℕ) → is_some (cond b (Some 0) (option_map (λ n. n + 1) o)) ≡ (b || is_some o)
@@ -106,106 +97,6 @@ module _ {T : Type 0} (id : T → List ℕ) where
     where
       count_is : (n : ℕ) → n + 1 ≡ suc n
       count_is n = omega arith
-
--- ---- the map beside the list
-
-is_equal : (o : Ordering) → is_eq o ≡ true → o ≡ Equal
-is_equal Less e = absurd (true≢false (sym e))
-is_equal Equal e = refl
-is_equal Greater e = absurd (true≢false (sym e))
-
-same_key : (a b : List ℕ) → is_eq (by_bytes a b) ≡ true → a ≡ b
-same_key a b e = slice_cmp-IsAntisymmetric nat_cmp-IsAntisymmetric a b (is_equal (by_bytes a b) e)
-
-same_test : (a b : List ℕ) → is_eq (by_bytes a b) ≡ bytes_eq a b
-same_test a b =
-    same_from_decides (is_eq (by_bytes a b)) (bytes_eq a b)
-    (same_key a b, λ e. subst (λ (x : List ℕ). is_eq (by_bytes a x) ≡ true) e ((eq_by_cmp_equiv nat_list_cmp_total).refl a)) (bytes_decides a b)
-
--- a place that is put where there was none
-pub put_there : (get now : List ℕ → Option ℕ) (id : List ℕ) (place : ℕ) (q : List ℕ) → get id ≡ None
-    → now q ≡ cond (is_eq (by_bytes id q)) (Some place) (get q)
-    → now q ≡ placed_last (get q) (bytes_eq id q) place
-put_there get now id place q none put = put ∙ ap (λ (b : Bool). cond b (Some place) (get q)) (same_test id q) ∙ by_test (bytes_eq id q) refl (get q) refl
-  where
-    by_test : (b : Bool) → bytes_eq id q ≡ b → (o : Option ℕ) → get q ≡ o → cond b (Some place) o ≡ placed_last o b place
-    by_test true is None e = refl
-    by_test true is (Some n) e =
-        let both : Some n ≡ None = sym e ∙ ap get (sym ((bytes_eq-Decides id q).0 is)) ∙ none in
-        absurd (cc both)
-    by_test false is None e = refl
-    by_test false is (Some n) e = refl
-
--- nothing is put where there was one
-pub had_there : (get : List ℕ → Option ℕ) (id : List ℕ) (place n : ℕ) (q : List ℕ) → get id ≡ Some n → get q ≡ placed_last (get q) (bytes_eq id q) place
-had_there get id place n q had = by_test (bytes_eq id q) refl (get q) refl
-  where
-    by_test : (b : Bool) → bytes_eq id q ≡ b → (o : Option ℕ) → get q ≡ o → o ≡ placed_last o b place
-    by_test true is None e =
-        let both : None ≡ Some n = sym e ∙ ap get (sym ((bytes_eq-Decides id q).0 is)) ∙ had in
-        absurd (cc both)
-    by_test true is (Some m) e = refl
-    by_test false is None e = refl
-    by_test false is (Some m) e = refl
-
-module _ {T : Type 0} (id : T → List ℕ) (items : List T) (last : T) where
-  abbrev at_last : List ℕ → Bool
-  at_last wanted = bytes_eq (id last) wanted
-
-  abbrev place : List ℕ → Option ℕ
-  place wanted = place_of id items wanted
-
-  its_place : (wanted : List ℕ) → at_last wanted ≡ true → place wanted ≡ place (id last)
-  its_place wanted is = ap place (sym ((bytes_eq-Decides (id last) wanted).0 is))
-
-  -- an item is added, and its place put where its id had none
-  pub push_index : (was now : tree.BTreeMap (List ℕ) ℕ) → AreIndexed id items was
-      → ((q : List ℕ) → tree.get by_bytes now q ≡ placed_last (tree.get by_bytes was q) (bytes_eq (id last) q) (length items))
-      → AreIndexed id (items ++ last ∷ []) now
-  push_index was now index put wanted =
-      put wanted ∙ ap (λ (o : Option ℕ). placed_last o (bytes_eq (id last) wanted) (length items)) (index wanted) ∙ sym (placed_push id items last wanted)
-
-  before : (was : tree.BTreeMap (List ℕ) ℕ) → AreIndexed id (items ++ last ∷ []) was → (wanted : List ℕ)
-      → tree.get by_bytes was wanted ≡ placed_last (place wanted) (at_last wanted) (length items)
-  before was index wanted = index wanted ∙ placed_push id items last wanted
-
-  own : at_last (id last) ≡ true
-  own = (bytes_eq-Decides (id last) (id last)).1 refl
-
-  -- the place of the last item is let go
-  pub drop_index : (was now : tree.BTreeMap (List ℕ) ℕ) → AreIndexed id (items ++ last ∷ []) was → tree.get by_bytes was (id last) ≡ Some (length items)
-      → ((q : List ℕ) → tree.get by_bytes now q ≡ cond (is_eq (by_bytes (id last) q)) None (tree.get by_bytes was q)) → AreIndexed id items now
-  drop_index was now index here gone wanted =
-      gone wanted ∙ ap (λ (b : Bool). cond b None (tree.get by_bytes was wanted)) (same_test (id last) wanted)
-      ∙ ap (cond (at_last wanted) None) (before was index wanted) ∙ by_test (at_last wanted) refl (place wanted) refl
-    where
-      at_own : placed_last (place (id last)) true (length items) ≡ Some (length items)
-      at_own = ap (λ (b : Bool). placed_last (place (id last)) b (length items)) (sym own) ∙ sym (before was index (id last)) ∙ here
-
-      by_test : (b : Bool) → at_last wanted ≡ b → (o : Option ℕ) → place wanted ≡ o → cond b None (placed_last o b (length items)) ≡ o
-      by_test true is None e = refl
-      by_test true is (Some n) e =
-          let there : place (id last) ≡ Some n = sym (its_place wanted is) ∙ e in
-          let less = place_within id items (id last) n there in
-          let same : Some n ≡ Some (length items) = ap (λ (o : Option ℕ). placed_last o true (length items)) (sym there) ∙ at_own in
-          let n_is : n ≡ length items = cc same in
-          absurd (omega (arith, less, n_is))
-      by_test false is None e = refl
-      by_test false is (Some n) e = refl
-
-  -- or it was that of an earlier one
-  pub stay_index : (was : tree.BTreeMap (List ℕ) ℕ) → AreIndexed id (items ++ last ∷ []) was → (tree.get by_bytes was (id last) ≡ Some (length items) → ⊥)
-      → AreIndexed id items was
-  stay_index was index other wanted = before was index wanted ∙ by_test (at_last wanted) refl (place wanted) refl
-    where
-      by_test : (b : Bool) → at_last wanted ≡ b → (o : Option ℕ) → place wanted ≡ o → placed_last o b (length items) ≡ o
-      by_test true is None e =
-          let there : place (id last) ≡ None = sym (its_place wanted is) ∙ e in
-          absurd (other (before was index (id last) ∙ ap (λ (b : Bool). placed_last (place (id last)) b (length items)) own
-          ∙ ap (λ (o : Option ℕ). placed_last o true (length items)) there))
-      by_test true is (Some n) e = refl
-      by_test false is None e = refl
-      by_test false is (Some n) e = refl
 
 pub if_within : (o : Option ℕ) (count : ℕ) → ((n : ℕ) → o ≡ Some n → n < count) → IfSome o (λ n. n < count)
 if_within None count f = tt

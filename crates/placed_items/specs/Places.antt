@@ -1,11 +1,9 @@
 -- The place of an id in a list of things that stand under ids.
 use Rattle.std.specs.Prelude.{◌≡◌, ◌+◌, ◌<◌, ℕ, Bool, false, List, [], ◌∷◌, Option, Some, None, if◌then◌else◌}
 use Rattle.std.specs.Prelude.{slice_get}
-use Rattle.std.specs.BTreeMap as tree
 use Rattle.std.specs.List.{list_any}
 use Rattle.std.specs.Option.{option_map}
 use Rattle.std.specs.Str.{bytes_eq}
-use Rattle.octets.specs.BytesMap.{by_bytes}
 
 -- some item stands under the id
 abbrev pub has_id : {T : Type 0} → (T → List ℕ) → List T → List ℕ → Bool
@@ -21,10 +19,6 @@ place_of id (item ∷ items) wanted =
 abbrev pub placed_last : Option ℕ → Bool → ℕ → Option ℕ
 placed_last (Some n) is_its at = Some n
 placed_last None is_its at = if is_its then Some at else None
-
--- a map answers the place of each id
-abbrev pub AreIndexed : {T : Type 0} → (T → List ℕ) → List T → tree.BTreeMap (List ℕ) ℕ → Type 0
-AreIndexed id items places = (wanted : List ℕ) → tree.get by_bytes places wanted ≡ place_of id items wanted
 
 -- ---- what holds of it
 

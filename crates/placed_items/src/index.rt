@@ -1,80 +1,94 @@
-//! The places of ids, in a map beside the list.
+//! The places of ids, in two maps beside the list.
 
-ghost use Rattle.std.specs.Prelude.{◌≡◌, ◌↔◌, ◌-◌, ◌++◌, ◌∷◌, [], ℕ, List, Some, None, if◌then◌else◌, length, take};
-ghost use Rattle.std.specs.Prelude.{IsTrue, OnOk, OnErr};
-ghost use Rattle.std.specs.BTreeMap as tree;
-ghost use Rattle.std.specs.Ordering.{is_eq};
-ghost use Rattle.std.specs.Str.{bytes_eq};
-ghost use Rattle.octets.specs.BytesMap.{by_bytes};
-ghost use Rattle.placed_items.specs.Places.{AreIndexed, placed_last};
+ghost use Rattle.std.specs.Prelude.{◌≡◌, ◌-◌, ◌++◌, ◌∷◌, [], length, take, slice_get, OnOk, OnErr};
+ghost use Rattle.placed_items.specs.Fronts.{AreTold, IsPut, front_of, place_in, stands_under, told_place};
 
 use crate::Identified;
+use crate::fronts::{
+    Front, front_of, front_place, let_front_go, let_whole_go, put_front, put_whole, whole_place,
+};
 use git_object::ObjectId;
 use octets::Memory;
 use std::collections::BTreeMap;
 
-/// The place of an id, where it has one.
-pub fn place_at(places: &BTreeMap<ObjectId, usize>, id: &ObjectId) -> Option<usize>
-    ensures { result ≡ tree.get by_bytes places.now id.now }
-{
-    places.get(id).copied()
+/// The place of each id: under its first four bytes, and under the whole id where these have the place of another id
+/// or the place needs more than 32 bits. A place of 32 bits under four bytes takes a quarter of what one under a whole
+/// id does. Whoever makes ids that begin alike has each of them stand whole, as all ids would in a map of ids.
+#[derive(Drop)]
+pub struct Places {
+    pub fronts: BTreeMap<Front, u32>,
+    pub wholes: BTreeMap<ObjectId, usize>,
 }
 
-// Keeps a place under an id. After a refusal nothing has changed.
-fn put_place(
-    places: &mut BTreeMap<ObjectId, usize>,
-    id: &ObjectId,
-    place: usize,
-) -> Result<(), Memory>
-    ensures put { OnOk result ((q : List ℕ) → tree.get by_bytes places.new q
-        ≡ (if is_eq (by_bytes id.now q) then Some place else tree.get by_bytes places.old q)) }
-    ensures same { OnErr result (places.new.entries ≡ places.old.entries) }
+// Whether an item is there and stands under an id.
+fn stands_at<T: Identified>(items: &[T], at: usize, id: &ObjectId) -> bool
+    ensures { result ≡ stands_under T.id (slice_get items.now at) id.now }
 {
-    let _had = places.insert(*id, place)?;
-    Ok(())
-}
-
-// Lets the place of an id go.
-fn drop_place(places: &mut BTreeMap<ObjectId, usize>, id: &ObjectId)
-    ensures { (q : List ℕ) → tree.get by_bytes places.new q
-        ≡ (if is_eq (by_bytes id.now q) then None else tree.get by_bytes places.old q) }
-{
-    let _had = places.remove(id);
-}
-
-// Keeps the place of the last item under its id, which keeps an earlier place. After a refusal nothing has changed.
-fn put_last(
-    places: &mut BTreeMap<ObjectId, usize>,
-    id: &ObjectId,
-    place: usize,
-) -> Result<(), Memory>
-    ensures put { OnOk result ((q : List ℕ) → tree.get by_bytes places.new q
-        ≡ placed_last (tree.get by_bytes places.old q) (bytes_eq id.now q) place) }
-    ensures same { OnErr result (places.new.entries ≡ places.old.entries) }
-{
-    match place_at(places, id) {
-        Some(_) => Ok(()),
-        None => put_place(places, id, place),
+    match items.get(at) {
+        Some(item) => item.id() == *id,
+        None => false,
     }
+}
+
+/// The place of an id, where it has one.
+pub fn place_at<T: Identified>(items: &[T], places: &Places, id: &ObjectId) -> Option<usize>
+    ensures { result ≡ told_place T.id items.now (place_in places.now.fronts) (place_in places.now.wholes) id.now }
+{
+    if let Some(place) = whole_place(&places.wholes, id) {
+        return Some(place);
+    }
+    match front_place(&places.fronts, &front_of(id)) {
+        Some(place) if stands_at(items, place, id) => Some(place),
+        _ => None,
+    }
+}
+
+// Keeps the place of an id that has none. After a refusal nothing has changed.
+fn put_place(places: &mut Places, id: &ObjectId, place: usize) -> Result<(), Memory>
+    ensures put { OnOk result (IsPut (place_in places.old.fronts) (place_in places.old.wholes)
+        (place_in places.new.fronts) (place_in places.new.wholes) id.now place) }
+    ensures same_fronts { OnErr result (places.new.fronts.entries ≡ places.old.fronts.entries) }
+    ensures same_wholes { OnErr result (places.new.wholes.entries ≡ places.old.wholes.entries) }
+{
+    let front = front_of(id);
+    if place <= 0xffff_ffff && front_place(&places.fronts, &front).is_none() {
+        return put_front(&mut places.fronts, &front, place as u32);
+    }
+    put_whole(&mut places.wholes, id, place)
+}
+
+// Adds an item at the end. A full list grows by an eighth, since one that doubles keeps room for as much again.
+fn add_item<T: Drop>(items: &mut Vec<T>, item: T) -> Result<(), Memory>
+    ensures added { OnOk result (items.new.items ≡ items.old.items ++ item ∷ []) }
+    ensures same { OnErr result (items.new.items ≡ items.old.items) }
+{
+    let count = items.len();
+    if count == items.capacity() {
+        items.reserve_exact(count / 8 + 4)?;
+    }
+    items.push(item)?;
+    Ok(())
 }
 
 /// Adds an item at the end. After a refusal nothing has changed.
 pub fn push_item<T: Identified>(
     items: &mut Vec<T>,
-    places: &mut BTreeMap<ObjectId, usize>,
+    places: &mut Places,
     item: T,
 ) -> Result<(), Memory>
-    requires index { AreIndexed T.id items.old.items places.old }
+    requires told { AreTold T.id items.old.items (place_in places.old.fronts) (place_in places.old.wholes) }
     ensures added { OnOk result (items.new.items ≡ items.old.items ++ item ∷ []) }
     ensures same { OnErr result (items.new.items ≡ items.old.items) }
-    ensures index { AreIndexed T.id items.new.items places.new }
+    ensures told { AreTold T.id items.new.items (place_in places.new.fronts) (place_in places.new.wholes) }
 {
     let id = item.id();
     let place = items.len();
-    if items.push(item).is_err() {
-        return Err(Memory);
+    let has = place_at(items.as_slice(), places, &id).is_some();
+    add_item(items, item)?;
+    if has {
+        return Ok(());
     }
-    match put_last(places, &id, place) {
+    match put_place(places, &id, place) {
         Ok(()) => Ok(()),
         Err(Memory) => {
             let _last = items.pop();
@@ -83,27 +97,17 @@ pub fn push_item<T: Identified>(
     }
 }
 
-// Whether an id has just this place.
-fn is_at(places: &BTreeMap<ObjectId, usize>, id: &ObjectId, place: usize) -> bool
-    ensures { IsTrue result ↔ (tree.get by_bytes places.now id.now ≡ Some place) }
-{
-    match place_at(places, id) {
-        Some(found) => found == place,
-        None => false,
-    }
-}
-
 /// Takes the last item away, if there is one.
-pub fn pop_item<T: Identified>(items: &mut Vec<T>, places: &mut BTreeMap<ObjectId, usize>)
-    requires index { AreIndexed T.id items.old.items places.old }
+pub fn pop_item<T: Identified>(items: &mut Vec<T>, places: &mut Places)
+    requires told { AreTold T.id items.old.items (place_in places.old.fronts) (place_in places.old.wholes) }
     ensures items { items.new.items ≡ take (length items.old.items - 1) items.old.items }
-    ensures index { AreIndexed T.id items.new.items places.new }
+    ensures told { AreTold T.id items.new.items (place_in places.new.fronts) (place_in places.new.wholes) }
 {
     let Some(last) = items.pop() else {
         return;
     };
     let id = last.id();
-    if is_at(places, &id, items.len()) {
-        drop_place(places, &id);
-    }
+    let place = items.len();
+    let_front_go(&mut places.fronts, &front_of(&id), place);
+    let_whole_go(&mut places.wholes, &id, place);
 }

@@ -4,6 +4,7 @@
 
 #![tactic(auto)]
 
+mod fronts;
 mod index;
 pub mod laws;
 mod placed;

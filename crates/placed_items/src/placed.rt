@@ -5,7 +5,7 @@ ghost use Rattle.std.specs.Prelude.{OnOk, OnErr};
 ghost use Rattle.std.specs.Option.{option_copied};
 ghost use Rattle.placed_items.specs.Places.{has_id, place_of};
 
-use crate::index::{place_at, pop_item, push_item};
+use crate::index::{Places, place_at, pop_item, push_item};
 use git_object::ObjectId;
 use octets::Memory;
 use std::alloc::Global;
@@ -35,18 +35,18 @@ impl Identified for ObjectId {
 #[derive(Drop)]
 pub struct Placed<T: Identified> {
     items: Vec<T>,
-    places: BTreeMap<ObjectId, usize>,
+    places: Places,
 }
 
 impl<T: Identified> Model for Placed<T> {
     ghost use Rattle.std.specs.Prelude.{List};
-    ghost use Rattle.placed_items.specs.Places.{AreIndexed};
+    ghost use Rattle.placed_items.specs.Fronts.{AreTold, place_in};
 
     ghost Value = { List T };
 
     ghost view = { λ s. s.items.items };
 
-    ghost invariant = { λ s. AreIndexed T.id s.items.items s.places };
+    ghost invariant = { λ s. AreTold T.id s.items.items (place_in s.places.fronts) (place_in s.places.wholes) };
 }
 
 impl<T: Identified> Placed<T> {
@@ -56,7 +56,10 @@ impl<T: Identified> Placed<T> {
     {
         Placed {
             items: Vec::new(alloc),
-            places: BTreeMap::new(alloc),
+            places: Places {
+                fronts: BTreeMap::new(alloc),
+                wholes: BTreeMap::new(alloc),
+            },
         }
     }
 
@@ -90,7 +93,7 @@ impl<T: Identified> Placed<T> {
     {
         // It is less than this, so that there is a next number.
         let _count = self.len();
-        place_at(&self.places, id)
+        place_at(self.items.as_slice(), &self.places, id)
     }
 
     /// Whether an item stands under this id.

@@ -1,6 +1,9 @@
 -- A store of any kind may go to another thread.
 use denote.Param.Send.{IsSend, AllSend, sendable, struct_send, recorded_send, param_send}
 use denote.Struct.Declared.{shape}
+use Rattle.std.specs.Prelude.{None, false, true}
+use Rattle.keeper_api.specs.declared.keepers.Keeper.{Ghosts}
+use Rattle.cached_keeper.proofs.cached.CachedKeeper.TheSendSync as cached
 use Rattle.either_kind.proofs.either_keeper.EitherKeeper.TheSendSync as either
 use Rattle.keeper_api.proofs.memory_keeper.MemKeeper.TheSendSync as memory
 use Rattle.keeper_directory.proofs.dir_keepers.DirKeeper.TheSendSync as folder
@@ -20,8 +23,20 @@ use Rattle.program_stores.specs.contracts.any.AnyKeeper.{the_row, the_type}
 host_send : IsSend host.the_row
 host_send = search sendable depth 9
 
+-- what a store in a folder tells: nothing
+abbrev folder_ghosts : Ghosts (dir.the_row libc.the_row file.the_row names.the_row).Denot
+folder_ghosts = record {
+  content = λ _. None;
+  tells_left = λ _. false;
+  left = λ _ _. ⊥;
+  is_clean = λ _. true;
+  faults = λ k. k.faults;
+  reads = λ k. k.reads;
+  comes = λ _ _. Unit {0};
+}
+
 fields : AllSend (shape the_type).fields
-fields = (either.the_field_send _ _ memory.the_send (either.the_send (dir.the_row libc.the_row file.the_row names.the_row) _ (folder.the_send _ _ _ runtime.the_send) (database.the_send _ _ (store.the_send _ _ (modelled.the_send host.the_row unseen.the_row _ _ host_send)))), tt)
+fields = (either.the_field_send _ _ memory.the_send (either.the_send _ _ (cached.the_send (dir.the_row libc.the_row file.the_row names.the_row) folder_ghosts (folder.the_send _ _ _ runtime.the_send)) (database.the_send _ _ (store.the_send _ _ (modelled.the_send host.the_row unseen.the_row _ _ host_send)))), tt)
 
 pub row_send : IsSend the_row
 row_send = recorded_send _ _ _ the_type.to_one (struct_send (shape the_type) fields)

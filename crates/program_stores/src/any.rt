@@ -7,6 +7,7 @@ ghost use Rattle.keeper_api.specs.Keepers.{same_tells};
 ghost use Rattle.either_kind.specs.Keepers.{comes_of_itself, tells_of_kind};
 ghost use Rattle.program_stores.specs.Telling.{tells_nothing};
 
+use cached_keeper::CachedKeeper;
 use either_kind::EitherKeeper;
 use git_object::{Object, ObjectId, RefName};
 use keeper_api::{Change, Keeper, KeeperFault, MemKeeper, RefValue};
@@ -17,7 +18,10 @@ use std::alloc::Global;
 
 type Database = SqlKeeper<FileStore<File>>;
 
-type Kept = EitherKeeper<DirKeeper, Database>;
+/// A store in a folder, with a cache before it.
+pub(crate) type Folder = CachedKeeper<DirKeeper>;
+
+type Kept = EitherKeeper<Folder, Database>;
 
 /// A store in memory, in a folder, or in a database file, by its kind.
 pub(crate) type Kinds = EitherKeeper<MemKeeper, Kept>;
@@ -79,7 +83,7 @@ impl Keeper for AnyKeeper {
     ghost held_is_left = { λ _ r told. absurd (false≢true told) };
 
     ghost comes_self = { λ k. comes_of_itself ⟦<MemKeeper as Keeper>⟧.comes ⟦<Kept as Keeper>⟧.comes (λ _. tt)
-        (comes_of_itself ⟦<DirKeeper as Keeper>⟧.comes ⟦<Database as Keeper>⟧.comes (λ _. tt)
+        (comes_of_itself ⟦<Folder as Keeper>⟧.comes ⟦<Database as Keeper>⟧.comes (λ _. tt)
         (λ d. record { later = le_refl d.faults; on = same_tells _ _ _ d.faults d.faults })) k.kind };
 
     ghost comes_tells = { λ a b came. tells_nothing (tells_of_kind
@@ -93,9 +97,9 @@ impl Keeper for AnyKeeper {
           left = λ now few same told. told;
         })
         (tells_of_kind
-        ⟦<DirKeeper as Keeper>⟧.comes ⟦<DirKeeper as Keeper>⟧.content ⟦<DirKeeper as Keeper>⟧.tells_left
-        ⟦<DirKeeper as Keeper>⟧.is_clean ⟦<DirKeeper as Keeper>⟧.faults
+        ⟦<Folder as Keeper>⟧.comes ⟦<Folder as Keeper>⟧.content ⟦<Folder as Keeper>⟧.tells_left
+        ⟦<Folder as Keeper>⟧.is_clean ⟦<Folder as Keeper>⟧.faults
         ⟦<Database as Keeper>⟧.comes ⟦<Database as Keeper>⟧.content ⟦<Database as Keeper>⟧.tells_left
         ⟦<Database as Keeper>⟧.is_clean ⟦<Database as Keeper>⟧.faults
-        (λ k l met. same_tells None false true k.faults l.faults) (λ k l met. met.on)) a.kind b.kind came) };
+        (λ k l met. same_tells None false true k.0.faults l.0.faults) (λ k l met. met.on)) a.kind b.kind came) };
 }

@@ -6,7 +6,8 @@ ghost use Rattle.endings.specs.declared.ending.Part.TheVariants as part;
 ghost use Rattle.endings.specs.declared.ending.Refusal.TheVariants as refusal;
 ghost use Rattle.program_stores.specs.Opening.{IsFaultStatus, IsOfKind, IsRefusal};
 
-use crate::any::AnyKeeper;
+use crate::any::{AnyKeeper, Folder};
+use cached_keeper::CachedKeeper;
 use command_words::Store;
 use either_kind::EitherKeeper;
 use endings::{Part, Refusal};
@@ -18,8 +19,8 @@ use sqlite::{File, FileStore};
 
 const FAULT: Refusal = Refusal::Fault { part: Part::Keeper };
 
-// The store in a folder.
-fn open_folder(rt: &HostRuntime, folder: &str, to_change: bool) -> Result<DirKeeper, u8>
+// The store in a folder, with a cache before it: what is read twice is opened and hashed once.
+fn open_folder(rt: &HostRuntime, folder: &str, to_change: bool) -> Result<Folder, u8>
     ensures { IfErr result IsFaultStatus }
 {
     let opened = if to_change {
@@ -28,7 +29,7 @@ fn open_folder(rt: &HostRuntime, folder: &str, to_change: bool) -> Result<DirKee
         DirKeeper::to_read(rt, rt.alloc(), folder)
     };
     match opened {
-        Ok(keeper) => Ok(keeper),
+        Ok(keeper) => Ok(CachedKeeper::new(rt.alloc(), keeper)),
         Err(OpenFault::Failed) => Err(refuse(rt.stderr(), &FAULT)),
         Err(OpenFault::Memory) => Err(refuse(rt.stderr(), &Refusal::Memory)),
     }
@@ -81,7 +82,9 @@ pub fn open_store(rt: &HostRuntime, store: Store, to_change: bool) -> Result<Any
 fn is_ended(rt: &HostRuntime, keeper: AnyKeeper) -> bool {
     match keeper.kind {
         EitherKeeper::First(_) => true,
-        EitherKeeper::Second(EitherKeeper::First(folder)) => folder.end(rt.alloc()).is_ok(),
+        EitherKeeper::Second(EitherKeeper::First(folder)) => {
+            folder.into_inner().end(rt.alloc()).is_ok()
+        }
         EitherKeeper::Second(EitherKeeper::Second(database)) => database.end().is_ok(),
     }
 }

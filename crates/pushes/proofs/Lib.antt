@@ -1,3 +1,4 @@
+pub mod Ends
 pub mod ObjectLines
 pub mod Fronts
 pub mod Finding

@@ -13,6 +13,10 @@ use Rattle.pushes.specs.Pushes.{AreOwn}
 use Rattle.pushes.specs.declared.push_faults.PushFault.{PushFault}
 use Rattle.pushes.specs.declared.push_faults.PushFault.TheVariants.{Malformed, TooLarge, Memory}
 
+-- this stands at the end of the whole text
+abbrev pub IsEndOf : List ℕ → List ℕ → Type 0
+IsEndOf whole rest = (front : List ℕ) × (whole ≡ front ++ rest)
+
 -- the line of an object whose size passes the limit stands in front, and this is told of the size
 pub record HasHuge (rest : List ℕ) (told : ℕ) : Type 0 where
   pub id : List ℕ

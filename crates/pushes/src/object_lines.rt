@@ -11,13 +11,15 @@ ghost use Rattle.git_object.specs.Repository.{largest_body};
 ghost use Rattle.git_object.specs.declared.kinds.Kind.{Kind};
 ghost use Rattle.clone_stream.specs.Reading.{ComesAfter, last_of};
 ghost use Rattle.clone_stream.specs.Streams.{IsOwn, object_line, object_record};
-ghost use Rattle.pushes.specs.Fronts.{EndsObjects, HasHuge, IsObjects, IsTooLarge, StopsHuge, StopsObjects};
+ghost use Rattle.std.specs.Arc.{arc_value};
+ghost use Rattle.pushes.specs.Fronts.{EndsObjects, HasHuge, IsEndOf, IsObjects, IsTooLarge, StopsHuge, StopsObjects};
 
 use crate::PushFault;
 use clone_stream::{follows_object, split_head};
-use git_object::{Kind, LARGEST_BODY, Object, ObjectId, Objects};
+use git_object::{Kind, LARGEST_BODY, Object, ObjectId, Objects, id_of};
 use octets::{Memory, Octets};
 use std::alloc::Global;
+use std::sync::Arc;
 use text_reader::{
     NumberFault, read_decimal_within, same_bytes, split_front, split_line, strip_front,
 };
@@ -80,15 +82,35 @@ fn size_of(digits: &[u8]) -> Result<Option<u64>, PushFault>
     }
 }
 
+// An object whose body stands in front of what ends the whole text, of which it is a part.
+fn object_in(
+    alloc: Global,
+    whole: &Arc<Octets>,
+    id: ObjectId,
+    kind: Kind,
+    body: &[u8],
+    text: &[u8],
+) -> Result<Object, Memory>
+    requires ends { IsEndOf (arc_value whole.now) text.now }
+    requires front { (rest : List ℕ) × (text.now ≡ body.now ++ rest) }
+    requires own { id ≡ object_id kind body.now }
+    ensures { IfOk result (λ object. object ≡ record { kind = kind; body = body.now }) }
+{
+    let from = whole.as_slice().len() - text.len();
+    Object::shared(alloc, id, kind, whole, from, from + body.len())
+}
+
 // The object of a head: a body of this size with this id, and the line feed after it.
 fn object_of<'a>(
     alloc: Global,
+    whole: &Arc<Octets>,
     id: &ObjectId,
     kind: Kind,
     size: u64,
     text: &'a [u8],
 ) -> Result<Option<(Object, &'a [u8])>, Memory>
-    requires { size ≤ largest_body }
+    requires small { size ≤ largest_body }
+    requires ends { IsEndOf (arc_value whole.now) text.now }
     ensures found { IfOk result (λ found. IfSome found (λ parts. text.now ≡ parts.0.body ++ 10 ∷ parts.1.now)) }
     ensures own { IfOk result (λ found. IfSome found (λ parts. (pair_id parts.0 ≡ id.now) × (parts.0.kind ≡ kind)
         × (length parts.0.body ≡ size))) }
@@ -101,20 +123,22 @@ fn object_of<'a>(
     let Some(rest) = strip_front(parts.1, b"\n") else {
         return Ok(None);
     };
-    let object = Object::new(alloc, kind, Octets::from_slice(alloc, parts.0)?)?;
-    let found = object.id();
+    let found = id_of(kind, parts.0);
     if !same_bytes(found.as_bytes(), id.as_bytes()) {
         return Ok(None);
     }
+    let object = object_in(alloc, whole, found, kind, parts.0, text)?;
     Ok(Some((object, rest)))
 }
 
 // The object whose record stands in front and may come after these, and what follows it.
 fn next_object<'a>(
     alloc: Global,
+    whole: &Arc<Octets>,
     objects: &[Object],
     text: &'a [u8],
 ) -> Result<Option<(Object, &'a [u8])>, PushFault>
+    requires { IsEndOf (arc_value whole.now) text.now }
     ensures found { IfOk result (λ found. IfSome found (λ parts. text.now ≡ object_record (pair_id parts.0, parts.0)
         ++ parts.1.now)) }
     ensures own { IfOk result (λ found. IfSome found (λ parts. IsOwn (pair_id parts.0, parts.0))) }
@@ -133,21 +157,24 @@ fn next_object<'a>(
     if !follows_object(objects, &id) {
         return Ok(None);
     }
-    Ok(object_of(alloc, &id, head.1, size, head.3)?)
+    Ok(object_of(alloc, whole, &id, head.1, size, head.3)?)
 }
 
-/// The objects that stand in front by rising ids, and what follows the last of them.
+/// The objects that stand in front of what ends the whole text by rising ids, and what follows the last of them. Their
+/// bodies are parts of the whole.
 pub(crate) fn read_objects<'a>(
     alloc: Global,
+    whole: &Arc<Octets>,
     text: &'a [u8],
 ) -> Result<(Objects, &'a [u8]), PushFault>
+    requires { IsEndOf (arc_value whole.now) text.now }
     ensures found { IfOk result (λ found. IsObjects text.now found.0 found.1.now) }
     ensures huge { IfErr result (StopsObjects text.now) }
 {
     let mut objects = Objects::new(alloc);
     let mut rest = text;
     'objects: loop {
-        let Some((object, more)) = next_object(alloc, objects.as_slice(), rest)? else {
+        let Some((object, more)) = next_object(alloc, whole, objects.as_slice(), rest)? else {
             return Ok((objects, rest));
         };
         objects.push(object)?;

@@ -45,8 +45,8 @@ returns-in-Ok-end_within-2-clause-refused g c =
     (ended_cut largest_stream c.read_parts.new.reader (g.S.Source.left c.read_parts.new.source) first (g.S.Source.left c.end_within-2.new.source) (ahead reader first) (c.read_parts.ensures.reads.limit ∙ ap (λ (r : Reading). r.limit) c.new-reader.ensures) start beyond reader c.in-Err.fault
     c.in-Err.ensures.bad (c.is_cut.ensures.0 c.if-not-is_cut.false) c.in-Err.ensures.reads.stops c.in-Ok-end_within-2.ensures.within)
 
-pub returns-in-Err-end_within-2-clause-refused : goal.returns-in-Err-end_within-2-clause-refused
-returns-in-Err-end_within-2-clause-refused g c =
+pub returns-clause-refused : goal.returns-clause-refused
+returns-clause-refused g c =
     let first = g.S.Source.left c.args.source.now in
     let reader = c.new-reader.result in
     let start : ahead reader first ≡ option_map (take largest_stream) first = new_ahead reader largest_stream first c.new-reader.ensures in

@@ -1,4 +1,4 @@
-use Rattle.std.proofs.Common.{ℕ, List, refl, sym, subst}
+use Rattle.std.proofs.Common.{refl, sym, subst}
 use Rattle.desk_requests.specs.declared.requests.Asked.{Asked}
 use Rattle.desk_serving.specs.Connections.{Answered}
 use Rattle.desk_serving.specs.declared.connections.End.TheVariants.{LinkFailed, Silent}
@@ -23,7 +23,7 @@ returns-in-Stream-clause-answered g c =
 pub returns-in-Push-clause-answered : goal.returns-in-Push-clause-answered
 returns-in-Push-clause-answered g c =
     subst (λ (a : Asked). Answered g.D.Serves g.K.Sink c.args.desk.now a c.args.seat.now c.push.new.seat c.args.sink.now c.tell_pushed.new.sink c.tell_pushed.result) (sym c.in-Push.is)
-    (push g.D.Serves g.K.Sink c.args.desk.now c.args.seat.now c.push.new.seat c.args.sink.now c.tell_pushed.new.sink c.tell_pushed.result _ c.push.result (subst (λ (b : List ℕ). g.D.Serves.pushes c.args.desk.now b c.args.seat.now c.push.new.seat c.push.result) c.as_slice.ensures c.push.ensures.answer) c.tell_pushed.ensures)
+    (push g.D.Serves g.K.Sink c.args.desk.now c.args.seat.now c.push.new.seat c.args.sink.now c.tell_pushed.new.sink c.tell_pushed.result _ c.push.result c.push.ensures.answer c.tell_pushed.ensures)
 
 pub returns-in-Refused-clause-answered : goal.returns-in-Refused-clause-answered
 returns-in-Refused-clause-answered g c =

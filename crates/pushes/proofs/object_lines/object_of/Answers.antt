@@ -1,6 +1,5 @@
-use Rattle.std.proofs.Common.{sym, ap, ◌∙◌}
+use Rattle.std.proofs.Common.{sym, ◌∙◌}
 use Rattle.std.proofs.lemmas.Bool.{false≢true}
-use Rattle.git_object.specs.Objects.{object_id, pair_id}
 use Rattle.pushes.proofs.ObjectLines.{no_feed, other_id}
 use Rattle.pushes.proofs.object_lines.object_of.Goals as goal
 
@@ -13,5 +12,4 @@ pub returns-then-not-same_bytes-clause-none : goal.returns-then-not-same_bytes-c
 returns-then-not-same_bytes-clause-none c =
     other_id c.args.text.now c.in-Some.parts.0.now c.in-Some.parts.1.now c.args.id.now c.args.kind c.args.size c.in-Some.ensures.found c.in-Some.ensures.len
     (λ same. false≢true (sym c.if-not-same_bytes.true
-    ∙ c.same_bytes.ensures.1 (c.as_bytes.ensures.bytes ∙ c.id-found.ensures ∙ ap pair_id c.in_ok-object.ensures
-    ∙ ap (object_id c.args.kind) c.in_ok-from_slice.ensures ∙ same ∙ sym c.as_bytes-2.ensures.bytes)))
+    ∙ c.same_bytes.ensures.1 (c.as_bytes.ensures.bytes ∙ c.id_of-found.ensures ∙ same ∙ sym c.as_bytes-2.ensures.bytes)))

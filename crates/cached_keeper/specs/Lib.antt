@@ -1,0 +1,2 @@
+-- what is cached, that it stands in a repository, and how much it is
+pub mod Caching
