@@ -17,8 +17,10 @@ PROGRAM = os.path.join(TOP, "crates", "gittuf", "out", "gittuf")
 SMALL_PROGRAM = os.path.join(TOP, "crates", "source_check", "out", "source_check")
 RELEASE = os.path.join(TOP, "release")
 PLAIN, NEWER = "x86-64-v2", "x86-64-v3"
-# The name of the program gittuf-inspect in a package, and what stands there beside it.
+# The names of the program gittuf-inspect in a package, which runs on each processor and is faster on a newer one, and what
+# stands there beside it.
 INSPECT = "gittuf-inspect"
+NEWER_INSPECT = f"{INSPECT}-{NEWER}"
 INSPECT_COMPLETION = {
     "share/bash-completion/completions/gittuf-inspect": "gittuf.bash",
     "share/zsh/vendor-completions/_gittuf-inspect": "_gittuf-inspect",
@@ -195,7 +197,7 @@ def deb_of(number, says, files, links, seconds):
 
 def packages_of(programs, number, commit, kit, changed=""):
     """The package and the archive by their names, of programs by theirs, which this kit built of a commit."""
-    cpus = " and ".join(it.removeprefix("gittuf-") for it in sorted(programs) if it.startswith("gittuf-") and it != INSPECT)
+    cpus = " and ".join(it.removeprefix("gittuf-") for it in sorted(programs) if it.startswith("gittuf-") and not it.startswith(INSPECT))
     says = f"built for {cpus} by {kit}"
     files = files_of(programs, f"{number}; commit {commit}{changed}, {says}")
     linked = {**LINKS, **({INSPECT: INSPECT} if INSPECT in programs else {})}

@@ -8,7 +8,7 @@ import packages
 from stream_format import Refused
 
 SMALL = "source_check"
-PROGRAMS = (SMALL, f"gittuf-{packages.PLAIN}", f"gittuf-{packages.NEWER}", packages.INSPECT)
+PROGRAMS = (SMALL, f"gittuf-{packages.PLAIN}", f"gittuf-{packages.NEWER}", packages.INSPECT, packages.NEWER_INSPECT)
 
 
 def sum_of(body):

@@ -1,5 +1,6 @@
 """The checks of tools/test on what git gittuf takes from gittuf-inspect: what it tells as its page has it, and nothing else."""
 
+import contextlib
 import json
 import os
 import shutil
@@ -164,6 +165,41 @@ def is_the_released_one(repositories):
         want(stands.lines_in("told"), asked, f"what it is asked where the small program ends with {status}")
 
 
+def is_for_the_processor(repositories):
+    """the gittuf-inspect for x86-64-v3 is asked where the processor is one, or GITTUF_CPU says so, and the other one elsewhere"""
+    stands = StandIn(another(repositories, "released for"), "stand-in")
+    stands.tells([])
+    os.remove(stands.at(stands.inspect))
+    stands.write("version", "gittuf 0\n")
+    for name in ("gittuf-inspect", "gittuf-inspect-x86-64-v3"):
+        stands.write(name, f"#!/bin/sh\necho {name} >> '{stands.at('told')}'\n")
+    own = "gittuf-inspect-x86-64-v3" if inspecting.is_newer() else "gittuf-inspect"
+    for cpu, asked in ((None, own), ("x86-64-v2", "gittuf-inspect"), ("x86-64-v3", "gittuf-inspect-x86-64-v3")):
+        stands.write("told", "")
+        with environment(GITTUF_CPU=cpu):
+            stands.ran("bob", "verify")
+        want(stands.lines_in("told")[:1], [asked], f"what is asked where GITTUF_CPU is {cpu}")
+    os.remove(stands.at("gittuf-inspect-x86-64-v3"))
+    stands.write("told", "")
+    stands.ran("bob", "verify")
+    want(stands.lines_in("told")[:1], ["gittuf-inspect"], "what is asked where it stands alone")
+
+
+@contextlib.contextmanager
+def environment(**words):
+    """Words of the environment for what runs meanwhile, none of those that are None."""
+    before = dict(os.environ)
+    for name, value in words.items():
+        os.environ.pop(name, None)
+        if value is not None:
+            os.environ[name] = value
+    try:
+        yield
+    finally:
+        os.environ.clear()
+        os.environ.update(before)
+
+
 def of_entry(clones, target, **more):
     entry = {"id": ZEROS, "kind": "reference", "number": 3, "prior": 2, "reference": MAIN, "signers": [], "target": target, "verdict": "authorised"}
     return {**entry, **more}
@@ -257,5 +293,6 @@ CHECKS = (
     takes_nothing_else,
     is_of_the_sources,
     is_the_released_one,
+    is_for_the_processor,
     signs_nothing_unlawful,
 )

@@ -90,12 +90,13 @@ def runs_where_it_is_installed(repositories):
         want(answer("git", "gittuf", "verify", "main", "topic", status=1), "".join(both), "the verdicts on both")
         # What stands beside the program is asked for several.
         told = [f'{{"reference":"refs/heads/{it}","verdict":"accepted","entries":7}}' for it in ("main", "topic")]
-        inspect = os.path.join(place, "lib", "gittuf", "gittuf-inspect")
-        if os.path.exists(inspect):
-            os.remove(inspect)
-        with open(inspect, "w", encoding="utf-8") as file:
-            file.write("#!/bin/sh\ncat <<END\n" + "\n".join(told) + "\nEND\n")
-        os.chmod(inspect, 0o755)
+        for name in ("gittuf-inspect", "gittuf-inspect-x86-64-v3"):
+            inspect = os.path.join(place, "lib", "gittuf", name)
+            if os.path.exists(inspect):
+                os.remove(inspect)
+            with open(inspect, "w", encoding="utf-8") as file:
+                file.write("#!/bin/sh\ncat <<END\n" + "\n".join(told) + "\nEND\n")
+            os.chmod(inspect, 0o755)
         found = answer("git", "gittuf", "verify", "main", "topic")
         want(found.splitlines(), [f"accepted refs/heads/{it} 7 entries" for it in ("main", "topic")], "the verdicts that are told beside the program")
         answer("git", "fsck", "--strict")

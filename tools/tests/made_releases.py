@@ -31,7 +31,7 @@ def programs_here():
     """The program that is here, under the name of each processor, the small one, and gittuf-inspect or what stands for it."""
     small, program = map(packages.stripped_file, (SMALL_PROGRAM, PROGRAM))
     inspect = packages.stripped_file(INSPECT) if os.path.exists(INSPECT) else b"#!/bin/sh\nexit 4\n"
-    return dict(zip(releases.PROGRAMS, (small, program, program, inspect)))
+    return dict(zip(releases.PROGRAMS, (small, program, program, inspect, inspect)))
 
 
 def stand_ins(text="$1"):

@@ -11,12 +11,14 @@ import re
 import subprocess
 
 from git_gittuf import program
-from git_gittuf.program import BUILT_INSPECT, PACKAGED_INSPECT
+from git_gittuf.program import BUILT_INSPECT
 from git_gittuf.repository import ZEROS, Stopped
 
 # Whose words it is asked at once, as far as a system lets a program have so many.
 MANY = 500
 ID = re.compile("[0-9a-f]{64}")
+# What a processor of x86-64-v3 has, as tools/build/which asks for it.
+NEWER = {b"avx", b"avx2", b"bmi1", b"bmi2", b"f16c", b"fma", b"abm", b"movbe"}
 # What a program prints as it is; all else of a name is escaped in a line.
 PRINTED = re.compile(rb"[!-$&-~]+")
 NAMES = re.compile(rb"[!-~]+")
@@ -39,11 +41,29 @@ def is_of_the_sources(folder):
     return subprocess.run(words, stdin=nothing, stdout=nothing, stderr=nothing, check=False).returncode == 0
 
 
+def is_newer():
+    """Whether programs for x86-64-v3 are to run here, as the launcher has it: where GITTUF_CPU says so, or this processor is one."""
+    if asked := os.environ.get("GITTUF_CPU"):
+        return asked == "x86-64-v3"
+    try:
+        with open("/proc/cpuinfo", "rb") as file:
+            flags = next((it for it in file if it.startswith(b"flags")), b"")
+    except OSError:
+        return False
+    return set(flags.split()) >= NEWER
+
+
+def one_of(folder):
+    """The path of the one in a folder that is for this processor, or nothing where none can be run."""
+    names = (program.NEWER_INSPECT, program.INSPECT) if is_newer() else (program.INSPECT,)
+    return next((it for it in (os.path.join(folder, name) for name in names) if os.access(it, os.X_OK)), None)
+
+
 def released():
     """The path of the released one, or nothing where none that is of the sources here is unpacked."""
     for folder in program.released():
-        path = os.path.join(folder, program.INSPECT)
-        if os.access(path, os.X_OK) and is_of_the_sources(folder):
+        path = one_of(folder)
+        if path and is_of_the_sources(folder):
             return path
     return None
 
@@ -53,7 +73,7 @@ def place():
     """The path of the program gittuf-inspect, or nothing where none is here that is of these sources."""
     try:
         if os.path.exists(os.path.join(program.TOP, "version")):
-            return PACKAGED_INSPECT if os.access(PACKAGED_INSPECT, os.X_OK) else None
+            return one_of(program.TOP)
         return BUILT_INSPECT if os.access(BUILT_INSPECT, os.X_OK) and not changed_since(BUILT_INSPECT) else released()
     except OSError:
         return None

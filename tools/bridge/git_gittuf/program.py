@@ -13,12 +13,11 @@ TOP = os.path.dirname(os.path.dirname(os.path.dirname(os.path.dirname(os.path.re
 LAUNCHER = os.path.join(TOP, "gittuf")
 # What a command of the program is asked of.
 CALLED = LAUNCHER
-# The name of gittuf-inspect where it is packed or released.
-INSPECT = "gittuf-inspect"
+# The names of gittuf-inspect where it is packed or released, for each processor and for a newer one.
+INSPECT, NEWER_INSPECT = "gittuf-inspect", "gittuf-inspect-x86-64-v3"
 # What the launcher looks at, in each of the places where a program may be.
-NAMES = ("gittuf", "gittuf-x86-64-v2", "gittuf-x86-64-v3", INSPECT, "gittuf.cpu", "gittuf.sources", "version")
-# Where the program gittuf-inspect stands in a package, or was built here.
-PACKAGED_INSPECT = os.path.join(TOP, INSPECT)
+NAMES = ("gittuf", "gittuf-x86-64-v2", "gittuf-x86-64-v3", INSPECT, NEWER_INSPECT, "gittuf.cpu", "gittuf.sources", "version")
+# Where the program gittuf-inspect was built here.
 BUILT_INSPECT = os.path.join(TOP, "crates", "gittuf_inspect", "out", "gittuf_inspect")
 # A person waits so many seconds before something is said.
 PATIENCE = 2
@@ -33,7 +32,7 @@ def released():
 def files():
     """The files that decide which programs run and what they are: those that are built, released or packaged here, and their sources."""
     folders = [TOP, os.path.join(TOP, "crates", "gittuf", "out"), *released()]
-    found = [PACKAGED_INSPECT, BUILT_INSPECT, *(os.path.join(folder, name) for folder in folders for name in NAMES)]
+    found = [BUILT_INSPECT, *(os.path.join(folder, name) for folder in folders for name in NAMES)]
     for folder in folders[1:]:
         try:
             with open(os.path.join(folder, "gittuf.files"), encoding="utf-8") as file:
