@@ -1,6 +1,7 @@
 //! What the policy that an entry brings into force changes of the one before it.
 
-ghost use Rattle.std.specs.Prelude.{◌≡◌, Some, true, IfOk};
+ghost use Rattle.std.specs.Prelude.{◌≡◌, Some, true, false, IfOk};
+ghost use Rattle.std.specs.Str.{bytes_eq};
 ghost use Rattle.std.specs.Option.{option_copied};
 ghost use Rattle.rsl_chain.specs.Entries.{is_of};
 ghost use Rattle.git_object.specs.References.{policy_name};
@@ -108,7 +109,7 @@ fn change_by(
 }
 
 /// What a proposed entry of the policy's reference would change of the policy in force, whether or not it brought its
-/// own into force: None for another reference, and where one of the two policies is none.
+/// own into force: None for another reference, of which nothing is read, and where one of the two policies is none.
 pub(crate) fn would_change<R: Keeper>(
     alloc: Global,
     keeper: &mut R,
@@ -117,6 +118,7 @@ pub(crate) fn would_change<R: Keeper>(
 ) -> Result<Option<PolicyChange>, KeeperFault>
     ensures changed { IfOk result (λ changed. (r : Repository) → R.content keeper.new ≡ Some r
         → changed ≡ would_change (option_copied policy.entry) r proposed.now) }
+    ensures unread { bytes_eq proposed.now.name policy_name ≡ false → R.reads keeper.new ≡ R.reads keeper.old }
     ensures same { Undisturbed R.Keeper keeper.old keeper.new }
     ensures cause { HasCause keeper_failed (R.faults keeper.old) (R.faults keeper.new) result }
 {

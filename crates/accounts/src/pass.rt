@@ -8,7 +8,7 @@ ghost use Rattle.git_object.specs.Repository.{Repository};
 ghost use Rattle.keeper_api.specs.Undisturbed.{Undisturbed};
 ghost use Rattle.rsl_chain.specs.Entries.{Taken};
 ghost use Rattle.rsl_chain.specs.declared.entries.Entry.{Entry};
-ghost use Rattle.rsl_chain.specs.Logs.{IsLogOf, IsNamed, IsUnbroken, entry_at, log_failed};
+ghost use Rattle.rsl_chain.specs.Logs.{IsLogOf, IsUnbroken, entry_at, log_failed};
 ghost use Rattle.tree_paths.specs.Known.{AreKnownIn};
 ghost use Rattle.judging.specs.Engines.{has_taken, taken};
 ghost use Rattle.judging.specs.Reads.{is_bounded};

@@ -6,7 +6,7 @@ ghost use Rattle.octets.specs.Causes.{HasCause};
 ghost use Rattle.git_object.specs.Repository.{Repository};
 ghost use Rattle.keeper_api.specs.Undisturbed.{Undisturbed};
 ghost use Rattle.rsl_chain.specs.Entries.{Taken};
-ghost use Rattle.rsl_chain.specs.Logs.{IsUnbroken, log_failed};
+ghost use Rattle.rsl_chain.specs.Logs.{IsNamed, IsUnbroken, log_failed};
 ghost use Rattle.entry_rules.specs.Meeting.{git_name, may_act};
 ghost use Rattle.entry_rules.specs.RealRules.{real_rules};
 ghost use Rattle.would_be.specs.Would.{is_key_of};
@@ -126,6 +126,7 @@ fn tell_there<R: Keeper>(
     ensures unbroken { IfErr result (λ fault. (r : Repository) → R.content keeper.new ≡ Some r
         → (is : IsJudgedLog judged.now.engine.rules.anchor r judged.now) → IsAt is.log id.now number
         → IsUnbroken fault) }
+    ensures named { IfErr result (IsNamed id.now) }
     ensures same { Undisturbed R.Keeper keeper.old keeper.new }
     ensures cause { HasCause log_failed (R.faults keeper.old) (R.faults keeper.new) result }
     ensures reads { R.reads keeper.new ≤ R.reads keeper.old + 1 }
@@ -142,7 +143,7 @@ fn tell_there<R: Keeper>(
 
 /// The line of JSON that says of the entry of an id whether an annotation that lists it would skip it, if this key
 /// signed it now, behind a judged log and under the policy in force. It reads the entry, where the log has it. `Broken`
-/// does not come where the store still holds the repository that was judged.
+/// names it, and does not come where the store still holds the repository that was judged.
 pub fn tell_skip<R: Keeper>(
     alloc: Global,
     keeper: &mut R,
@@ -155,6 +156,7 @@ pub fn tell_skip<R: Keeper>(
         → IsToldSkip judged.now.engine.rules.anchor r key.now id.now told.line told.skips) }
     ensures unbroken { IfErr result (λ fault. (r : Repository) → R.content keeper.new ≡ Some r
         → IsJudgedLog judged.now.engine.rules.anchor r judged.now → IsUnbroken fault) }
+    ensures named { IfErr result (IsNamed id.now) }
     ensures same { Undisturbed R.Keeper keeper.old keeper.new }
     ensures cause { HasCause log_failed (R.faults keeper.old) (R.faults keeper.new) result }
     ensures reads { R.reads keeper.new ≤ R.reads keeper.old + 1 }
