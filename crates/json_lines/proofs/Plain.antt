@@ -1,6 +1,5 @@
 -- Bytes that stand for themselves between quotes, and digits among them.
-use Rattle.std.proofs.Common.{◌≡◌, ◌<◌, ◌≤◌, ◌/◌, ◌%◌, ◌++◌, ℕ, suc, zero, Bool, true, false, List, [], ◌∷◌, slice_index, append_assoc, arith, refl, ap, sym, ◌∙◌}
-use Rattle.std.specs.Prelude.{◌==◌, ◌&&◌, nat_le, not}
+use Rattle.std.proofs.Common.{◌≡◌, ◌<◌, ◌/◌, ◌%◌, ◌++◌, ℕ, suc, true, List, [], ◌∷◌, slice_index, append_assoc, arith, refl, ap, sym, ◌∙◌}
 use Rattle.std.specs.List.{AllPass, list_all}
 use Rattle.std.proofs.lemmas.Bool.{agree_below_at, and_from, and_parts}
 use Rattle.std.proofs.lemmas.Bool.Decides.{nat_tests}

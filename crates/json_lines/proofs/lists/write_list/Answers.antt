@@ -1,4 +1,4 @@
-use Rattle.std.proofs.Common.{◌++◌, ◌∷◌, [], append_assoc, ap, drop, false, ◌∙◌}
+use Rattle.std.proofs.Common.{◌++◌, ◌∷◌, [], append_assoc, ap, false, ◌∙◌}
 use Rattle.std.proofs.lemmas.Result.{on_ok_weaker}
 use Rattle.serde_json.specs.Written.{compact_text}
 use Rattle.json_lines.specs.Values.{list_data}
