@@ -26,7 +26,7 @@ use Rattle.account_lines.specs.Lines.{change_data, changed_members, difference_d
 use Rattle.account_lines.specs.declared.rows.EntryRow.{EntryRow}
 use Rattle.account_lines.specs.declared.rows.Later.{Later}
 
-fault_floatless : (fault : Fault) → has_float (fault_data fault) ≡ false
+pub fault_floatless : (fault : Fault) → has_float (fault_data fault) ≡ false
 unfolding fault_data
 fault_floatless NoPolicy = refl
 fault_floatless (Broken id) = refl
@@ -34,46 +34,11 @@ fault_floatless (RefRule rule got need) = rw (text_floatless rule) refl
 fault_floatless (PathRule path rule got need) = rw (text_floatless path, text_floatless rule) refl
 fault_floatless (NotEpoch why) = rw (text_floatless (fault_text why)) refl
 
-refusal_floatless : (verdict : EntryVerdict Fault) → has_float (refusal_data verdict) ≡ false
-refusal_floatless Authorised = refl
-refusal_floatless (Refused fault) = fault_floatless fault
-refusal_floatless Noted = refl
-
 difference_floatless : (told : Difference) → has_float (difference_data told) ≡ false
 difference_floatless told = rw (list_floatless text_data text_floatless told.added, list_floatless text_data text_floatless told.removed) refl
 
-change_floatless : (change : PolicyChange) → has_float (change_data change) ≡ false
+pub change_floatless : (change : PolicyChange) → has_float (change_data change) ≡ false
 change_floatless change = rw (difference_floatless change.keys, difference_floatless change.persons, difference_floatless change.rules, difference_floatless change.thresholds) refl
-
-changed_floatless : (change : Option PolicyChange) (rest : Members) → members_have_float rest ≡ false → members_have_float (changed_members change rest) ≡ false
-changed_floatless None rest h = h
-changed_floatless (Some change) rest h = rw (change_floatless change) h
-
-pub body_floatless : (entry : Entry) (row : EntryRow) (later : Later) (body : EntryBody) → has_float (body_data entry row later body) ≡ false
-body_floatless entry row later (Reference name target) =
-    rw (option_floatless text_data text_floatless (author_of entry.signed)) (changed_floatless row.changed _ (rw (
-      option_floatless number_data (λ _. refl) row.epoch,
-      refusal_floatless row.verdict,
-      option_floatless hex_data (λ _. refl) row.from,
-      option_floatless hex_data (λ _. refl) entry.signer,
-      list_floatless text_data text_floatless row.persons,
-      option_floatless number_data (λ _. refl) row.prior,
-      text_floatless name,
-      option_floatless number_data (λ _. refl) later.rescuer,
-      list_floatless hex_data (λ _. refl) row.signers,
-      option_floatless number_data (λ _. refl) later.skipper,
-      option_floatless number_data (λ _. refl) (option_and_then time_of (author_of entry.signed)),
-    ) refl))
-body_floatless entry row later (Annotation ids skip message) =
-    rw (
-      option_floatless text_data text_floatless (author_of entry.signed),
-      list_floatless hex_data (λ _. refl) ids,
-      option_floatless number_data (λ _. refl) row.epoch,
-      option_floatless hex_data (λ _. refl) entry.signer,
-      text_floatless message,
-      list_floatless text_data text_floatless row.persons,
-      option_floatless number_data (λ _. refl) (option_and_then time_of (author_of entry.signed)),
-    ) refl
 
 pub verdict_floatless : (name : List ℕ) (verdict : Verdict Fault) → has_float (verdict_data name verdict) ≡ false
 verdict_floatless name (Accepted count) = rw (text_floatless name) refl

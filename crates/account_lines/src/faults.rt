@@ -1,13 +1,14 @@
-//! The value of a fault.
+//! The value of a fault, and its text.
 
-ghost use Rattle.std.specs.Prelude.{◌≡◌, codes, IfOk, OnOk};
+ghost use Rattle.std.specs.Prelude.{◌≡◌, ◌++◌, codes, IfOk, OnOk};
 ghost use Rattle.serde_json.specs.Data.{member, no_members, object, string};
 ghost use Rattle.serde_json.specs.View.{members_view, view};
+ghost use Rattle.serde_json.specs.Written.{compact_text};
 ghost use Rattle.json_lines.specs.Values.{number_data, text_data};
 ghost use Rattle.account_lines.specs.Lines.{fault_data};
 
 use entry_rules::Fault;
-use json_lines::{hex_json, number_json, text_json, word_json};
+use json_lines::{hex_json, number_json, text_json, word_json, write_value};
 use octets::{Memory, Octets};
 use serde_json::{Map, Value, put};
 use std::alloc::Global;
@@ -88,4 +89,13 @@ pub(crate) fn fault_json(alloc: Global, fault: &Fault) -> Result<Value, Memory>
             Ok(Value::Object(fields))
         }
     }
+}
+
+/// Writes a fault.
+#[tactic(auto, using(crate::proofs::Floatless::fault_floatless))]
+pub(crate) fn write_fault(text: &mut Octets, fault: &Fault) -> Result<(), Memory>
+    ensures { OnOk result (text.new ≡ text.old ++ compact_text (fault_data fault.now)) }
+{
+    let value = fault_json(text.allocator(), fault)?;
+    write_value(text, &value)
 }

@@ -7,7 +7,6 @@
 mod changes;
 mod entries;
 mod faults;
-mod fields;
 mod made;
 mod mending;
 mod rows;

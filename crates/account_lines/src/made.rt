@@ -1,64 +1,42 @@
-//! Who made an entry, and when, and lists of texts.
+//! Who made an entry, and when.
 
-ghost use Rattle.std.specs.Prelude.{◌≡◌, IfOk, OnOk, ◌++◌, ◌∷◌, [], option_and_then};
-ghost use Rattle.serde_json.specs.View.{view};
-ghost use Rattle.json_lines.specs.Values.{list_data, text_data};
+ghost use Rattle.std.specs.Prelude.{◌≡◌, ◌++◌, codes, OnOk, option_and_then};
+ghost use Rattle.serde_json.specs.Data.{member};
+ghost use Rattle.serde_json.specs.Written.{compact_text};
+ghost use Rattle.json_lines.specs.Writing.{Opens};
 ghost use Rattle.entry_authors.specs.Authors.{author_of};
 ghost use Rattle.entry_authors.specs.Times.{time_of};
-ghost use Rattle.account_lines.specs.Lines.{author_data, time_data};
+ghost use Rattle.account_lines.specs.Lines.{author_data};
 
 use entry_authors::{author, time};
-use json_lines::{number_json, text_json};
+use json_lines::{first_name, write_null, write_text};
 use octets::{Memory, Octets};
 use rsl_chain::Entry;
-use serde_json::Value;
-use std::alloc::Global;
 
-/// The text of the author's line of an entry, or null where it has none.
-pub(crate) fn author_json(alloc: Global, entry: &Entry) -> Result<Value, Memory>
-    ensures { IfOk result (λ value. view value ≡ author_data entry.now) }
+// Writes the text of the author's line of an entry, or null where it has none.
+fn write_author(text: &mut Octets, entry: &Entry) -> Result<(), Memory>
+    ensures { OnOk result (text.new ≡ text.old ++ compact_text (author_data entry.now)) }
 {
     match author(entry.signed.as_slice()) {
-        Some(text) => text_json(alloc, text),
-        None => Ok(Value::Null),
+        Some(name) => write_text(text, name),
+        None => write_null(text),
     }
 }
 
-// The time in the author's line of an entry.
-fn time_of(entry: &Entry) -> Option<u64>
+/// Opens the object of an entry with who made it.
+pub(crate) fn open_with_author(text: &mut Octets, entry: &Entry) -> Result<(), Memory>
+    ensures { OnOk result (Opens (member (codes "author") (author_data entry.now)) text.old text.new) }
+{
+    first_name(text, "author")?;
+    write_author(text, entry)
+}
+
+/// The time in the author's line of an entry.
+pub(crate) fn time_of(entry: &Entry) -> Option<u64>
     ensures { result ≡ option_and_then time_of (author_of entry.now.signed) }
 {
     match author(entry.signed.as_slice()) {
         Some(text) => time(text),
         None => None,
     }
-}
-
-/// The time in the author's line of an entry, or null where it has none.
-pub(crate) fn time_json(entry: &Entry) -> Value
-    ensures { view result ≡ time_data entry.now }
-{
-    match time_of(entry) {
-        Some(seconds) => number_json(seconds),
-        None => Value::Null,
-    }
-}
-
-// Adds a value at the end.
-fn push(values: &mut Vec<Value>, value: Value) -> Result<(), Memory>
-    ensures { OnOk result (values.new.items ≡ values.old.items ++ value ∷ []) }
-{
-    Ok(values.push(value)?)
-}
-
-/// Texts, in their order.
-pub(crate) fn texts_json(alloc: Global, texts: &[Octets]) -> Result<Value, Memory>
-    ensures { IfOk result (λ value. view value ≡ list_data text_data texts.now) }
-{
-    let mut values = Vec::new(alloc);
-    'texts: for text in texts {
-        let value = text_json(alloc, text.as_slice())?;
-        push(&mut values, value)?;
-    }
-    Ok(Value::from(values))
 }

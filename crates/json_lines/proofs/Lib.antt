@@ -1,3 +1,5 @@
 mod Printable
+pub mod Plain
+mod Listing
 mod Wording
 pub mod Floatless

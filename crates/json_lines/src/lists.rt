@@ -2,12 +2,15 @@
 
 ghost use Rattle.std.specs.Prelude.{◌≡◌, ◌++◌, ◌∷◌, [], IfOk, OnOk};
 ghost use Rattle.std.specs.Option.{option_copied};
+ghost use Rattle.serde_json.specs.Data.{boolean};
 ghost use Rattle.serde_json.specs.View.{view};
-ghost use Rattle.json_lines.specs.Values.{hex_data, list_data, number_data, option_data};
+ghost use Rattle.serde_json.specs.Written.{comma_if, compact_text};
+ghost use Rattle.json_lines.specs.Values.{hex_data, list_data, number_data, option_data, text_data};
 
-use crate::texts::{hex_json, number_json};
-use git_object::{KeyId, ObjectId};
-use octets::Memory;
+use crate::texts::{hex_json, number_json, text_json};
+use crate::writing::{write_bool, write_hex, write_null, write_number, write_text};
+use git_object::{KeyId, ObjectId, RefName};
+use octets::{Items, Memory, Octets};
 use serde_json::Value;
 use std::alloc::Global;
 
@@ -21,6 +24,10 @@ pub trait ToJson: Sized {
     /// What is written for a value.
     fn to_json(&self, alloc: Global) -> Result<Value, Memory>
         ensures { IfOk result (λ value. view value ≡ data_of self.now) };
+
+    /// Writes that at the end of a text.
+    fn write_json(&self, text: &mut Octets) -> Result<(), Memory>
+        ensures { OnOk result (text.new ≡ text.old ++ compact_text (data_of self.now)) };
 }
 
 impl ToJson for ObjectId {
@@ -28,6 +35,10 @@ impl ToJson for ObjectId {
 
     fn to_json(&self, alloc: Global) -> Result<Value, Memory> {
         hex_json(alloc, self.as_bytes())
+    }
+
+    fn write_json(&self, text: &mut Octets) -> Result<(), Memory> {
+        write_hex(text, self.as_bytes())
     }
 }
 
@@ -37,6 +48,10 @@ impl ToJson for KeyId {
     fn to_json(&self, alloc: Global) -> Result<Value, Memory> {
         hex_json(alloc, self.as_bytes())
     }
+
+    fn write_json(&self, text: &mut Octets) -> Result<(), Memory> {
+        write_hex(text, self.as_bytes())
+    }
 }
 
 impl ToJson for u64 {
@@ -44,6 +59,73 @@ impl ToJson for u64 {
 
     fn to_json(&self, _alloc: Global) -> Result<Value, Memory> {
         Ok(number_json(*self))
+    }
+
+    fn write_json(&self, text: &mut Octets) -> Result<(), Memory> {
+        write_number(text, *self)
+    }
+}
+
+impl ToJson for bool {
+    ghost data_of = { boolean };
+
+    fn to_json(&self, _alloc: Global) -> Result<Value, Memory> {
+        Ok(Value::from(*self))
+    }
+
+    fn write_json(&self, text: &mut Octets) -> Result<(), Memory> {
+        write_bool(text, *self)
+    }
+}
+
+impl ToJson for Octets {
+    ghost data_of = { text_data };
+
+    fn to_json(&self, alloc: Global) -> Result<Value, Memory> {
+        text_json(alloc, self.as_slice())
+    }
+
+    fn write_json(&self, text: &mut Octets) -> Result<(), Memory> {
+        write_text(text, self.as_slice())
+    }
+}
+
+impl ToJson for RefName {
+    ghost data_of = { text_data };
+
+    fn to_json(&self, alloc: Global) -> Result<Value, Memory> {
+        text_json(alloc, self.text())
+    }
+
+    fn write_json(&self, text: &mut Octets) -> Result<(), Memory> {
+        write_text(text, self.text())
+    }
+}
+
+impl<T: ToJson> ToJson for Option<T> {
+    ghost data_of = { option_data T.data_of };
+
+    fn to_json(&self, alloc: Global) -> Result<Value, Memory> {
+        option_json(alloc, self.as_ref())
+    }
+
+    fn write_json(&self, text: &mut Octets) -> Result<(), Memory> {
+        match self {
+            Some(item) => item.write_json(text),
+            None => write_null(text),
+        }
+    }
+}
+
+impl<T: ToJson> ToJson for Items<T> {
+    ghost data_of = { list_data T.data_of };
+
+    fn to_json(&self, alloc: Global) -> Result<Value, Memory> {
+        list_json(alloc, self.as_slice())
+    }
+
+    fn write_json(&self, text: &mut Octets) -> Result<(), Memory> {
+        write_list(text, self.as_slice())
     }
 }
 
@@ -77,4 +159,25 @@ pub fn option_json<T: ToJson>(alloc: Global, item: Option<&T>) -> Result<Value, 
         Some(item) => item.to_json(alloc),
         None => Ok(Value::Null),
     }
+}
+
+// Writes a comma where an item stands before.
+fn write_comma(text: &mut Octets, later: bool) -> Result<(), Memory>
+    ensures { OnOk result (text.new ≡ text.old ++ comma_if later) }
+{
+    if later { text.push(b',') } else { Ok(()) }
+}
+
+/// Writes a list, in its order.
+pub fn write_list<T: ToJson>(text: &mut Octets, items: &[T]) -> Result<(), Memory>
+    ensures { OnOk result (text.new ≡ text.old ++ compact_text (list_data T.data_of items.now)) }
+{
+    text.push(b'[')?;
+    let mut later = false;
+    'items: for item in items {
+        write_comma(text, later)?;
+        item.write_json(text)?;
+        later = true;
+    }
+    text.push(b']')
 }
