@@ -64,7 +64,6 @@ fn are_plain(bytes: &[u8]) -> bool
 }
 
 // Writes bytes between quotes.
-
 fn write_quoted(text: &mut Octets, bytes: &[u8]) -> Result<(), Memory>
     requires { AllPass is_plain bytes.now }
     ensures { OnOk result (text.new ≡ text.old ++ compact_text (string bytes.now)) }
