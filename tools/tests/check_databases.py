@@ -116,6 +116,27 @@ def tells_foreign_tables(repositories):
             want(bytes_of(place), before, "the bytes of a database that was not to change")
 
 
+def holds_its_own_beside_others(repositories):
+    """a database that somebody gave an index, a table or a view more takes, judges and gives back what is its own"""
+    more = {
+        "an index": "CREATE INDEX by_kind ON objects (kind)",
+        "a table": "CREATE TABLE notes (text TEXT); INSERT INTO notes VALUES ('mine')",
+        "a view": "CREATE VIEW bodies AS SELECT id, body FROM objects",
+    }
+    row, reference = JUDGED[-1], "refs/heads/main"
+    stream = row()[0].repository.stream()
+    stream = stream if isinstance(stream, bytes) else stream.encode()
+    told = run(PROGRAM, "-", "-", "verify-ref", reference, "--stdin", input=stream)
+    for name, made in more.items():
+        place = repositories.path(f"{name} more.db")
+        change(place, TABLES, SCHEMA, made)
+        want_run(command(place, "import"), 0, IMPORTED, input=stream)
+        is_sound(place)
+        want_run(command(place, "verify-ref", reference), *told)
+        want_run(command(place, "export"), 0, stream)
+        want(rows_of(place, "SELECT count(*) FROM objects")[0][0], stream.count(b"\nobject "), f"the rows of objects beside {name}")
+
+
 def tells_no_database(repositories):
     """a file that is no database, or a part of one, is a fault, and not written to; a folder and nothing are, too"""
     _, whole = small_database(repositories, "to cut.db")
@@ -254,6 +275,7 @@ CHECKS = (
     goes_between,
     judges_alike,
     takes_rows_of_others,
+    holds_its_own_beside_others,
     tells_another_schema,
     tells_foreign_tables,
     tells_no_database,
