@@ -184,6 +184,19 @@ def is_refused_a_port(repositories):
         want_run((PROGRAM, place, "-", "serve", *words), 2, b"", b"words refused\n")
 
 
+def listens_at_a_low_port(repositories):
+    """a desk listens at the port that it is given, where that is far below those that the system hands out, too"""
+    place = repositories.path("low.db")
+    imported(place, guarded())
+    for port in range(1025, 8080):
+        with contextlib.suppress(OSError), socket.socket() as listener:
+            listener.bind(("127.0.0.1", port))
+            break
+    number, tip = line_of_log(place)
+    with opened((PROGRAM, place, "-", "serve", str(port), "1", "100"), port):
+        want(tip_of(port), b"tip %d %s\n" % (number, tip), "the tip")
+
+
 def takes_what_push_sends(repositories):
     """`push` sends a desk each entry of a store's log with what it needs, is told what became of it, and where there is no desk"""
     key = made_key(repositories, "sending.key")
@@ -205,4 +218,4 @@ def takes_what_push_sends(repositories):
     want_run(send(source, free_port(), 1), 4, b"", b"fault\n")
 
 
-CHECKS = (takes_an_entry_once, takes_what_push_sends, ends_after_its_connections, is_refused_a_port)
+CHECKS = (takes_an_entry_once, listens_at_a_low_port, takes_what_push_sends, ends_after_its_connections, is_refused_a_port)
