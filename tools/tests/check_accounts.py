@@ -11,7 +11,7 @@ from checking import INSPECT, ZEROS, Failure, Skip, want
 from rows_histories import KEEPER, MAIN, MAINTAINER, NEWCOMER, OWNER, POLICY, REVIEWER, History, top_file
 from rows_objects import AUTHOR
 from rows_policies import root_of_people, rule
-from slow_verdicts import KEYS, LOST, Move, Note
+from slow_verdicts import KEYS, LOST, ROOT_KEYS, Move, Note
 from slow_verdicts import fault, is_back, left_behind, may_skip, not_epoch, numbers_of, policy_at, prior, rescued
 from slow_verdicts import skipped, verdict
 
@@ -88,10 +88,17 @@ def changed_at(log, number):
     return {"changed": changed_by(said_by(before), said_by(entry.target))} if before else {}
 
 
+def signer_at(log, number):
+    """The id of the key that signed an entry, where the policy in force at it has that key."""
+    policy, signer = policy_at(log, number), log[number - 1].signer
+    return signer.id if policy and signer in (*KEYS, ROOT_KEYS[policy.holder]) else None
+
+
 def told_of(log, number, history, ids):
-    """What is to be told of an entry, without its key, its signature and its signers. No drawn policy knows persons."""
+    """What is to be told of an entry. No drawn policy knows persons, and nobody approves."""
     entry, own = log[number - 1], {"number": number, "id": history.ids[number - 1], "epoch": epoch_at(log, number)}
-    own |= {"author": AUTHOR.decode(), "time": 0, "persons": []}
+    signer = signer_at(log, number)
+    own |= {"author": AUTHOR.decode(), "time": 0, "persons": [], "key": entry.signer and entry.signer.id, "signed": signer is not None}
     if isinstance(entry, Note):
         listed = [history.ids[at - 1] if at else drawn().NOWHERE for at in entry.listed]
         return {**own, "kind": "skip" if entry.skip else "note", "entries": listed, "message": "", "verdict": "noted"}
@@ -105,6 +112,7 @@ def told_of(log, number, history, ids):
         **{"kind": "reference", "reference": entry.name, "target": ids[entry.target]},
         **{"prior": before or None, "from": ids[log[before - 1].target] if before else None},
         **{"verdict": "refused" if why else "authorised", "fault": fault_fields(why) if why else None},
+        "signers": [signer] if signer and entry.name != POLICY else [],
         "skipped": first(at for at in skips if may_skip(log, at, entry.name)),
         "rescued": first(rescues) if why else None,
         **changed_at(log, number),
