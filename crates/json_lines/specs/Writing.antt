@@ -7,10 +7,10 @@ use Rattle.serde_json.specs.Written.{compact_text, members_text}
 abbrev pub is_plain : ℕ → Bool
 is_plain byte = nat_le 32 byte && not (byte == 34) && not (byte == 92)
 
--- the first fields of an object were written: whatever fields follow them, the object is that of all
-abbrev pub Opens : (Members → Members) → List ℕ → List ℕ → Type 0
-Opens fields old new = (rest : Members) → new ++ members_text true rest ≡ old ++ compact_text (object (fields rest))
+-- the first fields of an object were written: whatever fields follow them, that is the object of all
+pub record Opens (fields : Members → Members) (old new : List ℕ) : Type 0 where
+  pub is : (rest : Members) → new ++ members_text true rest ≡ old ++ compact_text (object (fields rest))
 
--- fields were written after others: whatever fields follow them, these are all
-abbrev pub Follows : (Members → Members) → List ℕ → List ℕ → Type 0
-Follows fields old new = (rest : Members) → new ++ members_text true rest ≡ old ++ members_text true (fields rest)
+-- fields were written after others, and whatever fields follow them
+pub record Follows (fields : Members → Members) (old new : List ℕ) : Type 0 where
+  pub is : (rest : Members) → new ++ members_text true rest ≡ old ++ members_text true (fields rest)
