@@ -38,7 +38,6 @@ fn change_json(alloc: Global, change: &PolicyChange) -> Result<Value, Memory>
 }
 
 /// Writes after other fields what a policy changes, where there is a change.
-#[tactic(auto, using(crate::proofs::Floatless::change_floatless))]
 pub(crate) fn write_changed(text: &mut Octets, change: &Option<PolicyChange>) -> Result<(), Memory>
     ensures { OnOk result (Follows (changed_members change.now) text.old text.new) }
 {
