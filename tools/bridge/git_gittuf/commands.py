@@ -91,6 +91,11 @@ def expect_own(name):
 def recorded_by(work, name, value, path, anyway=False):
     """Records where a reference stands, where that is lawful, and returns the program's line."""
     work.bring(maybe=[value] if value else [])
+    return recorded_as_brought(work, name, value, path, anyway)
+
+
+def recorded_as_brought(work, name, value, path, anyway):
+    """The same of a reference as the store has it."""
     listed = looking.entries_of(work)
     kept = history.kept_targets(work.repository, history.last_recorded(listed, name), name, value, skipping.skips(work, listed))
     key = looking.key_id(path)
@@ -112,14 +117,14 @@ def record(work, words):
     expect_own(name)
     # What it stands at comes with all else, so that the log is read once.
     work.bring(maybe=[it for it in [repository.references().get(name)] if it])
-    value = repository.references().get(name)
+    value = work.kept.references().get(name)
     if value is None and history.last_recorded(looking.entries_of(work), name)[1] is None:
         raise names.no_such(repository, words.branch, history.recorded_names(work))
     path = leaves.signing_key(repository)
     expect_one_log(work, words.anyway)
     if not words.anyway:
         expect_no_step_back(work, name, value)
-    show(recorded_by(work, name, value, path, words.anyway))
+    show(recorded_as_brought(work, name, value, path, words.anyway))
     say_what_carries_it(repository)
 
 
