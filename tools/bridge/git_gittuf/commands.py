@@ -2,7 +2,8 @@
 
 import os
 
-from git_gittuf import consents, copying, following, fronts, history, keys, leaves, looking, names, remotes, sentences, settings, skipping, stores
+from git_gittuf import consents, copying, following, fronts, history, keys, leaves, longer_logs, looking, names, remotes, sentences, settings, skipping
+from git_gittuf import stores
 from git_gittuf.program import Ended
 from git_gittuf.remotes import is_before
 from git_gittuf.repository import ATTESTATIONS, LOG, REMOTES, ZEROS, Stopped
@@ -94,6 +95,13 @@ def recorded_by(work, name, value, path, anyway=False):
     return recorded_as_brought(work, name, value, path, anyway)
 
 
+def recorded_in_store(work, before, name, path):
+    """Records where the store has a reference, behind a log of which the program printed this, and returns its line."""
+    printed = work.asked("record", os.fsdecode(name), key=path)
+    longer_logs.keep(work, before, printed, name)
+    return printed
+
+
 def recorded_as_brought(work, name, value, path, anyway):
     """The same of a reference as the store has it."""
     listed = looking.entries_of(work)
@@ -103,7 +111,7 @@ def recorded_as_brought(work, name, value, path, anyway):
         looking.expect_lawful(work, name, value, key)
 
     def steps():
-        printed = work.asked("record", os.fsdecode(name), key=path)
+        printed = recorded_in_store(work, longer_logs.printed(work), name, path)
         if not anyway:
             looking.expect_accepted(work, name, value, int(printed.split()[1]), key)
         return printed
@@ -138,8 +146,8 @@ def approved_by(work, name, target, path):
     """Approves that a reference goes to the files of a commit, or with none that it goes, and records that."""
 
     def steps():
-        printed = work.asked("approve", name, target.decode(), key=path)
-        return printed + work.asked("record", ATTESTATIONS.decode(), key=path)
+        before, printed = longer_logs.printed(work), work.asked("approve", name, target.decode(), key=path)
+        return printed + recorded_in_store(work, before, ATTESTATIONS, path)
 
     try:
         return work.change(steps)
