@@ -7,7 +7,7 @@ protects it or the log speaks of it. The program judges, over the store as it wo
 import contextlib
 import os
 
-from git_gittuf import damage, epochs, following, fronts, gate_sentences, history, looking, settings, skipping, verifying
+from git_gittuf import asking, damage, epochs, following, fronts, gate_sentences, history, looking, settings, skipping, verifying
 from git_gittuf.program import Ended
 from git_gittuf.remotes import is_before
 from git_gittuf.repository import ATTESTATIONS, LOG, OWN, POLICY, TARGETS, ZEROS, Stopped
@@ -128,7 +128,15 @@ class Gate:
         """Why the push is refused, each as the program's line, or none, and a sentence."""
         if self.broken:
             return [self.broken]
-        return list(filter(None, (self.of_name(it) for it in self.names())))
+        names = self.names()
+        self.ask_ahead([it for it in names if is_reference_name(it)])
+        return list(filter(None, map(self.of_name, names)))
+
+    def ask_ahead(self, names):
+        """Asks at once which of these references rules protect, as far as the log speaks of none, and for the verdicts on those that are judged."""
+        verifying.ask_for_rules(self.work, [it for it in names if it not in self.recorded])
+        root = looking.root_words(self.work)
+        asking.ahead(self.work, [(("verify-ref", os.fsdecode(it), *root), None) for it in names if self.is_guarded(it)])
 
     def of_name(self, name):
         if name.startswith(TARGETS) and name in self.push.moves:

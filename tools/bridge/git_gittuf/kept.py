@@ -32,7 +32,7 @@ class Kept:
         self.objects = os.path.join(self.folder, "objects")
         self.small = os.path.join(folder, "small")
         self.trial = os.path.join(folder, "trial")
-        self.added, self.tried = [], []
+        self.added, self.tried = [], set()
         # How often something here was, or may have been, changed, and how often references alone; and these as they were then.
         self.changes, self.moves, self.listed = 0, 0, (None, {})
         # The files of its objects as they were looked at, but those that were changed here since.
@@ -193,12 +193,13 @@ class Kept:
     def put(self, object_id, kind, body):
         self.changes += 1
         self.looked_at.pop(object_id.decode(), None)
-        self.tried.append(object_id)
+        self.tried.add(object_id)
         self.write(os.path.join(self.objects, object_id.decode()), b"%s %d\0%s" % (kind, len(body), body))
 
     def take_out(self, object_id):
         """Removes an object again."""
         self.changes += 1
+        self.tried.discard(object_id)
         os.remove(os.path.join(self.objects, object_id.decode()))
 
     def is_tried(self):
@@ -212,7 +213,7 @@ class Kept:
     @contextlib.contextmanager
     def tried_out(self):
         """Takes all objects and references that are put in meanwhile away again. A stop in between leaves a mark of that."""
-        held, self.tried = self.references(), []
+        held, self.tried = self.references(), set()
         with open(self.trial, "wb"):
             # That it is there is all that it says.
             pass
@@ -223,7 +224,7 @@ class Kept:
             if "commit.lock" not in self.marks():
                 with self.opened():
                     self.set_references(self.references(), held)
-                    for it in self.tried:
+                    for it in list(self.tried):
                         self.take_out(it)
                 self.end_trial()
 
