@@ -67,8 +67,8 @@ def spoken_of(work, log):
     printed = work.log_at(new) if new and old != new and work.repository.are_commits([new]) else None
     if printed is None:
         return []
-    count = following.count_of(work.repository, old) if old and work.repository.are_commits([old]) else 0
     entries = history.entries(printed)
+    count = following.number_of(work.repository, entries, old) if old and work.repository.are_commits([old]) else 0
     skipped = history.skipped_by(work.repository, entries[count:])
     listed = [rest[0] for number, it, kind, rest in entries if kind == b"ref" and (number > count or it in skipped)]
     return [it for it in dict.fromkeys(listed) if it != LOG]
@@ -84,7 +84,7 @@ class Gate:
         self.broken = gate_sentences.of_broken(printed) if status == BROKEN else None
         self.entries = history.entries(printed) if not status else ()
         # So many entries were there before.
-        self.count = 0 if old is None else len(self.entries) if old == new else following.count_of(work.repository, old)
+        self.count = 0 if old is None else len(self.entries) if old == new else following.number_of(work.repository, self.entries, old)
         self.new = [it for it in self.entries[self.count :] if it[2] == b"ref"]
         self.recorded = {rest[0] for _, _, kind, rest in self.entries if kind == b"ref"}
         self.skipped = self.newly_skipped()
