@@ -199,6 +199,7 @@ class Kept:
     def take_out(self, object_id):
         """Removes an object again."""
         self.changes += 1
+        self.looked_at.pop(object_id.decode(), None)
         self.tried.discard(object_id)
         os.remove(os.path.join(self.objects, object_id.decode()))
 
