@@ -3,8 +3,11 @@
 import os
 import shutil
 import sys
+import types
 
-from checking import TOP, run, want
+from checking import PROGRAM, TOP, run, want
+from git_gittuf import epochs, longer_logs
+from git_gittuf.repository import LOG
 from guarded_clones import MAIN, another
 
 
@@ -181,8 +184,52 @@ def begins_few(repositories):
     return f"{gits} gits, {programs} programs"
 
 
+def lists_what_was_recorded(repositories):
+    """after a record or an approval the log is listed as the program lists it, which is not asked for that again"""
+    clones = another(repositories, "recorded and listed")
+    tool, asked = counting(clones, "counted listings")
+    called = lambda *words: run(sys.executable, tool, *words, folder=clones.path("alice"))
+    store = os.path.join(clones.path("alice"), ".git", "gittuf", "kept", "")
+    called("verify", "main")
+    for words in (("record", "main"), ("record", "main"), ("approve", "main", "main", "--anyway"), ("record", "main")):
+        clones.commit("alice")
+        want(called(*words)[0], 0, f"the status of {words}")
+        times_asked(asked)
+        found = called("log")[:2], times_asked(asked)
+        want(found, (run(PROGRAM, store, "-", "log")[:2], 0), f"what is listed after {words}, and how often the program is asked")
+
+
+def kept_of(before, told, entry, name):
+    """What is kept of a log of which this was printed, where the store has this entry last and the program told this of it."""
+    kept = []
+    store = types.SimpleNamespace(references=lambda: {LOG: entry[0]}, read=lambda _: (b"commit", entry[1]))
+    answers = types.SimpleNamespace(put=lambda place, answer: kept.append((place, answer)))
+    work = types.SimpleNamespace(kept=store, answers=answers, place=lambda words, at, objects: words)
+    longer_logs.keep(work, before, told, name)
+    return kept
+
+
+def lists_nothing_odd(repositories):
+    """what is kept of a longer log is the entry that was told, behind the one before, and nothing where anything of it is otherwise"""
+    name, target, first = MAIN.encode(), b"1" * 64, epochs.entry(1, None, b"2" * 64, b"refs/heads/other")[0]
+    before = b"entry 1 %s ref refs/heads/other %s\n" % (first, b"2" * 64)
+    entry = epochs.entry(2, first, target, name)
+    told, line = b"entry 2 %s\n" % entry[0], b"entry 2 %s ref %s %s\n" % (entry[0], name, target)
+    want(kept_of(before, told, entry, name), [(("log",), (0, before + line))], "what is kept")
+    want(kept_of(b"", told, entry, name), [], "what is kept where no log was printed")
+    for it in (b"", told[:-1], told + told, told.replace(b" 2 ", b" 3 "), b"entry 2 %s\n" % first):
+        want(kept_of(before, it, entry, name), [], f"what is kept where {it} is told")
+    others = [epochs.entry(3, first, target, name), epochs.entry(2, b"3" * 64, target, name), epochs.entry(2, None, target, name)]
+    others += [epochs.entry(2, first, target, b"refs/heads/other"), epochs.entry(2, first, target)]
+    for it in others:
+        want(kept_of(before, b"entry 2 %s\n" % it[0], it, name), [], f"what is kept where the last entry is {it[1]}")
+    want(kept_of(before, b"entry 2 %s\n" % others[-1][0], others[-1], b"refs/gittuf/policy"), [], "what is kept of a policy's entry")
+
+
 CHECKS = (
     asks_nothing_twice,
+    lists_what_was_recorded,
+    lists_nothing_odd,
     begins_few,
     judges_nothing_without_git,
     believes_no_damage,

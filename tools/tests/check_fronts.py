@@ -128,6 +128,29 @@ def judges_what_is_new(repositories):
     clones.sound("alice", "bob")
 
 
+def judges_several_at_once(repositories):
+    """where nothing is known of before, gittuf-inspect tells the verdicts on several references of a push, and the program what it tells otherwise"""
+    clones, stands = installed(repositories, "judged at once")
+    for change, asked in (("", 0), ("[{**it, 'verdict': 'noted'}]", 1), ("[]", 2), ("[it, it]", 2)):
+        clones.commit("alice")
+        clones.git("branch", "--force", "other", who="alice")
+        for it in ("main", "other"):
+            clones.gittuf("alice", "record", it)
+        stands.changes(change)
+        clones.git("push", "--quiet", "origin", "main", "other", f"{LOG}:{LOG}", who="alice")
+        want(stands.found(), (asked, ["verdicts"]), f"what is asked where it tells {change or 'them'}")
+        os.remove(clones.path("server.git/gittuf/judged"))
+    clones.git("fetch", "--quiet", who="mallory")
+    clones.git("reset", "--quiet", "--hard", "origin/main", who="mallory")
+    evil = clones.commit("mallory", "evil")
+    clones.git("branch", "other", who="mallory")
+    for it in ("main", "other"):
+        clones.gittuf("mallory", "record", it, "--anyway")
+    stands.changes("")
+    denied(clones, "mallory", "origin", f"{evil}:{MAIN}", "other", f"{LOG}:{LOG}", part=f"violation {MAIN} 11 ref-rule main 0 of 1")
+    want(stands.found(), (0, ["verdicts"]), "what is asked of what is refused")
+
+
 def goes_by_the_policy_in_force(repositories):
     """what was judged holds under the policy that came into force since: who may change a branch no more is refused, who approves is counted"""
     clones, stands = installed(repositories, "judged by policies")
@@ -223,6 +246,7 @@ CHECKS = (
     is_told_of_it,
     asks_for_what_takes_less,
     judges_what_is_new,
+    judges_several_at_once,
     goes_by_the_policy_in_force,
     concludes_nothing_odd,
 )

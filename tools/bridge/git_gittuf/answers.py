@@ -59,10 +59,14 @@ class Answers:
         self.path, self.kept = os.path.join(folder, "answers"), None
         # The sum that was made last, after so many changes, and the answers by such sums.
         self.seen, self.after, self.by_state, self.is_new = None, None, None, False
+        # What tells which programs run, as it was looked at.
+        self.running = None
 
     def programs(self):
         """What tells which programs run, and whether they are others."""
-        return [*(f"{it} {os.environ.get(it)!r}" for it in SETTINGS), *map(row_of, program.files())]
+        if self.running is None:
+            self.running = [*(f"{it} {os.environ.get(it)!r}" for it in SETTINGS), *map(row_of, program.files())]
+        return self.running
 
     def state(self):
         """The sum of all that an answer rests on but ids of references."""
@@ -111,7 +115,8 @@ class Answers:
         """Keeps the answers that hold for the state as it is now, once that was looked at anew, those asked for last before all."""
         if not self.is_new:
             return
-        self.after = None
+        self.running = None
+        self.kept.may_differ()
         rows, size = [], 0
         for (words, ids), (status, printed) in reversed(self.by_state.get(self.state(), {}).items()):
             size += len(printed)

@@ -4,6 +4,7 @@ import contextlib
 import os
 
 from git_gittuf import epochs, history, inspecting, program
+from git_gittuf.budgets import budget
 from git_gittuf.program import Ended
 from git_gittuf.repository import LOG
 
@@ -90,7 +91,8 @@ def of_rules(work, asked):
 def all_of(work, words):
     """What the program answers to each of these words, by all processors where the store lets several read it."""
     ask = lambda it: program.run(work.kept.for_program(), "-", *it)
-    count = len(os.sched_getaffinity(0)) if work.kept.IS_SHARED else 1
+    # Side by side each of them could spend all that a push is given.
+    count = len(os.sched_getaffinity(0)) if work.kept.IS_SHARED and budget.most is None else 1
     if count < 2 or len(words) < 2:
         return {it: ask(it) for it in words}
     # Few calls want it, and it takes long to load.

@@ -4,6 +4,7 @@ What is kept says who is named, and no more: whether a signature suffices is the
 Of many at once gittuf-inspect tells it, where that is here: it looks at them in one pass, and many times as quickly.
 """
 
+import functools
 import hashlib
 import os
 
@@ -48,21 +49,23 @@ class Checked:
         # What is not as it was written is looked at again.
         lines = (notes.read(self.path, MOST) or b"").decode().splitlines()
         self.found = {it[2:]: it[:1] == "+" for it in lines}
+        # Each is asked for more than once.
+        self.sum_of = functools.lru_cache(maxsize=None)(sum_of)
 
     def are_good(self, asked):
         """The same, of which those that were looked at before are known."""
-        sums = [sum_of(*it) for it in asked]
+        sums = [self.sum_of(*it) for it in asked]
         new = {it: one for it, one in zip(sums, asked) if it not in self.found}
         if new:
             self.keep(zip(new, looked_at([*new.values()])))
         return [self.found[it] for it in sums]
 
     def is_new(self, public, body):
-        return sum_of(public, body) not in self.found
+        return self.sum_of(public, body) not in self.found
 
     def learn(self, told):
         """Keeps what the program told of these: the public key, the entry, and whether its signature is good by that key."""
-        self.keep((sum_of(public, body), is_good) for public, body, is_good in told)
+        self.keep((self.sum_of(public, body), is_good) for public, body, is_good in told)
 
     def keep(self, found):
         self.found.update(found)

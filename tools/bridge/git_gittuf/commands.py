@@ -2,7 +2,8 @@
 
 import os
 
-from git_gittuf import consents, copying, following, fronts, history, keys, leaves, looking, names, remotes, sentences, settings, skipping, stores
+from git_gittuf import consents, copying, following, fronts, history, keys, leaves, longer_logs, looking, names, remotes, sentences, settings, skipping
+from git_gittuf import stores
 from git_gittuf.program import Ended
 from git_gittuf.remotes import is_before
 from git_gittuf.repository import ATTESTATIONS, LOG, REMOTES, ZEROS, Stopped
@@ -91,6 +92,18 @@ def expect_own(name):
 def recorded_by(work, name, value, path, anyway=False):
     """Records where a reference stands, where that is lawful, and returns the program's line."""
     work.bring(maybe=[value] if value else [])
+    return recorded_as_brought(work, name, value, path, anyway)
+
+
+def recorded_in_store(work, before, name, path):
+    """Records where the store has a reference, behind a log of which the program printed this, and returns its line."""
+    printed = work.asked("record", os.fsdecode(name), key=path)
+    longer_logs.keep(work, before, printed, name)
+    return printed
+
+
+def recorded_as_brought(work, name, value, path, anyway):
+    """The same of a reference as the store has it."""
     listed = looking.entries_of(work)
     kept = history.kept_targets(work.repository, history.last_recorded(listed, name), name, value, skipping.skips(work, listed))
     key = looking.key_id(path)
@@ -98,7 +111,7 @@ def recorded_by(work, name, value, path, anyway=False):
         looking.expect_lawful(work, name, value, key)
 
     def steps():
-        printed = work.asked("record", os.fsdecode(name), key=path)
+        printed = recorded_in_store(work, longer_logs.printed(work), name, path)
         if not anyway:
             looking.expect_accepted(work, name, value, int(printed.split()[1]), key)
         return printed
@@ -112,14 +125,14 @@ def record(work, words):
     expect_own(name)
     # What it stands at comes with all else, so that the log is read once.
     work.bring(maybe=[it for it in [repository.references().get(name)] if it])
-    value = repository.references().get(name)
+    value = work.kept.references().get(name)
     if value is None and history.last_recorded(looking.entries_of(work), name)[1] is None:
         raise names.no_such(repository, words.branch, history.recorded_names(work))
     path = leaves.signing_key(repository)
     expect_one_log(work, words.anyway)
     if not words.anyway:
         expect_no_step_back(work, name, value)
-    show(recorded_by(work, name, value, path, words.anyway))
+    show(recorded_as_brought(work, name, value, path, words.anyway))
     say_what_carries_it(repository)
 
 
@@ -133,8 +146,8 @@ def approved_by(work, name, target, path):
     """Approves that a reference goes to the files of a commit, or with none that it goes, and records that."""
 
     def steps():
-        printed = work.asked("approve", name, target.decode(), key=path)
-        return printed + work.asked("record", ATTESTATIONS.decode(), key=path)
+        before, printed = longer_logs.printed(work), work.asked("approve", name, target.decode(), key=path)
+        return printed + recorded_in_store(work, before, ATTESTATIONS, path)
 
     try:
         return work.change(steps)

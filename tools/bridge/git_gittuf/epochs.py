@@ -37,9 +37,8 @@ def files_of(repository, target):
 
 def objects_of(repository, targets):
     """What the program reads of the policies at these targets, as far as it is here, by their ids."""
-    ids = set()
+    ids = set(copying.states_of(repository, targets))
     for it in repository.there(targets):
-        ids.update(copying.states_of(repository, [it]))
         ids.update(files_of(repository, it))
     return {object_id: (kind, body) for object_id, kind, body in repository.bodies(sorted(ids)) if body is not None}
 

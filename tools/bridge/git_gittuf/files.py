@@ -38,9 +38,15 @@ def row_of(path):
         return f"{path} none"
 
 
-def row_of_entry(entry):
-    """The same of a file of a folder, by its name there."""
-    return row(entry.name, entry.stat(follow_symlinks=False))
+def rows_in(folder, known=()):
+    """The same of each file of a folder that is not known, by its name there, and all names."""
+    found, names = {}, []
+    with os.scandir(folder) as files:
+        for it in files:
+            names.append(it.name)
+            if it.name not in known:
+                found[it.name] = row(it.name, it.stat(follow_symlinks=False))
+    return found, names
 
 
 def row(name, it):

@@ -71,6 +71,11 @@ def count_of(repository, tip):
     return int(repository.asked("count entries", "rev-list", "--first-parent", "--count", tip.decode()))
 
 
+def number_of(repository, entries, tip):
+    """The same, which is told by these entries where it is the last of them, or near it."""
+    return next((number for number, it, *_ in reversed(entries) if it == tip), None) or count_of(repository, tip)
+
+
 def sentence(work, remote, name, how):
     """What is told of something that a remote has and that does not fit."""
     repository, value = work.repository, work.repository.references().get(beside(remote, name))

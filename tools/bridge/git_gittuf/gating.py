@@ -7,7 +7,7 @@ protects it or the log speaks of it. The program judges, over the store as it wo
 import contextlib
 import os
 
-from git_gittuf import damage, epochs, following, fronts, gate_sentences, history, looking, settings, skipping, verifying
+from git_gittuf import asking, damage, epochs, following, fronts, gate_sentences, history, looking, settings, skipping, verifying
 from git_gittuf.program import Ended
 from git_gittuf.remotes import is_before
 from git_gittuf.repository import ATTESTATIONS, LOG, OWN, POLICY, TARGETS, ZEROS, Stopped
@@ -67,8 +67,8 @@ def spoken_of(work, log):
     printed = work.log_at(new) if new and old != new and work.repository.are_commits([new]) else None
     if printed is None:
         return []
-    count = following.count_of(work.repository, old) if old and work.repository.are_commits([old]) else 0
     entries = history.entries(printed)
+    count = following.number_of(work.repository, entries, old) if old and work.repository.are_commits([old]) else 0
     skipped = history.skipped_by(work.repository, entries[count:])
     listed = [rest[0] for number, it, kind, rest in entries if kind == b"ref" and (number > count or it in skipped)]
     return [it for it in dict.fromkeys(listed) if it != LOG]
@@ -84,7 +84,7 @@ class Gate:
         self.broken = gate_sentences.of_broken(printed) if status == BROKEN else None
         self.entries = history.entries(printed) if not status else ()
         # So many entries were there before.
-        self.count = 0 if old is None else len(self.entries) if old == new else following.count_of(work.repository, old)
+        self.count = 0 if old is None else len(self.entries) if old == new else following.number_of(work.repository, self.entries, old)
         self.new = [it for it in self.entries[self.count :] if it[2] == b"ref"]
         self.recorded = {rest[0] for _, _, kind, rest in self.entries if kind == b"ref"}
         self.skipped = self.newly_skipped()
@@ -128,7 +128,15 @@ class Gate:
         """Why the push is refused, each as the program's line, or none, and a sentence."""
         if self.broken:
             return [self.broken]
-        return list(filter(None, (self.of_name(it) for it in self.names())))
+        names = self.names()
+        self.ask_ahead([it for it in names if is_reference_name(it)])
+        return list(filter(None, map(self.of_name, names)))
+
+    def ask_ahead(self, names):
+        """Asks at once which of these references rules protect, as far as the log speaks of none, and for the verdicts on those that are judged."""
+        verifying.ask_for_rules(self.work, [it for it in names if it not in self.recorded])
+        root = looking.root_words(self.work)
+        asking.ahead(self.work, [(("verify-ref", os.fsdecode(it), *root), None) for it in names if self.is_guarded(it)])
 
     def of_name(self, name):
         if name.startswith(TARGETS) and name in self.push.moves:

@@ -11,7 +11,7 @@ import os
 import re
 
 import stream_format
-from git_gittuf.files import remove_tree, row_of_entry, sync, write_out
+from git_gittuf.files import remove_tree, rows_in, sync, write_out
 from git_gittuf.repository import Stopped
 
 VALUE = re.compile(rb"[0-9a-f]{64}\n")
@@ -32,9 +32,11 @@ class Kept:
         self.objects = os.path.join(self.folder, "objects")
         self.small = os.path.join(folder, "small")
         self.trial = os.path.join(folder, "trial")
-        self.added, self.tried = [], []
+        self.added, self.tried = [], set()
         # How often something here was, or may have been, changed, and how often references alone; and these as they were then.
         self.changes, self.moves, self.listed = 0, 0, (None, {})
+        # The files of its objects as they were looked at, but those that were changed here since.
+        self.looked_at = {}
 
     def for_program(self):
         """The store as a word of the program, which nobody else has open then."""
@@ -48,9 +50,19 @@ class Kept:
         return True
 
     def rows(self):
-        """What tells whether anything in it is another: the files of its objects, by their names."""
-        with os.scandir(self.objects) as files:
-            return sorted([row_of_entry(it) for it in files])
+        """What tells whether anything in it is another: the files of its objects, by their names.
+
+        Each is looked at once, until somebody else may have changed it.
+        """
+        new, names = rows_in(self.objects, self.looked_at)
+        there = {**self.looked_at, **new}
+        self.looked_at = {it: there[it] for it in names}
+        return sorted(self.looked_at.values())
+
+    def may_differ(self):
+        """Notes that others may have changed anything in it."""
+        self.changes += 1
+        self.looked_at = {}
 
     def new_place(self):
         """Where such a store is made beside before it is this one, as a word of the program."""
@@ -63,7 +75,7 @@ class Kept:
         remove_tree(self.folder)
         os.rename(self.made, self.folder)
         write_out(self.beside)
-        self.changes += 1
+        self.may_differ()
 
     def tidy(self, *more):
         """Takes away what a call that was stopped left of other stores."""
@@ -76,7 +88,7 @@ class Kept:
             pass
 
     def make(self):
-        self.changes += 1
+        self.may_differ()
         self.tidy("kept.db-wal", "kept.db-shm")
         if not self.is_there():
             self.mark_small()
@@ -103,7 +115,7 @@ class Kept:
 
     def remove(self):
         """Takes the whole store away, and at once, so that no half of one is found."""
-        self.changes += 1
+        self.may_differ()
         aside = os.path.join(self.beside, "removed")
         remove_tree(aside)
         if os.path.lexists(self.folder):
@@ -180,12 +192,15 @@ class Kept:
 
     def put(self, object_id, kind, body):
         self.changes += 1
-        self.tried.append(object_id)
+        self.looked_at.pop(object_id.decode(), None)
+        self.tried.add(object_id)
         self.write(os.path.join(self.objects, object_id.decode()), b"%s %d\0%s" % (kind, len(body), body))
 
     def take_out(self, object_id):
         """Removes an object again."""
         self.changes += 1
+        self.looked_at.pop(object_id.decode(), None)
+        self.tried.discard(object_id)
         os.remove(os.path.join(self.objects, object_id.decode()))
 
     def is_tried(self):
@@ -199,7 +214,7 @@ class Kept:
     @contextlib.contextmanager
     def tried_out(self):
         """Takes all objects and references that are put in meanwhile away again. A stop in between leaves a mark of that."""
-        held, self.tried = self.references(), []
+        held, self.tried = self.references(), set()
         with open(self.trial, "wb"):
             # That it is there is all that it says.
             pass
@@ -210,7 +225,7 @@ class Kept:
             if "commit.lock" not in self.marks():
                 with self.opened():
                     self.set_references(self.references(), held)
-                    for it in self.tried:
+                    for it in list(self.tried):
                         self.take_out(it)
                 self.end_trial()
 

@@ -171,12 +171,13 @@ class Database(Kept):
 
     def put(self, object_id, kind, body):
         self.changes += 1
-        self.tried.append(object_id)
+        self.tried.add(object_id)
         row = (bytes.fromhex(object_id.decode()), KINDS.index(kind) + 1, body)
         self.ask("INSERT OR REPLACE INTO objects VALUES (?, ?, ?)", *row)
 
     def take_out(self, object_id):
         self.changes += 1
+        self.tried.discard(object_id)
         self.ask("DELETE FROM objects WHERE id = ?", bytes.fromhex(object_id.decode()))
 
     def write_out(self):

@@ -32,19 +32,20 @@ class Listing:
         found = epochs.of_entries(work.repository, self.entries)
         self.epochs = [(number, signers.People(policies.Policy(work.repository, it))) for number, it in found]
         self.people, self.keys = {}, {}
+        known, named = checked.Checked(work.repository), signers.named_in(self.bodies)
         if inspecting.place() and len(self.entries) >= checked.MANY:
-            self.learn(checked.Checked(work.repository))
+            self.learn(known, named)
         for people, entries in self.by_epoch():
             bodies = {it[1]: self.bodies[it[1]] for it in entries}
-            self.keys.update(signers.of_bodies(work.repository, bodies, people.publics))
+            self.keys.update(signers.of_bodies(work.repository, bodies, people.publics, known.are_good, named))
             self.people.update({it[0]: people for it in entries})
 
-    def learn(self, known):
+    def learn(self, known, named):
         """Lets gittuf-inspect tell which signatures are good, where many were looked at by nobody yet."""
         asked = {}
         for (start, _), (people, entries) in zip([(None, None), *self.epochs], self.by_epoch()):
             for _, it, *_ in entries:
-                public = people.publics.get((signers.key_in(self.bodies[it]) or b"").decode())
+                public = people.publics.get(named[it])
                 if public and known.is_new(public, self.bodies[it]):
                     asked[it] = start, public
         told = inspecting.log(self.work, self.entries) if len(asked) >= checked.MANY else None

@@ -68,7 +68,7 @@ def entries_there(work, remote):
     repository, references = work.repository, work.repository.references()
     there = references.get(remotes.beside(remote, LOG))
     listed = history.entries(work.asked("log")) if LOG in references else []
-    return listed, following.count_of(repository, there) if there and is_before(repository, there, references[LOG]) else 0
+    return listed, following.number_of(repository, listed, there) if there and is_before(repository, there, references[LOG]) else 0
 
 
 def names_in(listed):

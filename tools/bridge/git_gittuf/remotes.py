@@ -99,6 +99,8 @@ def asked_log(repository, remote):
 
 def is_before(repository, first, second):
     """Whether the second commit has the first one in its history."""
+    if first == second and repository.are_commits([first]):
+        return True
     known = repository.known_before
     if (first, second) not in known:
         status = repository.git("merge-base", "--is-ancestor", first.decode(), second.decode())[0]

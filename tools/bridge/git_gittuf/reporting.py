@@ -1,5 +1,6 @@
 """One page of HTML for an auditor: the verdicts, the log with who signed it, the policy in words, and what this rests on."""
 
+import functools
 import os
 import subprocess
 import types
@@ -37,6 +38,7 @@ COLOURS = ("#cfe3f7", "#d8efd3", "#f7e6c4", "#e7d9f2")
 EPOCHS = "<p>Each stretch of the log begins at the entry that brought its policy into force. An entry that a verdict names is marked below.</p>"
 
 
+@functools.lru_cache(maxsize=1 << 12)
 def text(it):
     # Few calls want it, and it takes long to load.
     import html

@@ -233,7 +233,8 @@ class Repository:
         front, _, last = name.rpartition(".")
         section, dot, middle = front.partition(".")
         found = self.all_settings().get(f"{section.lower()}{dot}{middle}.{last.lower()}", [])
-        if not how or not found:
+        if not how or not found or how == ("--type=path",) and all(it.startswith("/") for it in found):
+            # Git makes another text only of a path that begins otherwise.
             return found
         return [os.fsdecode(it) for it in self.git("config", *how, "--get-all", name)[1].splitlines()]
 

@@ -14,14 +14,22 @@ SIGNED = re.compile(rb"\nlmssig ([0-9a-f]{64}) [A-Za-z0-9+/=]+\n")
 
 def key_in(body):
     """The id of the key that an entry names, or nothing."""
-    found = SIGNED.search((body or b"").partition(b"\n\n")[0] + b"\n")
+    body = body or b""
+    end = body.find(b"\n\n")
+    # A copy of each of many heads would take as long as the search.
+    found = SIGNED.search(body, 0, end + 1) if end >= 0 else SIGNED.search(body + b"\n")
     return found[1] if found else None
 
 
-def of_bodies(repository, bodies, publics=None, are_good=None):
-    """The id of the key that each of these entries names, or None where it names none, or one of these by which it is not good."""
+def named_in(bodies):
+    """The id of the key that each of these entries names, or None where it names none."""
     found = {it: key_in(body) for it, body in bodies.items()}
-    found = {it: key.decode() if key else None for it, key in found.items()}
+    return {it: key.decode() if key else None for it, key in found.items()}
+
+
+def of_bodies(repository, bodies, publics=None, are_good=None, named=None):
+    """The same, or None where it is one of these by which the entry is not good."""
+    found = named_in(bodies) if named is None else {it: named[it] for it in bodies}
     listed = [it for it, key in found.items() if key in (publics or {})]
     asked = [(publics[found[it]], bodies[it]) for it in listed]
     good = (are_good or Checked(repository).are_good)(asked) if asked else []

@@ -65,7 +65,7 @@ class Work:
         if held != ALONE:
             self.take_lock(ALONE)
             # Others may have changed something until then.
-            self.kept.changes += 1
+            self.kept.may_differ()
             self.repository.listed = None
         try:
             yield
@@ -73,7 +73,7 @@ class Work:
             if held != ALONE:
                 # It stays alone where programs cannot read the store side by side.
                 self.take_lock(held if self.kept.IS_SHARED else ALONE)
-                self.kept.changes += 1
+                self.kept.may_differ()
                 self.repository.listed = None
 
     def follow(self, changed):
@@ -143,7 +143,7 @@ class Work:
         finally:
             # It only changes what others changed as well, and never while they do.
             self.take_lock(ALONE)
-            self.kept.changes += 1
+            self.kept.may_differ()
             # What lacked may have come.
             self.repository.epochs, self.repository.listed = {}, None
             self.mend()
