@@ -16,7 +16,7 @@ use Rattle.desk_serving.specs.declared.desks.Serves as serves
 use Rattle.desk_serving.specs.declared.workers.Worker.{Worker}
 use Rattle.desk_serving.specs.declared.workers.WorkerEnd.{WorkerEnd}
 use Rattle.desk_serving.specs.declared.workers.WorkerEnd.TheVariants as worker_end
-use Rattle.desk_http.specs.Served.{AreReplied, AreServed, HasServed, IsEndOf, IsFirst}
+use Rattle.desk_http.specs.Served.{AreReplied, AreServed, HasServed, IsFirst}
 
 module _ {E S K : Type 0} (desk_of : serves.Ghosts TurnId) (source_of : source.Ghosts S) (sink_of : sink.Ghosts K) (door_of : workers.DoorWays E S K)
     (desk : TurnId) where
