@@ -3,3 +3,4 @@ pub mod Seating
 pub mod LogReads
 pub mod GateReplies
 pub mod SeatsServed
+pub mod Ends

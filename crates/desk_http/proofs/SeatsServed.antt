@@ -1,5 +1,5 @@
--- What was asked of a desk's seats, out of how workers served at it.
-use Rattle.std.proofs.Common.{◌≡◌, ◌<◌, ◌+◌, ◌++◌, inl, inr, ◌∷◌, [], ℕ, zero, suc, ◌≤◌, List, length, take, drop, refl, sym, subst, get_or, arith}
+-- What was asked of a desk's seats, and how serving ended, out of how workers served at it.
+use Rattle.std.proofs.Common.{◌≡◌, ◌<◌, ◌+◌, ◌++◌, inl, inr, ◌∷◌, [], ℕ, zero, suc, ◌≤◌, List, length, length-append, take, drop, refl, sym, subst, get_or, arith}
 use Rattle.std.specs.Prelude.{All, Option, Some, None, slice_get}
 use Rattle.std.specs.Option.{IsSomeAnd}
 use Rattle.edge_io.specs.declared.sinks.Sink as sink
@@ -25,45 +25,63 @@ module _ {E S K : Type 0} (desk_of : serves.Ghosts TurnId) (source_of : source.G
   joined [] more old mid new same rest = subst (λ (s : Sitting). AreReplied desk_of desk more s new) same rest
   joined (x ∷ xs) more old mid new first rest = (first.0, first.1, joined xs more first.0 mid new first.2 rest)
 
-  one : (old new : Sitting) (link link_now : Link S K) (end : End) → IsServed desk_of source_of sink_of desk old new link link_now end
-      → (asked : List Asked) × AreReplied desk_of desk asked old new
-  one old new link link_now end is =
-      (is.asked ∷ [], (new, record { code = is.replies.code; body = is.replies.body; answers = is.replies.answers }, refl))
+  -- so many connections asked for this, which had replies, one after another
+  record Asks (count : ℕ) (old new : Sitting) : Type 0 where
+    pub asked : List Asked
+    pub replied : AreReplied desk_of desk asked old new
+    pub few : length asked ≤ count
 
-  ended : (old new : Sitting) (link link_now : Link S K) (end : End) → Ends desk_of source_of sink_of desk old new link link_now end
-      → (asked : List Asked) × AreReplied desk_of desk asked old new
+  one : (old new : Sitting) (link link_now : Link S K) (end : End) → IsServed desk_of source_of sink_of desk old new link link_now end → Asks 1 old new
+  one old new link link_now end is = record {
+    asked = is.asked ∷ [];
+    replied = (new, record { code = is.replies.code; body = is.replies.body; answers = is.replies.answers }, refl);
+    few = omega arith;
+  }
+
+  none : (old new : Sitting) → new ≡ old → Asks 1 old new
+  none old new same = record { asked = []; replied = same; few = omega arith }
+
+  ended : (old new : Sitting) (link link_now : Link S K) (end : End) → Ends desk_of source_of sink_of desk old new link link_now end → Asks 1 old new
   ended old new link link_now (Replied code) is = one old new link link_now (Replied code) is
-  ended old new link link_now Silent is = ([], is.same_seat)
-  ended old new link link_now LinkFailed (inl is) = ([], is.same_seat)
+  ended old new link link_now Silent is = none old new is.same_seat
+  ended old new link link_now LinkFailed (inl is) = none old new is.same_seat
   ended old new link link_now LinkFailed (inr is) = one old new link link_now LinkFailed is
 
-  all_asked : (links links_now : List (Link S K)) (old new : Sitting) → workers.AreServed desk_of source_of sink_of door_of desk links links_now old new
-      → (asked : List Asked) × AreReplied desk_of desk asked old new
-  all_asked [] [] old new same = ([], same)
+  all_asked : (links links_now : List (Link S K)) (old new : Sitting) → workers.AreServed desk_of source_of sink_of door_of desk links links_now old new → Asks (length links) old new
+  all_asked [] [] old new same = record { asked = []; replied = same; few = omega arith }
   all_asked (x ∷ xs) (y ∷ ys) old new served =
       let first = ended old served.0 x y served.1 served.2 in
-      let rest = all_asked xs ys served.0 new served.3 in
-      (first.0 ++ rest.0, joined first.0 rest.0 old served.0 new first.1 rest.1)
+      let rest = all_asked xs ys served.0 new served.3 in record {
+        asked = first.asked ++ rest.asked;
+        replied = joined first.asked rest.asked old served.0 new first.replied rest.replied;
+        few = omega (arith, first.few, rest.few, length-append first.asked rest.asked);
+      }
   all_asked [] (y ∷ ys) old new served = absurd served
   all_asked (x ∷ xs) [] old new served = absurd served
 
-  asked_of : (most : ℕ) (before after : E) (old new : Sitting) (end : Option WorkerEnd)
-      → IsSomeAnd end (workers.WorkerEnds desk_of source_of sink_of door_of desk most before after old new)
-      → (asked : List Asked) × AreReplied desk_of desk asked old new
-  asked_of most before after old new (Some (worker_end.Served count)) is =
-      let has = is.1.has_served in all_asked has.given has.handed old new has.served
-  asked_of most before after old new (Some (worker_end.Closed count)) is =
-      let has = is.1.has_served in all_asked has.given has.handed old new has.served
-  asked_of most before after old new (Some (worker_end.DoorFailed count)) is =
-      let has = is.1 in all_asked has.given has.handed old new has.served
-  asked_of most before after old new None is = absurd is
+  served_of : (count : ℕ) (before after : E) (old new : Sitting) → workers.HasServed desk_of source_of sink_of door_of desk count before after old new → Asks count old new
+  served_of count before after old new has =
+      let all = all_asked has.given has.handed old new has.served in
+      record { asked = all.asked; replied = all.replied; few = omega (arith, all.few, has.counted) }
 
-  -- a worker whose seat was new served at the desk
+  module _ (most : ℕ) (before after : E) (old new : Sitting) (first : IsFirst desk old) where
+    -- a worker whose seat was new served at the desk, and ended so
+    ended_so : (end : Option WorkerEnd) → IsSomeAnd end (workers.WorkerEnds desk_of source_of sink_of door_of desk most before after old new)
+        → HasServed desk_of desk most new end
+    ended_so (Some (worker_end.Served count)) is =
+        let asks = served_of count before after old new is.1.has_served in
+        record { first = old; was = first; asked = asks.asked; replied = asks.replied; ended = (is.0, asks.few) }
+    ended_so (Some (worker_end.Closed count)) is =
+        let asks = served_of count before after old new is.1.has_served in
+        record { first = old; was = first; asked = asks.asked; replied = asks.replied; ended = (is.0, asks.few) }
+    ended_so (Some (worker_end.DoorFailed count)) is =
+        let asks = served_of count before after old new is.1 in
+        record { first = old; was = first; asked = asks.asked; replied = asks.replied; ended = (is.0, asks.few) }
+    ended_so None is = absurd is
+
   pub has_served : (most : ℕ) (old new : Worker E) → IsFirst desk old.seat → workers.IsServed desk_of source_of sink_of door_of desk most old new
-      → HasServed desk_of desk new.seat
-  has_served most old new first is =
-      let asked = asked_of most old.door new.door old.seat new.seat new.end is.ended in
-      record { first = old.seat; was = first; asked = asked.0; replied = asked.1 }
+      → HasServed desk_of desk most new.seat new.end
+  has_served most old new first is = ended_so most old.door new.door old.seat new.seat first new.end is.ended
 
 slice_get_at : {X : Type 0} (xs : List X) (i : ℕ) (d : X) → i < length xs → slice_get xs i ≡ Some (get_or xs i d)
 slice_get_at [] i d lt = absurd (omega arith)
@@ -99,11 +117,11 @@ module _ {E S K : Type 0} (desk_of : serves.Ghosts TurnId) (source_of : source.G
   EachServed old now = (i : ℕ) (d : Worker E) → i < length old → workers.IsServed desk_of source_of sink_of door_of desk most (get_or old i d) (get_or now i d)
 
   left_served : (old now : List (Worker E)) → All (λ w. IsFirst desk w.seat) old → EachServed old now
-      → All (λ w. HasServed desk_of desk w.seat) (take (length old) (now ++ drop (length now) old))
+      → All (λ w. HasServed desk_of desk most w.seat w.end) (take (length old) (now ++ drop (length now) old))
   left_served old now first each = λ i d lt.
       let within : i < length old = omega (arith, lt, take_short (length old) (now ++ drop (length now) old)) in
       let e = get_or old i d in
-      subst (λ (w : Worker E). HasServed desk_of desk w.seat) (sym (over_at now old i d within))
+      subst (λ (w : Worker E). HasServed desk_of desk most w.seat w.end) (sym (over_at now old i d within))
       (has_served desk_of source_of sink_of door_of desk most (get_or old i e) (get_or now i e) (first i e within) (each i e within))
 
 -- all of them served at the desk
@@ -111,11 +129,11 @@ pub all_served : {E S K : Type 0} {desk_of : serves.Ghosts TurnId} {source_of : 
     {door_of : workers.DoorWays E S K} {desk : TurnId} {most : ℕ}
     (old lent now : List (Worker E)) (n : ℕ) → lent ≡ old → n ≡ length old → All (λ w. IsFirst desk w.seat) old
     → ((i : ℕ) (d : Worker E) → i < length lent → workers.IsServed desk_of source_of sink_of door_of desk most (get_or lent i d) (get_or now i d))
-    → AreServed desk_of (take n (now ++ drop (length now) old))
+    → AreServed desk_of most (take n (now ++ drop (length now) old))
 all_served {E = E} {desk_of = desk_of} {source_of = source_of} {sink_of = sink_of} {door_of = door_of} {desk = desk} {most = most}
     old lent now n same count first each = inr (record {
       desk = desk;
-      each = subst (λ (m : ℕ). All (λ w. HasServed desk_of desk w.seat) (take m (now ++ drop (length now) old))) (sym count)
+      each = subst (λ (m : ℕ). All (λ w. HasServed desk_of desk most w.seat w.end) (take m (now ++ drop (length now) old))) (sym count)
           (left_served desk_of source_of sink_of door_of desk most old now first
           (subst (λ (xs : List (Worker E)). EachServed desk_of source_of sink_of door_of desk most xs now) same each));
     })

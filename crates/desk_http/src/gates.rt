@@ -7,7 +7,7 @@ ghost use Rattle.desk_shops.specs.Calls.{IsLeftAlone};
 ghost use Rattle.gate_desk.specs.States.{KnowsStore};
 ghost use Rattle.gate_shops.specs.Standing.{IsJustLoadedState};
 ghost use Rattle.desk_http.specs.Opening.{IsOfOpening, ReadsLog, Serves};
-ghost use Rattle.desk_http.specs.Served.{AreServed};
+ghost use Rattle.desk_http.specs.Served.{AreServed, EndsAs};
 
 use crate::faults::{DeskFault, fault_of};
 use crate::serving::{serve_at, unserved};
@@ -84,8 +84,9 @@ where
     W: Threads + Wait + Sync + Net<Listener = TcpListener, Stream = TcpStream>,
     requires { 0 < workers }
     ensures serves { Serves R.Keeper store.old store.new result.end }
-    ensures served { AreServed ⟦<GatedDesk<R> as Serves>⟧ result.workers.items }
+    ensures served { AreServed ⟦<GatedDesk<R> as Serves>⟧ connections result.workers.items }
     ensures count { OnOk result.end (length result.workers.items ≡ workers) }
+    ensures ends { EndsAs result.workers.items result.end }
 {
     let state = match load_gate(alloc, store) {
         Ok(state) => state,
@@ -117,8 +118,9 @@ where
     W: Threads + Wait + Sync + Net<Listener = TcpListener, Stream = TcpStream>,
     requires { 0 < workers }
     ensures serves { Serves R.Keeper store result.0 result.1.end }
-    ensures served { AreServed ⟦<GatedDesk<R> as Serves>⟧ result.1.workers.items }
+    ensures served { AreServed ⟦<GatedDesk<R> as Serves>⟧ connections result.1.workers.items }
     ensures count { OnOk result.1.end (length result.1.workers.items ≡ workers) }
+    ensures ends { EndsAs result.1.workers.items result.1.end }
 {
     let served = serve_lent_gate(rt, alloc, &mut store, port, workers, connections);
     (store, served)

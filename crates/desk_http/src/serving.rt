@@ -4,7 +4,7 @@ ghost use Rattle.std.specs.Prelude.{◌≡◌, ◌<◌, [], Err, IfErr, OnOk, Al
 ghost use Rattle.desk_histories.specs.Legal.{IsLegal};
 ghost use Rattle.desk_lock.specs.Seats.{AreNew, IsIdle};
 ghost use Rattle.desk_http.specs.Opening.{IsOfWorkers, Serves};
-ghost use Rattle.desk_http.specs.Served.{AreServed};
+ghost use Rattle.desk_http.specs.Served.{AreServed, EndsAs, doors_stood};
 
 use crate::faults::DeskFault;
 use crate::opening::{desk_over, load_log};
@@ -22,7 +22,9 @@ use std::sync::Wait;
 use std::thread::Threads;
 
 // Whether no worker's door failed.
-fn are_served(workers: &[Worker<TcpDoor>]) -> bool {
+fn are_served(workers: &[Worker<TcpDoor>]) -> bool
+    ensures { result ≡ doors_stood workers.now }
+{
     workers.iter().all(|worker| !matches!(worker.end, Some(WorkerEnd::DoorFailed(_))))
 }
 
@@ -30,6 +32,7 @@ fn are_served(workers: &[Worker<TcpDoor>]) -> bool {
 pub(crate) fn unserved(alloc: Global, fault: DeskFault) -> Served
     ensures workers { result.workers.items ≡ [] }
     ensures end { result.end ≡ Err fault }
+    ensures ends { EndsAs result.workers.items result.end }
 {
     Served {
         workers: Vec::new(alloc),
@@ -51,8 +54,9 @@ where
     W: Threads + Wait + Sync + Net<Listener = TcpListener, Stream = TcpStream>,
     requires idle { All (IsIdle desk.now) seats.items }
     requires new { AreNew IsLegal desk.now seats.items }
-    ensures served { AreServed ⟦<HttpDesk<S> as Serves>⟧ result.workers.items }
+    ensures served { AreServed ⟦<HttpDesk<S> as Serves>⟧ connections result.workers.items }
     ensures count { OnOk result.end (length result.workers.items ≡ length seats.items) }
+    ensures ends { EndsAs result.workers.items result.end }
     ensures fault { IfErr result.end IsOfWorkers }
 {
     let mut workers = match workers_at(alloc, listener, seats) {
@@ -94,8 +98,9 @@ where
     W: Threads + Wait + Sync + Net<Listener = TcpListener, Stream = TcpStream>,
     requires { 0 < workers }
     ensures serves { Serves R.Keeper store.old store.new result.end }
-    ensures served { AreServed ⟦<OpenDesk<R> as Serves>⟧ result.workers.items }
+    ensures served { AreServed ⟦<OpenDesk<R> as Serves>⟧ connections result.workers.items }
     ensures count { OnOk result.end (length result.workers.items ≡ workers) }
+    ensures ends { EndsAs result.workers.items result.end }
 {
     let state = match load_log(alloc, store) {
         Ok(state) => state,
@@ -130,8 +135,9 @@ where
     W: Threads + Wait + Sync + Net<Listener = TcpListener, Stream = TcpStream>,
     requires { 0 < workers }
     ensures serves { Serves R.Keeper store result.0 result.1.end }
-    ensures served { AreServed ⟦<OpenDesk<R> as Serves>⟧ result.1.workers.items }
+    ensures served { AreServed ⟦<OpenDesk<R> as Serves>⟧ connections result.1.workers.items }
     ensures count { OnOk result.1.end (length result.1.workers.items ≡ workers) }
+    ensures ends { EndsAs result.1.workers.items result.1.end }
 {
     let served = serve_lent(rt, alloc, &mut store, port, workers, connections);
     (store, served)

@@ -1,6 +1,6 @@
 //! The workers of a desk.
 
-ghost use Rattle.std.specs.Prelude.{◌≡◌, ◌+◌, IfErr, IfOk, IfSome, IfNone, All, length};
+ghost use Rattle.std.specs.Prelude.{◌≡◌, ◌+◌, None, IfErr, IfOk, IfSome, IfNone, All, length};
 ghost use Rattle.desk_lock.specs.Seats.{IsIdle, TurnId};
 ghost use Rattle.desk_http.specs.Opening.{IsOfWorkers};
 ghost use Rattle.desk_http.specs.Served.{IsFirst};
@@ -25,8 +25,8 @@ fn last_of(seats: &mut Vec<Seat>) -> Option<Seat>
     seats.pop()
 }
 
-/// A worker for each of these seats, each with a door of its own at the listener. `DoorFailed` comes where the system
-/// gives none, and else `Memory` alone.
+/// A worker for each of these seats, each with a door of its own at the listener, of which none has ended. `DoorFailed`
+/// comes where the system gives none, and else `Memory` alone.
 pub fn workers_at(
     alloc: Global,
     listener: &TcpListener,
@@ -36,6 +36,7 @@ pub fn workers_at(
         → IfOk result (λ workers. All (λ w. IsIdle t w.seat) workers.items) }
     ensures first { (t : TurnId) → All (IsFirst t) seats.items
         → IfOk result (λ workers. All (λ w. IsFirst t w.seat) workers.items) }
+    ensures fresh { IfOk result (λ workers. All (λ w. w.end ≡ None) workers.items) }
     ensures count { IfOk result (λ workers. length workers.items ≡ length seats.items) }
     ensures fault { IfErr result IsOfWorkers }
 {

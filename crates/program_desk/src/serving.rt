@@ -2,7 +2,7 @@
 
 ghost use Rattle.std.specs.Prelude.{◌≡◌, ◌<◌, true, false, OnOk, length};
 ghost use Rattle.desk_http.specs.Opening.{Serves};
-ghost use Rattle.desk_http.specs.Served.{AreServed};
+ghost use Rattle.desk_http.specs.Served.{AreServed, EndsAs};
 
 use crate::ServeWords;
 use desk_http::{GatedDesk, OpenDesk, Served, serve_gate, serve_store};
@@ -21,10 +21,11 @@ where
     requires { 0 < asked.now.workers }
     ensures serves { Serves R.Keeper store result.0 result.1.end }
     ensures gate { asked.now.gate ≡ true
-        → AreServed ⟦<GatedDesk<R> as desk_serving::Serves>⟧ result.1.workers.items }
+        → AreServed ⟦<GatedDesk<R> as desk_serving::Serves>⟧ asked.now.connections result.1.workers.items }
     ensures no_gate { asked.now.gate ≡ false
-        → AreServed ⟦<OpenDesk<R> as desk_serving::Serves>⟧ result.1.workers.items }
+        → AreServed ⟦<OpenDesk<R> as desk_serving::Serves>⟧ asked.now.connections result.1.workers.items }
     ensures count { OnOk result.1.end (length result.1.workers.items ≡ asked.now.workers) }
+    ensures ends { EndsAs result.1.workers.items result.1.end }
 {
     let (port, workers, connections) = (asked.port, asked.workers, asked.connections);
     if asked.gate {

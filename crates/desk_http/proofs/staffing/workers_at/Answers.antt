@@ -1,4 +1,4 @@
-use Rattle.std.proofs.Common.{◌∷◌, [], None, All, sym, subst, ap, length, arith, length-append}
+use Rattle.std.proofs.Common.{◌≡◌, ◌∷◌, [], None, All, refl, sym, subst, ap, length, arith, length-append}
 use Rattle.desk_lock.specs.Seats.{IsIdle}
 use Rattle.desk_http.specs.Served.{IsFirst}
 use Rattle.desk_http.proofs.Seating.{all_more}
@@ -18,5 +18,6 @@ seats-preserved c = record {
         subst (All (λ w. IsFirst t w.seat)) (sym c.in-Ok-push.ensures.items)
             (all_more (λ w. IsFirst t w.seat) c.seats.workers.items _ i.1 (c.in-Some.ensures.first t i.0)),
       );
+  fresh = subst (All (λ w. w.end ≡ None)) (sym c.in-Ok-push.ensures.items) (all_more (λ w. w.end ≡ None) c.seats.workers.items _ c.seats.invariant.fresh refl);
   count = omega (arith, c.seats.invariant.count, c.in-Some.ensures.fewer, ap length c.in-Ok-push.ensures.items, length-append c.seats.workers.items (record { seat = c.in-Some.seat; door = c.in-Ok.door; end = None } ∷ []));
 }
