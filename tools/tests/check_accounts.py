@@ -11,9 +11,8 @@ from checking import INSPECT, ZEROS, Failure, Skip, want
 from rows_histories import KEEPER, MAIN, MAINTAINER, NEWCOMER, OWNER, POLICY, REVIEWER, History, top_file
 from rows_objects import AUTHOR
 from rows_policies import root_of_people, rule
-from slow_verdicts import KEYS, LOST, ROOT_KEYS, Move, Note
-from slow_verdicts import fault, is_back, left_behind, may_skip, not_epoch, numbers_of, policy_at, prior, rescued
-from slow_verdicts import skipped, verdict
+from slow_logs import LOST, Move, Note
+from slow_verdicts import KEYS, ROOT_KEYS, TwoPersons
 
 
 def drawn():
@@ -62,7 +61,7 @@ def first(numbers):
 
 def epoch_at(log, number):
     """The number of the last entry below a number whose policy came into force."""
-    return max((at for at in numbers_of(log, POLICY, number) if not_epoch(log, at) is None), default=None)
+    return max((at for at in log.numbers_of(POLICY, number) if log.not_epoch(at) is None), default=None)
 
 
 def said_by(policy):
@@ -84,13 +83,13 @@ def changed_by(was, now):
 def changed_at(log, number):
     """The field of what the policy that an entry brings into force changes of the one before it, where there was one."""
     entry = log[number - 1]
-    before = policy_at(log, number) if entry.name == POLICY and not_epoch(log, number) is None else None
+    before = log.policy_at(number) if entry.name == POLICY and log.not_epoch(number) is None else None
     return {"changed": changed_by(said_by(before), said_by(entry.target))} if before else {}
 
 
 def signer_at(log, number):
     """The id of the key that signed an entry, where the policy in force at it has that key."""
-    policy, signer = policy_at(log, number), log[number - 1].signer
+    policy, signer = log.policy_at(number), log[number - 1].signer
     return signer.id if policy and signer in (*KEYS, ROOT_KEYS[policy.holder]) else None
 
 
@@ -102,18 +101,18 @@ def told_of(log, number, history, ids):
     if isinstance(entry, Note):
         listed = [history.ids[at - 1] if at else drawn().NOWHERE for at in entry.listed]
         return {**own, "kind": "skip" if entry.skip else "note", "entries": listed, "message": "", "verdict": "noted"}
-    why, before = fault(log, number), prior(log, entry.name, number)
+    why, before = log.fault(number), log.prior(entry.name, number)
     later = range(number + 1, len(log) + 1)
     skips = (at for at in later if isinstance(log[at - 1], Note) and log[at - 1].skip and number in log[at - 1].listed)
-    moves = (at for at in numbers_of(log, entry.name, len(log) + 1) if at > number)
-    rescues = (at for at in moves if not fault(log, at) and is_back(log, at) and number in left_behind(log, at))
+    moves = (at for at in log.numbers_of(entry.name, len(log) + 1) if at > number)
+    rescues = (at for at in moves if not log.fault(at) and log.is_back(at) and number in log.left_behind(at))
     return {
         **own,
         **{"kind": "reference", "reference": entry.name, "target": ids[entry.target]},
         **{"prior": before or None, "from": ids[log[before - 1].target] if before else None},
         **{"verdict": "refused" if why else "authorised", "fault": fault_fields(why) if why else None},
         "signers": [signer] if signer and entry.name != POLICY else [],
-        "skipped": first(at for at in skips if may_skip(log, at, entry.name)),
+        "skipped": first(at for at in skips if log.may_skip(at, entry.name)),
         "rescued": first(rescues) if why else None,
         **changed_at(log, number),
     }
@@ -134,11 +133,11 @@ def hold_entries(repositories, place, log, kept):
 
 def verdict_of(log, name, target, history, ids):
     """What is to be told of a reference that is kept at a target. The rule of each policy protects all branches."""
-    word, *rest = verdict(log, name, target)
+    word, *rest = log.verdict(name, target)
     if word == "violation":
         return {"verdict": word, "reference": name, "number": rest[0], "fault": fault_fields(rest[1]), "mends": mend_of(log, name, history, ids)[1]}
-    spoken = bool(numbers_of(log, name, len(log) + 1))
-    unrecorded = not spoken and name != POLICY and policy_at(log, len(log) + 1) is not None
+    spoken = bool(log.numbers_of(name, len(log) + 1))
+    unrecorded = not spoken and name != POLICY and log.policy_at(len(log) + 1) is not None
     own = {"verdict": word, "reference": name, **({"unrecorded": True} if unrecorded else {})}
     if word == "tip-differs":
         return {**own, "kept": ids[rest[0]], "recorded": ids[rest[1]]}
@@ -195,8 +194,8 @@ def tells_changes(repositories):
 def mend_of(log, name, history, ids):
     """What mends a violation of a name: the numbers to skip, and where the name is then, by the log alone."""
     end = len(log) + 1
-    number = next(at for at in numbers_of(log, name, end) if fault(log, at) and not rescued(log, at))
-    left = [at for at in numbers_of(log, name, end) if not skipped(log, at, end)]
+    number = next(at for at in log.numbers_of(name, end) if log.fault(at) and not log.rescued(at))
+    left = [at for at in log.numbers_of(name, end) if not log.skipped(at, end)]
     skip, before = [at for at in left if at >= number], [at for at in left if at < number]
     back = log[before[-1] - 1].target if before else ZEROS
     tree = None if back == LOST else history.repository.tree_of(ids[back])
@@ -208,12 +207,12 @@ def mend_of(log, name, history, ids):
 
 def mended(log, name, skip, back):
     """A log behind which these entries are skipped and a name goes back to a target, both by who may; None where nobody may."""
-    policy = policy_at(log, len(log) + 1)
+    policy = log.policy_at(len(log) + 1)
     if policy is None:
         return None
     signer = KEYS[policy.holder]
-    longer = [*log, *([Note(True, tuple(skip), signer)] if skip else []), Move(name, back, signer)]
-    return None if fault(longer, len(longer)) else longer
+    longer = TwoPersons(*log, *([Note(True, tuple(skip), signer)] if skip else []), Move(name, back, signer))
+    return None if longer.fault(len(longer)) else longer
 
 
 def hold_mends(repositories, place, log, kept):
@@ -222,7 +221,7 @@ def hold_mends(repositories, place, log, kept):
     history, ids = history_of(log, kept)
     folder = folder_of(repositories, f"to be mended {place}", history.repository)
     for name in kept:
-        if verdict(log, name, kept[name])[0] != "violation":
+        if log.verdict(name, kept[name])[0] != "violation":
             continue
         back, mends = mend_of(log, name, history, ids)
         want(told(folder, name)[1][0]["mends"], mends, f"what mends {name} of drawn log {place}")
@@ -232,10 +231,10 @@ def hold_mends(repositories, place, log, kept):
             continue
         for number in mends["skip"]:
             fewer = mended(log, name, [it for it in mends["skip"] if it != number], back)
-            want(fewer and verdict(fewer, name, back)[0] == "accepted", fewer and False, f"what {number} is skipped for")
+            want(fewer and fewer.verdict(name, back)[0] == "accepted", fewer and False, f"what {number} is skipped for")
         after, _ = history_of(longer, {**kept, name: back})
         status, found = told(folder_of(repositories, f"mended {place} {name.replace('/', ' ')}", after.repository), name)
-        entries = len(numbers_of(longer, name, len(longer) + 1))
+        entries = len(longer.numbers_of(name, len(longer) + 1))
         want((status, found), (0, [{"entries": entries, "reference": name, "verdict": "accepted"}]), f"{name} of drawn log {place}, mended")
         done += 1
     return done, hopeless

@@ -3,12 +3,13 @@
 from collections import Counter
 from functools import lru_cache
 
+from drawn_numbers import Draw
 from rows_histories import AFTER, BEFORE, KEEPER, MAIN, POLICY
 from rows_histories import History, asked, asked_again, top_file
 from rows_objects import ZEROS
 from rows_policies import encoded, envelope, root, rule
-from slow_verdicts import FIRST, KEYS, LOST, OTHER, ROOT_KEYS, SAME, Move, Note, Policy
-from slow_verdicts import fault, is_back, left_behind, may_skip, numbers_of, policy_at, recorded, rescued, verdict
+from slow_logs import LOST, Move, Note
+from slow_verdicts import FIRST, KEYS, OTHER, ROOT_KEYS, SAME, Policy, TwoPersons
 
 SEEDS, LENGTH = range(660, 720), 14
 # Each of these comes of the logs at least so often.
@@ -26,25 +27,10 @@ OF_ONE_TREE = {FIRST: SAME, SAME: FIRST}
 STRANGER, NOWHERE = KEEPER, "1" * 64
 
 
-class Draw:
-    """Numbers that look drawn, by a linear congruential generator with Knuth's constants for 64 bits."""
-
-    def __init__(self, seed):
-        self.state = seed
-        self.below(1)
-
-    def below(self, bound):
-        self.state = (self.state * 6364136223846793005 + 1442695040888963407) % 2**64
-        return (self.state >> 33) % bound
-
-    def of(self, *values):
-        return values[self.below(len(values))]
-
-
 def drawn_policy(draw, log):
     """Half are of policies that may follow. Of the others a stranger signed the root, another person alone did, or its
     version is none that follows; or the policy goes away."""
-    old = policy_at(log, len(log) + 1) or Policy(0, 0, ())
+    old = log.policy_at(len(log) + 1) or Policy(0, 0, ())
     holder, version = draw.below(2), old.version + 1
     own, olds = ROOT_KEYS[holder], ROOT_KEYS[old.holder]
     good = Policy(holder, version, tuple(sorted({own, olds}, key=ROOT_KEYS.index)))
@@ -64,14 +50,14 @@ def drawn_repair(draw, log, signer):
     """A step of a recovery from an entry that is neither authorised nor rescued: a skip, by whomever, or, where an annotation
     skips it, rightly or not, the way back to the tree before it."""
     end = len(log) + 1
-    bad = [at for name in NAMES for at in numbers_of(log, name, end) if fault(log, at) and not rescued(log, at)]
+    bad = [at for name in NAMES for at in log.numbers_of(name, end) if log.fault(at) and not log.rescued(at)]
     if not bad:
         return drawn_move(draw, signer)
     number = draw.of(*bad)
     name = log[number - 1].name
     if not any(isinstance(entry, Note) and entry.skip and number in entry.listed for entry in log):
         return Note(True, draw.of((number,), (number, draw.of(*bad))), draw.of(signer, signer, *KEYS, STRANGER))
-    back = recorded(log, name, number)
+    back = log.recorded(name, number)
     return Move(name, draw.of(back, OF_ONE_TREE.get(back, back)), signer)
 
 
@@ -81,7 +67,7 @@ def drawn_move(draw, signer):
 
 def drawn_entry(draw, log):
     """An entry that may stand next. Most are by the holder of the policy in force."""
-    old = policy_at(log, len(log) + 1)
+    old = log.policy_at(len(log) + 1)
     holder = KEYS[old.holder if old else 0]
     signer = draw.of(*[holder] * 6, *KEYS, STRANGER, None)
     kind = draw.below(12)
@@ -94,15 +80,15 @@ def drawn_entry(draw, log):
 
 def drawn_log(seed):
     """A log, and where each reference is at its end. Most begin with a policy."""
-    draw, log = Draw(seed), []
+    draw, log = Draw(seed), TwoPersons()
     if draw.below(6):
         log.append(Move(POLICY, Policy(0, 1, ROOT_KEYS[:1]), None))
     while len(log) < LENGTH:
         log.append(drawn_entry(draw, log))
     kept = {}
     for name in NAMES:
-        right = recorded(log, name, LENGTH + 1)
-        targets = [log[at - 1].target for at in numbers_of(log, name, LENGTH + 1)] or [ZEROS]
+        right = log.recorded(name, LENGTH + 1)
+        targets = [log[at - 1].target for at in log.numbers_of(name, LENGTH + 1)] or [ZEROS]
         kept[name] = draw.of(right, right, right, targets[-1], targets[0], ZEROS)
     return log, kept
 
@@ -110,19 +96,19 @@ def drawn_log(seed):
 def outcomes(log, kept):
     """What comes of a log, by words that are counted."""
     for name in NAMES:
-        word, *told = verdict(log, name, kept[name])
+        word, *told = log.verdict(name, kept[name])
         yield told[-1].split()[name == POLICY] if word == "violation" else word
-        for number in numbers_of(log, name, LENGTH + 1):
-            if fault(log, number) and rescued(log, number):
+        for number in log.numbers_of(name, LENGTH + 1):
+            if log.fault(number) and log.rescued(number):
                 yield "rescued"
-            if any(fault(log, at) for at in left_behind(log, number)):
-                if fault(log, number):
+            if any(log.fault(at) for at in log.left_behind(number)):
+                if log.fault(number):
                     yield "recovery that is not authorised"
                 else:
-                    yield "recovery" if is_back(log, number) else "recovery to another tree"
+                    yield "recovery" if log.is_back(number) else "recovery to another tree"
             for at in range(number + 1, LENGTH + 1):
                 if isinstance(log[at - 1], Note) and log[at - 1].skip and number in log[at - 1].listed:
-                    yield "skip" if may_skip(log, at, name) else "skip by another"
+                    yield "skip" if log.may_skip(at, name) else "skip by another"
 
 
 LOGS = [drawn_log(seed) for seed in SEEDS]
@@ -207,7 +193,7 @@ def history_of(log, kept, files_of_policies):
 
 def verdicts_of(log, kept, ids):
     """The status and the line of the verdict on each reference, and its name."""
-    return [(*line(name, verdict(log, name, kept[name]), ids), name) for name in NAMES]
+    return [(*line(name, log.verdict(name, kept[name]), ids), name) for name in NAMES]
 
 
 def row_of(place):

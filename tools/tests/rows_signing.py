@@ -15,7 +15,7 @@ except ImportError:
 HEIGHT, LEAVES, CHAINS, LAST = 5, 32, 34, 255
 LMS_TYPE, OTS_TYPE = (5).to_bytes(4, "big"), (4).to_bytes(4, "big")
 # The values of a chain at each so many steps are kept: a leaf signs in several rows.
-APART, STEPS = 16, [bytes((it,)) for it in range(LAST)]
+APART, STEPS = 4, [bytes((it,)) for it in range(LAST)]
 RANDOMIZER, MESSAGE, PUBLIC, LEAF, INNER = 0xFFFD, 0x8181, 0x8080, 0x8282, 0x8383
 
 
@@ -68,7 +68,7 @@ class Key:
 
     @functools.cache
     def kept(self, leaf, chain):
-        """The values of a chain after 0, 16, 32 and further steps from its secret start."""
+        """The values of a chain after 0, 4, 8 and further steps from its secret start."""
         front, found = self.identifier + long(leaf) + short(chain), [self.derived(leaf, chain)]
         for at in range(0, LAST - APART + 1, APART):
             found.append(walked_on(front, found[-1], at, at + APART))
