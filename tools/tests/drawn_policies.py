@@ -2,9 +2,9 @@
 
 from functools import lru_cache
 
-from rows_policies import encoded, envelope, ids_of, listed_keys, people_of, text_of
+from rows_policies import encoded, envelope, listed_keys, people_of, text_of
 from rows_signing import LEAVES, Key, TwoLevels, sha256
-from slow_policies import Guard, Policy, Role, Root, Rule, RuleFile, Signed, keys_of, policy_keys
+from slow_policies import Guard, Policy, Role, Root, Rule, RuleFile, Signed
 
 CAST = (
     ("alice", (Key("alice"), Key("alice, another"))),

@@ -6,7 +6,7 @@ from rows_histories import POLICY, History
 from rows_objects import FILE, ZEROS
 from rows_policies import approval
 from slow_logs import LOST, Move, Note
-from slow_persons import ATTESTATIONS, Made, Persons, files_in_order
+from slow_persons import ATTESTATIONS, Made, Persons
 from slow_policies import invalid, policy_keys
 
 BRANCHES = ("refs/heads/main", "refs/heads/main", "refs/heads/next", "refs/tags/v1")

@@ -1,8 +1,7 @@
 """Logs under policies of persons, with approvals and global rules, worked out the slow way."""
 
-from rows_histories import POLICY
 from rows_objects import ZEROS
-from slow_logs import LOST, Move, Note, SlowLog
+from slow_logs import LOST, SlowLog
 from slow_policies import invalid, may_act, most_signed, no_successor, policy_keys, speaks_of, too_few, unanchored, unmet
 
 ATTESTATIONS = "refs/gittuf/attestations"
