@@ -7,17 +7,21 @@ import os
 import re
 import signal
 import socket
+import sqlite3
 import subprocess
 import time
 
 import stand_in_desk
 from check_keys import ENTRY_LINE, KEY_LINE, line_of
-from checking import PROGRAM, TOP, ZEROS, Failure, run, want, want_run
+from checking import PROGRAM, TOP, ZEROS, Failure, in_this_run, run, want, want_run
+from made_databases import SCHEMA, TABLES
 from rows_objects import object_id
 
 GUARDED = os.path.join(TOP, "examples", "guarded.stream")
 MAIN = "refs/heads/main"
 TRIES = 2000
+# The most bytes of a stream that a desk gives, and those of most blobs of a long one.
+MOST_BYTES, BLOB_BYTES = 268_435_456, 8_388_608
 
 
 def free_port():
@@ -218,4 +222,35 @@ def takes_what_push_sends(repositories):
     want_run(send(source, free_port(), 1), 4, b"", b"fault\n")
 
 
-CHECKS = (takes_an_entry_once, listens_at_a_low_port, takes_what_push_sends, ends_after_its_connections, is_refused_a_port)
+def blob_line(size):
+    return b"object %s blob %d\n" % (ZEROS.encode(), size)
+
+
+def blobs_of_a_stream(size):
+    """Blobs that have a stream of so many bytes, which has nothing else."""
+    left, number = size - len(b"gittuf-stream 1\nend\n"), 0
+    while left:
+        # Behind a body stands a line feed. What is left is not so little that its number of digits decides.
+        most = left - len(blob_line(left)) - 1
+        count = BLOB_BYTES if most > 2 * BLOB_BYTES else most
+        left, number = left - len(blob_line(count)) - count - 1, number + 1
+        yield (b"%d\n" % number).ljust(count, b"x")
+
+
+def gives_a_long_stream(repositories):
+    """a desk gives a stream of 256 MiB, and says of one that has a byte more that it is too large (with --long; else one of 1 MiB)"""
+    for size in in_this_run((1 << 20,), (MOST_BYTES, MOST_BYTES + 1)):
+        place = repositories.path(f"{size} bytes.db")
+        with contextlib.closing(sqlite3.connect(place)) as database:
+            database.executescript(TABLES + SCHEMA)
+            rows = ((bytes.fromhex(object_id(b"blob", it)), it) for it in blobs_of_a_stream(size))
+            database.executemany("INSERT INTO objects VALUES (?, 1, ?)", rows)
+            database.commit()
+        with desk(place) as (_, port):
+            code, body = ask(port, "GET", "/v1/stream")
+        found = (code, len(body), body[:16]) if code == 200 else (code, body)
+        wanted = (200, size, b"gittuf-stream 1\n") if size <= MOST_BYTES else (413, b"too large %d\n" % MOST_BYTES)
+        want(found, wanted, f"what is given of a stream of {size} bytes")
+
+
+CHECKS = (takes_an_entry_once, listens_at_a_low_port, takes_what_push_sends, ends_after_its_connections, is_refused_a_port, gives_a_long_stream)
