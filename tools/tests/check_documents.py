@@ -217,6 +217,8 @@ def wrong_with(name):
         return f"{name}: {why}"
     if twin.is_for_a_check():
         found = is_check(*twin.by.split("::"))
+    elif twin.by in twin_files.PRINTING:
+        found = True
     else:
         found = is_call(twin.by) if twin.crate() else twin.by in rows()
     return None if found else f"{name}: {twin.by} is no row, no test and no check"
