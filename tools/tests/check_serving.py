@@ -253,4 +253,24 @@ def gives_a_long_stream(repositories):
         want(found, wanted, f"what is given of a stream of {size} bytes")
 
 
-CHECKS = (takes_an_entry_once, listens_at_a_low_port, takes_what_push_sends, ends_after_its_connections, is_refused_a_port, gives_a_long_stream)
+def names_what_is_damaged(repositories):
+    """a desk over a database in which an object is kept under another's id names that id where its stream is asked for, and gives none"""
+    place, body = repositories.path("damaged.db"), b"kept\n"
+    id = object_id(b"blob", b"another\n")
+    with contextlib.closing(sqlite3.connect(place)) as database:
+        database.executescript(TABLES + SCHEMA)
+        database.execute("INSERT INTO objects VALUES (?, 1, ?)", (bytes.fromhex(id), body))
+        database.commit()
+    with desk(place) as (_, port):
+        want(ask(port, "GET", "/v1/stream"), (422, f"incomplete {id}\n".encode()), "what is given of a stream with it")
+
+
+CHECKS = (
+    takes_an_entry_once,
+    listens_at_a_low_port,
+    takes_what_push_sends,
+    ends_after_its_connections,
+    is_refused_a_port,
+    gives_a_long_stream,
+    names_what_is_damaged,
+)
