@@ -1,17 +1,20 @@
-"""The checks of tools/test on what is as large as it may be and a little larger: a log, and the listing of a snapshot."""
+"""The checks of tools/test on what is as large as it may be and a little larger: a log, the listing of a snapshot, a stream."""
 
 import contextlib
 import sqlite3
+import subprocess
 
 from check_keys import ENTRY_LINE, KEY_LINE, line_of
+from check_serving import numbered_blob, sizes_of_blobs
 from check_snapshots import COMMIT_LINE, listing_of
 from checking import PROGRAM, in_this_run, run, want
 from made_databases import KINDS, SCHEMA, TABLES, command
+from made_folders import END, HEADER, IMPORTED
 from rows_histories import LOG, MAIN
 from rows_objects import AUTHOR, EMPTY_TREE, object_id
 
-# A log has so many entries at most, a listing so many rows, and so many bytes of paths.
-MOST_ENTRIES, MOST_ROWS, MOST_PATH_BYTES = 1_000_000, 262_144, 67_108_864
+# A log has so many entries at most, a listing so many rows, and so many bytes of paths, and a stream so many bytes.
+MOST_ENTRIES, MOST_ROWS, MOST_PATH_BYTES, MOST_BYTES = 1_000_000, 262_144, 67_108_864, 1 << 30
 # A command over a log of that length may take so long.
 LONG_SECONDS = 900
 TARGET = object_id(b"blob", b"target\n")
@@ -68,4 +71,21 @@ def takes_so_many_rows(repositories):
             want(run(*words, input=longer, seconds=LONG_SECONDS), (3, b"", b"input\n"), "what is said of more than that")
 
 
-CHECKS = (takes_the_last_entry, takes_so_many_rows)
+def takes_so_long_a_stream(repositories):
+    """`import` takes a stream of 2^30 bytes, and refuses one that has a byte more as too large (with --long; else it takes one of 1 MiB)"""
+    for size in in_this_run((1 << 20,), (MOST_BYTES, MOST_BYTES + 1)):
+        place = repositories.path(f"{size} bytes of a stream")
+        with open(place, "wb") as stream:
+            stream.write(HEADER)
+            for _, number, count in sorted((numbered_blob(*it)[0], *it) for it in sizes_of_blobs(size)):
+                id, body = numbered_blob(number, count)
+                stream.write(b"object %s blob %d\n%s\n" % (id.encode(), count, body))
+            stream.write(END)
+            want(stream.tell(), size, "the bytes of the stream")
+        with open(place, "rb") as stream:
+            ran = subprocess.run(command(f"{place}.db", "import"), stdin=stream, capture_output=True, timeout=LONG_SECONDS, check=False)
+        wanted = (0, IMPORTED, b"") if size <= MOST_BYTES else (3, b"", b"stream 4\n")
+        want((ran.returncode, ran.stdout, ran.stderr), wanted, f"what is said of a stream of {size} bytes")
+
+
+CHECKS = (takes_the_last_entry, takes_so_many_rows, takes_so_long_a_stream)

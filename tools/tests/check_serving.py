@@ -226,15 +226,21 @@ def blob_line(size):
     return b"object %s blob %d\n" % (ZEROS.encode(), size)
 
 
-def blobs_of_a_stream(size):
-    """Blobs that have a stream of so many bytes, which has nothing else."""
+def sizes_of_blobs(size):
+    """The numbers and sizes of blobs that have a stream of so many bytes, which has nothing else."""
     left, number = size - len(b"gittuf-stream 1\nend\n"), 0
     while left:
         # Behind a body stands a line feed. What is left is not so little that its number of digits decides.
         most = left - len(blob_line(left)) - 1
         count = BLOB_BYTES if most > 2 * BLOB_BYTES else most
         left, number = left - len(blob_line(count)) - count - 1, number + 1
-        yield (b"%d\n" % number).ljust(count, b"x")
+        yield number, count
+
+
+def numbered_blob(number, count):
+    """The blob of a number, of so many bytes, and its id."""
+    body = (b"%d\n" % number).ljust(count, b"x")
+    return object_id(b"blob", body), body
 
 
 def gives_a_long_stream(repositories):
@@ -243,8 +249,8 @@ def gives_a_long_stream(repositories):
         place = repositories.path(f"{size} bytes.db")
         with contextlib.closing(sqlite3.connect(place)) as database:
             database.executescript(TABLES + SCHEMA)
-            rows = ((bytes.fromhex(object_id(b"blob", it)), it) for it in blobs_of_a_stream(size))
-            database.executemany("INSERT INTO objects VALUES (?, 1, ?)", rows)
+            blobs = (numbered_blob(*it) for it in sizes_of_blobs(size))
+            database.executemany("INSERT INTO objects VALUES (?, 1, ?)", ((bytes.fromhex(id), body) for id, body in blobs))
             database.commit()
         with desk(place) as (_, port):
             code, body = ask(port, "GET", "/v1/stream")
