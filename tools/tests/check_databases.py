@@ -8,14 +8,14 @@ import tempfile
 
 import rows_of_entries
 from check_locks import wait_for
+from check_serving import objects_in
 from checking import PROGRAM, run, want, want_run
-from made_databases import ASKED, FAULT, SCHEMA, TABLES, big_stream, bytes_of, change, command, is_refused, is_sound, locked, rows_of
+from made_databases import ASKED, FAULT, KINDS, SCHEMA, TABLES, big_stream, bytes_of, change, command, is_refused, is_sound, locked, rows_of
 from made_databases import small_database, small_objects
 from made_folders import END, HEADER, IMPORTED
 from made_folders import command as folder_command
 
 JUDGED = rows_of_entries.ROWS[:8]
-KINDS = {b"blob": 1, b"tree": 2, b"commit": 3, b"tag": 4}
 # Who is nobody on every system, for what the owner of all files may do anyway.
 NOBODY = 65534
 
@@ -47,8 +47,9 @@ def goes_between(repositories):
     want_run(command(second, "export"), 0, stream)
     for place in (first, second):
         is_sound(place)
-    kinds = {kind for kind, in rows_of(second, "SELECT DISTINCT kind FROM objects")}
-    want(kinds <= set(KINDS.values()) and len(kinds) > 2, True, f"whether {kinds} are kinds")
+    wanted = sorted((bytes.fromhex(id.decode()), KINDS[kind]) for id, (kind, _) in objects_in(stream).items())
+    want(rows_of(second, "SELECT id, kind FROM objects ORDER BY id"), wanted, "the kind of each object")
+    want(len({kind for _, kind in wanted}) > 2, True, "whether there are enough kinds")
 
 
 def judges_alike(repositories):

@@ -215,12 +215,26 @@ def wrong_with(name):
         twin_files.texts_of([twin])
     except twin_files.BadTwin as why:
         return f"{name}: {why}"
-    found = is_call(twin.by) if twin.crate() else twin.by in rows()
-    return None if found else f"{name}: {twin.by} is no row and no test"
+    if twin.is_for_a_check():
+        found = is_check(*twin.by.split("::"))
+    elif twin.by in twin_files.PRINTING:
+        found = True
+    else:
+        found = is_call(twin.by) if twin.crate() else twin.by in rows()
+    return None if found else f"{name}: {twin.by} is no row, no test and no check"
+
+
+def is_check(module, name):
+    """Whether a module of tools/tests has a check of this name among those that tools/test makes."""
+    place = f"tools/tests/{module}.py"
+    if not os.path.exists(os.path.join(TOP, place)):
+        return False
+    _, listed, checks = text_of(place).partition("\nCHECKS = (")
+    return bool(listed) and name in re.findall(r"\w+", checks.partition(")")[0])
 
 
 def twins_can_be_tried(repositories):
-    """each twin changes texts that stand once in their files, and names a row or a test"""
+    """each twin changes texts that stand once in their files, and names a row, a test or a check"""
     names = twin_files.names()
     refuse([it for it in map(wrong_with, names) if it])
     return f"{len(names)} twins"

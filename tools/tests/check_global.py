@@ -1,11 +1,19 @@
-"""The checks of tools/test on global rules in git gittuf: how they are edited and signed, and what verify says by them."""
+"""The checks of tools/test on global rules in git gittuf: how they are edited and signed, and what verify says by them; and how
+far verify-global looks back."""
 
+import contextlib
 import json
+import sqlite3
 
-from checking import run, want
+from checking import PROGRAM, in_this_run, run, want
 from guarded_clones import MAIN, another
+from made_databases import KINDS, SCHEMA, TABLES
+from rows_objects import AUTHOR, object_id
 
 PATH = "global/rules.json"
+# So many ancestors of a target are looked at, which begin with it, and that may take so long.
+MOST_ANCESTORS, FAR_SECONDS = 1_000_000, 900
+NEAR, FAR = "refs/heads/near", "refs/heads/far"
 TWO, KEEP = ("threshold", "two", "2", MAIN), ("no-rewind", "keep", "refs/heads/*")
 
 
@@ -79,4 +87,46 @@ def tells_global_verdicts(repositories):
     want(clones.gittuf("alice", "verify", "main").decode().splitlines()[-1], f"global-kept {MAIN} 3 entries", "the line once the entry is skipped")
 
 
-CHECKS = (edits_global_rules, refuses_global_rules, tells_global_verdicts)
+def line_of_commits(count, tree, ids):
+    """The rows of a line of so many commits; the ids of the first two and of the last are added to a list."""
+    parent = b""
+    for number in range(count):
+        body = b"tree %s\n%sauthor %s\ncommitter %s\n\n%d\n" % (tree.encode(), parent, AUTHOR, AUTHOR, number)
+        id = object_id(b"commit", body)
+        parent = b"parent %s\n" % id.encode()
+        if number in (0, 1, count - 1):
+            ids.append(id)
+        yield bytes.fromhex(id), KINDS[b"commit"], body
+
+
+def line_database(place, count):
+    """A database with a line of commits, of which one branch went from the second to the last, and one from the first, under
+    the rule that none goes back."""
+    import rows_of_global
+
+    history, ids = rows_of_global.ruled(rows_of_global.KEEP), []
+    tree = history.repository.add(b"tree", b"")
+    with contextlib.closing(sqlite3.connect(place)) as database:
+        database.executescript(TABLES + SCHEMA)
+        database.executemany("INSERT INTO objects VALUES (?, ?, ?)", line_of_commits(count, tree, ids))
+        for name, target in ((NEAR, ids[1]), (FAR, ids[0]), (NEAR, ids[2]), (FAR, ids[2])):
+            history.record(name, target)
+        objects = ((bytes.fromhex(id), KINDS[kind], body) for id, (kind, body) in history.repository.objects.items())
+        database.executemany("INSERT INTO objects VALUES (?, ?, ?)", objects)
+        references = ((name.encode(), bytes.fromhex(id)) for name, id in history.repository.references.items())
+        database.executemany("INSERT INTO refs VALUES (?, ?)", references)
+        database.commit()
+
+
+def looks_at_a_million_ancestors(repositories):
+    """verify-global looks at the first 1,000,000 ancestors, and says of a commit behind them that it is too far (with --long; else none is)"""
+    place, count = repositories.path("far.db"), in_this_run(1_000, MOST_ANCESTORS + 1)
+    line_database(place, count)
+    asked = lambda name: run(PROGRAM, place, "-", "verify-global", name, seconds=FAR_SECONDS)
+    want(asked(NEAR), (0, f"global-kept {NEAR} 2 entries\n".encode(), b""), f"of commit {count - 1}, counted from the target on")
+    too_far = (1, f"global-violation {FAR} 5 too-far keep\n".encode(), b"")
+    kept = (0, f"global-kept {FAR} 2 entries\n".encode(), b"")
+    want(asked(FAR), too_far if count > MOST_ANCESTORS else kept, f"of commit {count}")
+
+
+CHECKS = (edits_global_rules, refuses_global_rules, tells_global_verdicts, looks_at_a_million_ancestors)

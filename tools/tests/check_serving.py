@@ -7,17 +7,21 @@ import os
 import re
 import signal
 import socket
+import sqlite3
 import subprocess
 import time
 
 import stand_in_desk
 from check_keys import ENTRY_LINE, KEY_LINE, line_of
-from checking import PROGRAM, TOP, ZEROS, Failure, run, want, want_run
+from checking import PROGRAM, TOP, ZEROS, Failure, in_this_run, run, want, want_run
+from made_databases import SCHEMA, TABLES
 from rows_objects import object_id
 
 GUARDED = os.path.join(TOP, "examples", "guarded.stream")
 MAIN = "refs/heads/main"
 TRIES = 2000
+# The most bytes of a stream that a desk gives, and those of most blobs of a long one.
+MOST_BYTES, BLOB_BYTES = 268_435_456, 8_388_608
 
 
 def free_port():
@@ -218,4 +222,61 @@ def takes_what_push_sends(repositories):
     want_run(send(source, free_port(), 1), 4, b"", b"fault\n")
 
 
-CHECKS = (takes_an_entry_once, listens_at_a_low_port, takes_what_push_sends, ends_after_its_connections, is_refused_a_port)
+def blob_line(size):
+    return b"object %s blob %d\n" % (ZEROS.encode(), size)
+
+
+def sizes_of_blobs(size):
+    """The numbers and sizes of blobs that have a stream of so many bytes, which has nothing else."""
+    left, number = size - len(b"gittuf-stream 1\nend\n"), 0
+    while left:
+        # Behind a body stands a line feed. What is left is not so little that its number of digits decides.
+        most = left - len(blob_line(left)) - 1
+        count = BLOB_BYTES if most > 2 * BLOB_BYTES else most
+        left, number = left - len(blob_line(count)) - count - 1, number + 1
+        yield number, count
+
+
+def numbered_blob(number, count):
+    """The blob of a number, of so many bytes, and its id."""
+    body = (b"%d\n" % number).ljust(count, b"x")
+    return object_id(b"blob", body), body
+
+
+def gives_a_long_stream(repositories):
+    """a desk gives a stream of 256 MiB, and says of one that has a byte more that it is too large (with --long; else one of 1 MiB)"""
+    for size in in_this_run((1 << 20,), (MOST_BYTES, MOST_BYTES + 1)):
+        place = repositories.path(f"{size} bytes.db")
+        with contextlib.closing(sqlite3.connect(place)) as database:
+            database.executescript(TABLES + SCHEMA)
+            blobs = (numbered_blob(*it) for it in sizes_of_blobs(size))
+            database.executemany("INSERT INTO objects VALUES (?, 1, ?)", ((bytes.fromhex(id), body) for id, body in blobs))
+            database.commit()
+        with desk(place) as (_, port):
+            code, body = ask(port, "GET", "/v1/stream")
+        found = (code, len(body), body[:16]) if code == 200 else (code, body)
+        wanted = (200, size, b"gittuf-stream 1\n") if size <= MOST_BYTES else (413, b"too large %d\n" % MOST_BYTES)
+        want(found, wanted, f"what is given of a stream of {size} bytes")
+
+
+def names_what_is_damaged(repositories):
+    """a desk over a database in which an object is kept under another's id names that id where its stream is asked for, and gives none"""
+    place, body = repositories.path("damaged.db"), b"kept\n"
+    id = object_id(b"blob", b"another\n")
+    with contextlib.closing(sqlite3.connect(place)) as database:
+        database.executescript(TABLES + SCHEMA)
+        database.execute("INSERT INTO objects VALUES (?, 1, ?)", (bytes.fromhex(id), body))
+        database.commit()
+    with desk(place) as (_, port):
+        want(ask(port, "GET", "/v1/stream"), (422, f"incomplete {id}\n".encode()), "what is given of a stream with it")
+
+
+CHECKS = (
+    takes_an_entry_once,
+    listens_at_a_low_port,
+    takes_what_push_sends,
+    ends_after_its_connections,
+    is_refused_a_port,
+    gives_a_long_stream,
+    names_what_is_damaged,
+)

@@ -8,6 +8,8 @@ from checking import PROGRAM, want, want_run
 from made_folders import END, HEADER, IMPORTED, object_file, stream_of
 
 FAULT = b"fault\n"
+# The number of each kind in the rows of objects.
+KINDS = {b"blob": 1, b"tree": 2, b"commit": 3, b"tag": 4}
 TABLES = """
 CREATE TABLE objects (id BLOB NOT NULL PRIMARY KEY, kind INTEGER NOT NULL, body BLOB NOT NULL) STRICT;
 CREATE TABLE refs (name BLOB NOT NULL PRIMARY KEY, id BLOB NOT NULL) STRICT;

@@ -281,7 +281,7 @@ def failing():
 ROWS = (refused, unsigned, borrowed, fixed, not_fixed, annotated, policies, approved, moved, repaired, failing)
 
 
-def files():
-    """The rows and the lines that must come of them."""
-    made = [step for row in ROWS for steps in row() for step in steps]
+def files(rows):
+    """Rows and the lines that must come of them."""
+    made = [step for row in rows for steps in row() for step in steps]
     return b"".join(it for it, _ in made), b"".join(it for _, it in made)

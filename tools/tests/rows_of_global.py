@@ -26,13 +26,13 @@ TWO = least("two", 2, f"git:{MAIN}")
 KEEP = no_rewind("keep", "git:refs/heads/*")
 
 
-def add_policy(history, payload, top=None, signers=(OWNER,), mode=FILE, files=None, signer=OWNER, path=GLOBAL):
-    """Records a policy with a file of global rules, which these signed."""
+def add_policy(history, payload, top=None, signers=(OWNER,), mode=FILE, files=None, signer=OWNER, path=GLOBAL, size=0):
+    """Records a policy with a file of global rules, which these signed, and which has so many bytes at least."""
     rows = {}
     for stem, sealed in (files or base_files(top or base_top())).items():
         rows[b"metadata/%s.json" % stem.encode()] = history.seal(*sealed)
     if payload is not None:
-        rows[path] = (mode, history.repository.blob(history.seal(payload, list(signers))))
+        rows[path] = (mode, history.repository.blob(history.seal(payload, list(signers)).ljust(size)))
     history.record(POLICY, history.commit(rows), signer)
 
 
@@ -213,6 +213,21 @@ def a_broken_state_has_no_paths():
     return asks(history, broken(4, "threshold all file:src/x 0 of 1", "refs/heads/a"))
 
 
+def the_first_rule_that_is_broken():
+    """Of two rules that one entry breaks the first of the file is told, of whichever kind it is."""
+    history = History()
+    add_policy(history, None)
+    parent = history.commit(BEFORE)
+    child, side = child_of(history, [parent]), "refs/heads/a"
+    history.record(MAIN, child, MAINTAINER)
+    history.record(side, child, None)
+    add_policy(history, global_file(TWO, KEEP))
+    history.record(MAIN, parent, MAINTAINER)
+    add_policy(history, global_file(KEEP, least("two", 2, f"git:{side}")))
+    history.record(side, parent, None)
+    return asks(history, broken(5, f"threshold two git:{MAIN} 1 of 2"), broken(7, "rewound keep", side))
+
+
 ROWS = (
     two_persons_always,
     two_persons_by_an_approval,
@@ -229,4 +244,5 @@ ROWS = (
     a_skipped_violation,
     no_other_reference,
     a_broken_state_has_no_paths,
+    the_first_rule_that_is_broken,
 )

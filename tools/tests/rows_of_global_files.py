@@ -7,6 +7,9 @@ from rows_of_global import GLOBAL, TWO, add_policy, asks, broken, global_file, k
 from rows_policies import root
 from rows_runs import Run, failing, refused, room
 
+# The most bytes of a file of global rules.
+LARGEST = 1_048_576
+
 
 def bad_files():
     """A file that is refused, that too few signed, or that is a link is bad at each entry."""
@@ -24,6 +27,16 @@ def bad_files():
         history.record(f"refs/tags/{number}", history.commit(BEFORE), None)
         runs.append(broken(2 * number + 2, "bad-file", f"refs/tags/{number}"))
     return asks(history, *runs)
+
+
+def sizes_of_files():
+    """A file of 1 MiB is read, and one that has a byte more is bad. What stands behind the value of JSON is white space."""
+    history = History()
+    tags = global_file(least("tags", 1, "git:refs/tags/*"))
+    for number, size in enumerate((LARGEST, LARGEST + 1)):
+        add_policy(history, tags, size=size)
+        history.record(f"refs/tags/{number}", history.commit(BEFORE), None)
+    return asks(history, broken(2, "threshold tags git:refs/tags/0 0 of 1", "refs/tags/0"), broken(4, "bad-file", "refs/tags/1"))
 
 
 def no_file():
@@ -113,6 +126,7 @@ def a_line_that_is_not_told():
 
 ROWS = (
     bad_files,
+    sizes_of_files,
     no_file,
     the_policy_in_force,
     the_policys_own_reference,

@@ -1,15 +1,12 @@
-"""Rows on offers to a mirror, and on dossiers: how they are made and read, and what they show."""
+"""Rows on offers to a mirror: what they are to its log, what is taken and kept, and what fails."""
 
-from rows_histories import LOG, MAIN, MAINTAINER, REVIEWER, History
+from rows_histories import LOG, MAIN, History
 from rows_objects import object_id
 from rows_runs import Anew, Run, done, failing, given, refused, room
 
-LEAF = 4
 # The store answers so many calls for an offer of three entries where it has two: where its log stands, both entries, what
 # it has of each offered object, each reference after another until there is none, and the change.
 OFFER_CALLS = 10
-# An object that is nowhere.
-NOWHERE = object_id(b"blob", b"nowhere")
 
 
 def log_of(letters, **references):
@@ -133,95 +130,6 @@ def offers_over_what_fails():
     return (History(), *runs)
 
 
-class Signed:
-    """Entries by one key: a first one, and others behind it, each with a leaf and what it records."""
-
-    def __init__(self, key=MAINTAINER):
-        self.history, self.key = History(), key
-        self.history.record(MAIN, object_id(b"blob", b"first"))
-
-    def entry(self, number, leaf, letter, key=None):
-        """The id of a signed entry of this number, which stands on the one before, and no other on it."""
-        other = History()
-        other.ids, other.used = self.history.ids[: number - 1], {key or self.key: leaf}
-        other.record(MAIN, object_id(b"blob", letter.encode()), key or self.key)
-        entry = other.ids[-1]
-        self.history.repository.add(*other.repository.objects[entry])
-        if len(self.history.ids) < number:
-            self.history.ids.append(entry)
-        return entry
-
-    def body(self, entry):
-        return self.history.repository.objects[entry][1]
-
-    def dossier(self, left, right):
-        return dossier_of(self.key.public, self.body(left), self.body(right))
-
-
-def dossier_of(public, left, right):
-    return b"gittuf-evidence 1\nkey %s\nleft %d\n%s\nright %d\n%s\nend\n" % (public.hex().encode(), len(left), left, len(right), right)
-
-
-def shown(text, *lines):
-    """What a dossier shows, which is nothing without these lines."""
-    found = "".join(f"{it}\n" for it in lines)
-    return Run("evidence-check", (0, found, "") if found else (1, "nothing\n", ""), source=text)
-
-
-def a_leaf_used_twice():
-    """Two entries, of numbers 2 and 3, that one leaf signed show that leaf; with one byte of a signature changed nothing."""
-    signed = Signed()
-    second, third = signed.entry(2, LEAF, "b"), signed.entry(3, LEAF, "c")
-    dossier = signed.dossier(second, third)
-    words = f"evidence-make {MAINTAINER.public.hex()}"
-    at = dossier.index(b"lmssig ") + 200
-    other = b"A" if dossier[at : at + 1] != b"A" else b"B"
-    return (
-        signed.history,
-        done("import", "imported"),
-        Run(f"{words} {second} {third}", (0, dossier.decode(), ""), over=[room("sink", 65536)]),
-        shown(dossier, f"reuse {LEAF}"),
-        shown(dossier[:at] + other + dossier[at + 1 :]),
-        shown(dossier.replace(MAINTAINER.public.hex().encode(), REVIEWER.public.hex().encode())),
-        refused(f"{words} {NOWHERE} {third}", 3, f"object {NOWHERE}"),
-        refused(f"{words} {second} {NOWHERE}", 3, f"object {NOWHERE}"),
-    )
-
-
-def a_number_signed_twice():
-    """Two entries of one number by one key are a fork, by two leaves and by one; an entry beside itself is none, and neither
-    are two of two numbers, nor two by two keys."""
-    signed = Signed()
-    once, twice = signed.entry(2, LEAF, "b"), signed.entry(2, LEAF + 1, "c")
-    same, later = signed.entry(2, LEAF, "d"), signed.entry(3, LEAF + 2, "e")
-    others = signed.entry(2, LEAF, "f", REVIEWER)
-    return (
-        History(),
-        shown(signed.dossier(once, twice), "fork 2"),
-        shown(signed.dossier(once, same), "fork 2", f"reuse {LEAF}"),
-        shown(signed.dossier(once, once)),
-        shown(signed.dossier(once, later)),
-        shown(signed.dossier(once, others)),
-    )
-
-
-def no_dossiers():
-    """What is no dossier is refused: no bytes, a front of one, a byte more, and another first line; and the words of a key
-    that has no length of one."""
-    whole = dossier_of(MAINTAINER.public, b"left", b"")
-    texts = (b"", whole[:-1], whole + b"\n", whole.replace(b" 1\n", b" 2\n", 1), whole.replace(b"left 4", b"left 5"))
-    digits = MAINTAINER.public.hex()
-    return (
-        History(),
-        shown(whole),
-        *(refused("evidence-check", 3, "input", source=it) for it in texts),
-        refused(f"evidence-make {digits[:-2]} {NOWHERE} {NOWHERE}", 2, "words refused"),
-        refused(f"evidence-make {digits.upper()} {NOWHERE} {NOWHERE}", 2, "words refused"),
-        refused(f"evidence-make {digits} {NOWHERE}", 2, "words refused"),
-        refused("mirror refs/heads/main", 2, "words refused"),
-    )
-
-
 ROWS = (
     a_mirror_grows,
     pasts_part,
@@ -229,7 +137,4 @@ ROWS = (
     a_mirrors_own_references,
     offers_refused,
     offers_over_what_fails,
-    a_leaf_used_twice,
-    a_number_signed_twice,
-    no_dossiers,
 )

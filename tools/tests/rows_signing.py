@@ -155,17 +155,26 @@ class OneLeaf:
         return b"".join((long(self.leaf), self.ots_type, randomizer, *values, self.lms_type, *self.path))
 
 
-class TwoLevels:
-    """A key of two levels (HSS): the first leaf of one key signs another key, whose leaves sign messages."""
+class Levels:
+    """A key of several levels (HSS): a leaf of each key but the last signs the key below it, and the last one's sign messages."""
 
     kind = "hss"
 
-    def __init__(self, name):
-        self.top, self.bottom = Key(f"{name}, the top"), Key(f"{name}, the bottom")
-        self.public = long(2) + self.top.public
+    def __init__(self, links, last):
+        """Of keys from the top one down, each with the leaf that signs the next, and of the last one."""
+        self.links, self.last = links, last
+        self.public = long(len(links) + 1) + (links[0][0] if links else last).public
         self.id = sha256(self.public).hex()
 
     def sign(self, leaf, message):
-        """The HSS signature of a message by a leaf of the bottom key, 2,644 bytes."""
-        link = self.top.sign(0, self.bottom.public) + self.bottom.public
-        return long(1) + link + self.bottom.sign(leaf, message)
+        """The HSS signature of a message by a leaf of the last key, by two levels 2,644 bytes."""
+        below = [key.public for key, _ in self.links[1:]] + [self.last.public]
+        signed = [key.sign(at, public) + public for (key, at), public in zip(self.links, below)]
+        return b"".join((long(len(self.links)), *signed, self.last.sign(leaf, message)))
+
+
+class TwoLevels(Levels):
+    """A key of two levels, of which the first leaf of the top key signs the one below."""
+
+    def __init__(self, name):
+        super().__init__([(Key(f"{name}, the top"), 0)], Key(f"{name}, the bottom"))

@@ -1,8 +1,10 @@
 """The twins of tools/tests/twins: slips that are made alike in a definition and in the code, which no proof refuses.
 
-A twin is a file of lines: `title:` says what the slip means, `by:` names the row, or the test as CRATE::TEST, that must
-refuse it, and below each `file:`, a path from the top of the repository, stand pairs of lines `old:` and `new:`. Each old
-text stands in its file exactly once, and all pairs of a file are made at once, so that two texts may change places.
+A twin is a file of lines: `title:` says what the slip means, `by:` names the row, the test as CRATE::TEST, the crate of
+unproved/ whose program prints its rows' answers, or where none of them can ask the check of tools/test as MODULE::FUNCTION,
+that must refuse it, and below each `file:`, a path from the top of the
+repository, stand pairs of lines `old:` and `new:`. Each old text stands in its file exactly once, and all pairs of a file are
+made at once, so that two texts may change places.
 """
 
 import os
@@ -11,6 +13,10 @@ from checking import TOP
 
 TWINS = os.path.join(TOP, "tools", "tests", "twins")
 END = ".twin"
+# The crates of unproved/ that print what comes of rows of their own, which have no names there.
+PRINTING = ("tests_desk", "tests_gate")
+# The modules of tools/tests with checks are named so.
+CHECKS = "check_"
 # A slip is made in both.
 DEFINITION, CODE = ".antt", ".rt"
 
@@ -38,9 +44,13 @@ class Twin:
                     raise BadTwin(f"it has the line {line.rstrip()!r}")
 
     def crate(self):
-        """The crate whose test must refuse it; None where a row must."""
+        """The crate whose test, or whose program, must refuse it; None where a row of tests_rows must, or a check."""
         crate, found, _ = self.by.partition("::")
-        return crate if found else None
+        return crate if (found or self.by in PRINTING) and not self.is_for_a_check() else None
+
+    def is_for_a_check(self):
+        """Whether a check of tools/test must refuse it, which asks a built program."""
+        return self.by.startswith(CHECKS)
 
 
 def names():
