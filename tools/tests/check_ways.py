@@ -5,7 +5,7 @@ import os
 import re
 
 from checking import at_terminal, run, want
-from guarded_clones import MAIN, SMALL, another
+from guarded_clones import MAIN, SMALL, Clones, another
 
 LOG, ATTESTATIONS = "refs/gittuf/reference-state-log", "refs/gittuf/attestations"
 
@@ -167,6 +167,24 @@ def begins_no_second_log(repositories):
     clones.gittuf("plain", "record", "main", "--anyway")
 
 
+def names_what_comes_first(repositories):
+    """where there is neither log nor policy, what cannot be done names the line that begins one, and that line does"""
+    clones = Clones(repositories, repositories.path("nothing yet"))
+    clones.git("init", "--quiet", "-b", "main", "--object-format=sha256", "alice", who="")
+    clones.gittuf("alice", "key", "--file", clones.path("alice.key"), *SMALL)
+    clones.commit("alice")
+    for words in (("verify",), ("report",)):
+        clones.refused("alice", *words, status=3, part="git gittuf policy init and git gittuf policy apply begin one")
+    want(clones.advised("alice", "there is no log here"), "git gittuf setup && git fetch, or git gittuf policy init <your name> begins one", "what doctor says")
+    for words in (("record", "main"), ("approve", "main")):
+        clones.refused("alice", *words, status=3, part="as it would be a violation: no policy is in force, or none whose first keys are")
+    clones.gittuf("alice", "policy", "init", "alice")
+    clones.sign("alice")
+    clones.gittuf("alice", "policy", "apply")
+    clones.gittuf("alice", "record", "main")
+    clones.verdict("alice", f"accepted {MAIN} 1 entries")
+
+
 def leads_from_doctor_to_a_push(repositories):
     """doctor's line for what is recorded and not pushed yet pushes branch and log, or neither"""
     clones = another(repositories, "not pushed")
@@ -203,6 +221,7 @@ CHECKS = (
     leads_out_of_a_violation,
     says_who_recovers,
     begins_no_second_log,
+    names_what_comes_first,
     leads_from_doctor_to_a_push,
     tells_what_is_behind,
 )
