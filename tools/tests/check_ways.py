@@ -199,6 +199,20 @@ def leads_from_doctor_to_a_push(repositories):
     want([clones.tip("server.git", it) for it in (MAIN, LOG)], [clones.tip("alice", it) for it in (MAIN, LOG)], "what the server has")
 
 
+def goes_on_beside_no_key(repositories):
+    """doctor tells of a key file that is none or cannot be read as of anything else, and goes on"""
+    clones = another(repositories, "no key file")
+    clones.commit("alice")
+    clones.gittuf("alice", "record", "main")
+    os.mkdir(clones.path("folder"))
+    with open(clones.path("text"), "wb") as file:
+        file.write(b"no key\n")
+    for it in ("folder", "text"):
+        clones.git("config", "gittuf.key", clones.path(it), who="alice")
+        want(clones.advised("alice", f"{clones.path(it)} is no key file"), "git gittuf key --file <another path>", f"what is said of a {it}")
+        clones.advised("alice", "goes on here by entry 3, signed by alice")
+
+
 def tells_what_is_behind(repositories):
     """a branch that was fetched and not merged is told to be behind, and not recorded as if it went back"""
     clones = another(repositories, "behind")
@@ -223,5 +237,6 @@ CHECKS = (
     begins_no_second_log,
     names_what_comes_first,
     leads_from_doctor_to_a_push,
+    goes_on_beside_no_key,
     tells_what_is_behind,
 )

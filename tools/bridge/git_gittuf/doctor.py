@@ -17,6 +17,9 @@ def of_key(repository):
     if not keys.is_there(path):
         yield f"there is no key at {path}, which only who signs needs", "git gittuf key"
         return
+    if not keys.can_be_read(path):
+        yield f"{path} is no key file, or cannot be read, and signs nothing", "git gittuf key --file <another path>"
+        return
     if stat.S_IMODE(os.stat(path).st_mode) & 0o077:
         yield f"others may read or write the key {path}", f"chmod 600 {quoted(path)}"
     left, all_of_them = keys.signatures_left(path)
