@@ -199,6 +199,30 @@ def leads_from_doctor_to_a_push(repositories):
     want([clones.tip("server.git", it) for it in (MAIN, LOG)], [clones.tip("alice", it) for it in (MAIN, LOG)], "what the server has")
 
 
+def goes_on_once_a_remote_is_renamed(repositories):
+    """where a remote was renamed doctor's line lets its log go on, and leaves nothing that writes over what another remote has"""
+    clones = another(repositories, "renamed")
+    clones.gittuf("bob", "verify")
+    clones.git("remote", "rename", "origin", "up-1.2", who="bob")
+    clones.copied("bob", clones.advised("bob", "do not carry the log to and from up-1.2"))
+    want(clones.gittuf("bob", "doctor"), b"all is well\n", "what doctor says")
+    clones.git("remote", "add", "origin", "../fork.git", who="bob")
+    clones.git("clone", "--quiet", "--mirror", "server.git", "fork.git", who="")
+    clones.gittuf("bob", "setup", "origin")
+    clones.git("fetch", "--quiet", "--all", who="bob")
+    clones.commit("alice")
+    clones.gittuf("alice", "record", "main")
+    clones.gittuf("alice", "push")
+    clones.git("fetch", "--quiet", "up-1.2", who="bob")
+    there = [clones.tip("bob", f"refs/gittuf-remotes/{it}/reference-state-log") for it in ("up-1.2", "origin")]
+    want(there, [clones.tip(it, LOG) for it in ("server.git", "fork.git")], "what was fetched of each")
+    for it in ("+refs/gittuf/*:refs/gittuf-remotes/origin/*", "+refs/gittuf/*:refs/gittuf-remotes/up-1_2/*"):
+        clones.git("config", "--add", "remote.up-1.2.fetch", it, who="bob")
+    clones.copied("bob", clones.advised("bob", "puts the log of up-1.2 to where that of another remote stands"))
+    have = clones.git("config", "--get-all", "remote.up-1.2.fetch", who="bob").decode().splitlines()
+    want(have, ["+refs/heads/*:refs/remotes/up-1.2/*", "+refs/gittuf/*:refs/gittuf-remotes/up-1.2/*"], "what is fetched of it")
+
+
 def goes_on_beside_no_key(repositories):
     """doctor tells of a key file that is none or cannot be read as of anything else, and goes on"""
     clones = another(repositories, "no key file")
@@ -237,6 +261,7 @@ CHECKS = (
     begins_no_second_log,
     names_what_comes_first,
     leads_from_doctor_to_a_push,
+    goes_on_once_a_remote_is_renamed,
     goes_on_beside_no_key,
     tells_what_is_behind,
 )

@@ -24,6 +24,8 @@ def setup(work, words):
     if words.store:
         stores.move(work, words.store)
     remote = remotes.remote_named(work.repository, words.remote)
+    for name, value in remotes.take_away_strays(work.repository, remote) if remote else []:
+        print(f"{name} no longer has {value}")
     for name, value in remotes.set_up(work.repository, remote) if remote else []:
         print(f"{name} has {value}")
     print(f"the store has {work.bring()} objects more, {work.kept.place}")

@@ -80,6 +80,8 @@ def of_remotes(work, is_whole):
     for remote in remotes.of_git(repository):
         if remotes.lacking(repository, remote):
             yield f"git push and git fetch do not carry the log to and from {remote}", f"git gittuf setup {quoted(remote)}"
+        elif remotes.strays(repository, remote):
+            yield f"git fetch also puts the log of {remote} to where that of another remote stands", f"git gittuf setup {quoted(remote)}"
     unfit = {(remote, name): how for remote, name, how in work.unfit}
     for remote, name, own, value, how in remotes.standing(repository, repository.references()):
         shown, how = name.decode(), unfit.get((remote, name), how)
