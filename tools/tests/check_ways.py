@@ -199,6 +199,21 @@ def leads_from_doctor_to_a_push(repositories):
     want([clones.tip("server.git", it) for it in (MAIN, LOG)], [clones.tip("alice", it) for it in (MAIN, LOG)], "what the server has")
 
 
+def names_no_record_in_vain(repositories):
+    """a push of a branch that the log left behind names no record, which would be refused"""
+    clones = another(repositories, "left behind")
+    clones.git("init", "--quiet", "--bare", "--object-format=sha256", "second.git", who="")
+    clones.git("remote", "add", "second", "../second.git", who="alice")
+    clones.gittuf("alice", "setup", "second")
+    clones.commit("alice")
+    clones.gittuf("alice", "record", "main")
+    clones.git("reset", "--quiet", "--hard", "HEAD~1", who="alice")
+    words = ("push", "--remote", "second")
+    clones.refused("alice", *words, status=3, part="main stands elsewhere than the log has it now: git gittuf verify main says more, and git push second")
+    clones.commit("alice")
+    clones.refused("alice", *words, status=3, part="main stands where no entry of the log has it: git gittuf record main comes first")
+
+
 def goes_on_once_a_remote_is_renamed(repositories):
     """where a remote was renamed doctor's line lets its log go on, and leaves nothing that writes over what another remote has"""
     clones = another(repositories, "renamed")
@@ -261,6 +276,7 @@ CHECKS = (
     begins_no_second_log,
     names_what_comes_first,
     leads_from_doctor_to_a_push,
+    names_no_record_in_vain,
     goes_on_once_a_remote_is_renamed,
     goes_on_beside_no_key,
     tells_what_is_behind,

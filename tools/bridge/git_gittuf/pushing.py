@@ -117,7 +117,7 @@ def without_behind(work, remote, found, is_named):
 def expect_recorded(work, remote, found):
     """Refuses to push what a rule protects or the log speaks of where that has it elsewhere."""
     listed = history.entries(work.asked("log")) if LOG in work.repository.references() else []
-    last = skipping.targets_of(work, listed)
+    last, had = skipping.targets_of(work, listed), {(rest[0], rest[1]) for _, _, kind, rest in listed if kind == b"ref"}
     for name, value in found.items():
         if name in last and last[name] == (value or ZEROS) or name not in last and not (listed and verifying.is_protected(work, name)):
             continue
@@ -125,6 +125,8 @@ def expect_recorded(work, remote, found):
             continue
         word = quoted(names.short(name))
         said = f"{plain(names.short(name))} stands where no entry of the log has it: git gittuf record {word} comes first"
+        if (name, value or ZEROS) in had:
+            said = f"{plain(names.short(name))} stands elsewhere than the log has it now: git gittuf verify {word} says more"
         alone = f"git push {quoted(remote)} 'refs/gittuf/*:refs/gittuf/*' carries what else is signed"
         raise Stopped(f"{said}, and {alone}; --anyway pushes it all the same", 3)
 
