@@ -75,7 +75,7 @@ def of_lost(work, remote, value, how):
 def of_remotes(work, is_whole):
     repository = work.repository
     found = remotes.remotes(repository)
-    if not found:
+    if not found and repository.top:
         yield "there is no remote, so nobody gets the log from here", "git remote add origin <where> && git gittuf setup"
     for remote in remotes.of_git(repository):
         if remotes.lacking(repository, remote):
