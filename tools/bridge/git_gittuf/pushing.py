@@ -174,8 +174,9 @@ def pushed(work, remote, found, anyway):
 def push(work, words):
     if words.desk is not None:
         return desk_pushing.push(work, words)
-    work.bring()
     remote, anyway = remote_of(work, words), words.anyway
+    work.mended = syncing.to_mend(remote)
+    work.bring()
     how = syncing.how_log_stands(work, remote)
     if how in ("broken", "odd") or how in ("back", "dropped") and not anyway:
         raise Stopped(f"the log of {plain(remote)} does not fit, and nothing is pushed: git gittuf doctor says more", 3)
@@ -205,5 +206,7 @@ def push(work, words):
 
 
 def sync(work, words):
+    remote = remote_of(work, words)
+    work.mended = syncing.to_mend(remote)
     work.bring()
-    return 0 if syncing.sync(work, remote_of(work, words), words.anyway) else 3
+    return 0 if syncing.sync(work, remote, words.anyway) else 3
