@@ -235,11 +235,23 @@ def names_nobody_unproved(repositories):
         want(clones.gittuf("bob", "log", "-v"), lines, f"who is named beside {text[:80]!r}")
 
 
+def names_a_branch_of_a_remote(repositories):
+    """a word that names no commit here is told with the branch of a remote that has this name"""
+    clones = another(repositories, "shown")
+    clones.git("switch", "--quiet", "--create", "idea", who="bob")
+    clones.commit("bob")
+    clones.git("push", "--quiet", "origin", "HEAD", who="bob")
+    clones.git("fetch", "--quiet", who="alice")
+    clones.refused("alice", "approve", "main", "idea", status=3, part="idea names no commit here, and origin has a branch of that name: origin/idea")
+    clones.refused("alice", "approve", "main", "nothing", status=3, part="nothing names no commit here: git log shows")
+
+
 CHECKS = (
     approves_nothing_in_vain,
     approves_no_other_paths,
     approves_for_more,
     approves_no_way_into_a_violation,
+    names_a_branch_of_a_remote,
     skips_nothing_in_vain,
     applies_nothing_in_vain,
     names_who_is_missing,

@@ -182,6 +182,7 @@ def names_what_is_missing(repositories):
     clones.refused("keyless", "key", "--file", inside, status=3, part="inside the repository")
     clones.refused("keyless", "record", "nothing", status=3, part="git branch --all")
     clones.refused("keyless", "frobnicate", status=2, part="git gittuf -h")
+    clones.refused("keyless", "hook", "instal", status=2, part="'instal' is no word of hook: install is, and --remove; git gittuf -h")
     clones.refused("alice", "policy", "rule", "main", "--threshold", "3", status=3, part="can never sign")
     clones.refused("alice", "policy", "apply", status=3, part="in force already")
     clones.refused("alice", "skip", "99", status=3, part="git gittuf log")

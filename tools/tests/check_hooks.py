@@ -30,10 +30,13 @@ def keeps_hooks_of_others(repositories):
         with open(clones.path(name), encoding="utf-8") as file:
             want(MAIN in file.read(), True, f"whether {name} of others was given the references")
     for who, name in (("server.git", "pre-receive"), ("alice", "pre-push")):
-        clones.gittuf(who, "hook", "--remove")
         place = clones.path(os.path.join(who, "hooks" if who == "server.git" else ".git/hooks"))
+        path = os.path.join(place, name)
+        told = clones.gittuf(who, "hook", "--remove").decode()
+        want(told, f"{path} is taken away\n{path} is that of others again\n", "what is told of both, in this order")
         want(os.listdir(place), [name], "what stands there once it is taken away")
         clones.refused(who, "hook", "--remove", status=3, part="no hook of git gittuf is in")
+    want(b"there is no remote" in clones.gittuf("server.git", "doctor", status=1), False, "whether a server is told to have a remote")
     clones.refused("server.git", "hook", "install", status=2, part="git gittuf hook install --server guards what it takes")
     clones.git("config", "core.hooksPath", clones.folder, who="alice")
     clones.refused("alice", "hook", "install", status=3, part="which other repositories may share: git config core.hooksPath")

@@ -163,8 +163,9 @@ def tells_its_use(repositories):
     repositories.needed()
     where = repositories.path("project")
     for it in (("verify",), ("policy", "rule")):
-        status, output, errors = run(TOOL, *it, "-h", folder=where)
-        want((status, output.decode().split()[: len(it)], errors), (0, [*it], b""), f"what {' '.join(it)} -h answers")
+        for words in ((*it, "-h"), (*it, "main", "-h"), ("help", *it)):
+            status, output, errors = run(TOOL, *words, folder=where)
+            want((status, output.decode().split()[: len(it)], errors), (0, [*it], b""), f"what {' '.join(words)} answers")
     for it in WORDS:
         want(help_of([it]).startswith(f"  {it} "), True, f"whether {it} has a part of the page")
     slips = {

@@ -107,7 +107,8 @@ def records_anew_after_a_race(repositories):
     clones.git("tag", "v1", who="alice")
     clones.gittuf("alice", "record", "v1")
     clones.gittuf("alice", "push", "v1")
-    clones.gittuf("bob", "push", "topic")
+    status, _, said = clones.asked("bob", "push", "topic")
+    want((status, said), (0, b""), "the status, and whether a log that push goes over to is told to be apart")
     want(clones.tip("server.git", LOG), clones.tip("bob", LOG), "where the log of the server stands")
     want(clones.git("ls-tree", "-r", "--name-only", ATTESTATIONS, who="bob"), approved, "the approvals")
     kinds = [it.split()[3:5] for it in clones.gittuf("bob", "log").decode().splitlines()]

@@ -90,6 +90,8 @@ def tells_a_fork(repositories):
     found = clones.gittuf("alice", "doctor", status=1).decode()
     want("went apart: here is entry 3, signed by bob: git gittuf doctor --take origin" in found, True, f"what doctor says: {found}")
     clones.refused_after("alice", "doctor", "--take", "origin", status=3, part="not of your key but of bob")
+    said = clones.refused_after("alice", "sync", status=3, part=f"{LOG} here and that of origin went apart, and neither is taken back")
+    want(said.count("went apart"), 1, f"how often sync tells that it goes over to no log: {said}")
 
 
 def signs_nothing_of_others(repositories):

@@ -4,9 +4,10 @@ import ast
 import importlib
 import os
 import shutil
+import signal
 import sys
 
-from checking import BRIDGE, EMPTY_TREE, GIT_TO_STREAM, LAUNCHER, STREAM_TO_GIT, TOP, VERIFY, Failure, run, want, want_refusal, want_run
+from checking import BRIDGE, EMPTY_TREE, GIT_TO_STREAM, LAUNCHER, STREAM_TO_GIT, TOP, VERIFY, Failure, Skip, run, want, want_refusal, want_run
 
 
 def tells_the_tip(repositories):
@@ -157,11 +158,39 @@ def loads_what_is_there(_):
     return f"{len(asked)} words, {count} names"
 
 
+def copied_tool(place):
+    """A copy of git gittuf, of which modules may be changed."""
+    shutil.copytree(BRIDGE, os.path.join(place, "bridge"), ignore=shutil.ignore_patterns("__pycache__"))
+    return shutil.copy(os.path.join(TOP, "tools", "git-gittuf"), place)
+
+
+def ends_where_nothing_is_begun(repositories):
+    """who stops git gittuf while it is loaded is told of no fault of its own"""
+    place = repositories.path("stopped tools")
+    tool = copied_tool(place)
+    with open(os.path.join(place, "bridge", "git_gittuf", "words.py"), "w", encoding="utf-8") as file:
+        file.write("import os, signal\nos.kill(os.getpid(), signal.SIGINT)\n")
+    want(run(tool, "log", folder=repositories.needed()), (-signal.SIGINT, b"", b""), "the status, the output and the errors")
+
+
+def names_the_way_to_what_others_own(repositories):
+    """where Git reads nothing of a folder that somebody else owns its line for that is told"""
+    repositories.needed()
+    if os.geteuid():
+        raise Skip("only root gives a folder to somebody else")
+    place = repositories.path("owned")
+    run("git", "init", "--quiet", "--object-format=sha256", place)
+    for it in (place, os.path.join(place, ".git")):
+        os.chown(it, 65534, -1)
+    status, output, errors = run(os.path.join(TOP, "tools", "git-gittuf"), "verify", folder=place)
+    line = f"git config --global --add safe.directory {place}, if you trust whoever owns it"
+    want((status, output, line in errors.decode()), (4, b"", True), f"what is said: {errors}")
+
+
 def tells_its_own_faults(repositories):
     """where git gittuf itself is wrong it says so, and ends with 4, which is the status of no verdict"""
     place = repositories.path("wrong tools")
-    shutil.copytree(BRIDGE, os.path.join(place, "bridge"), ignore=shutil.ignore_patterns("__pycache__"))
-    tool = shutil.copy(os.path.join(TOP, "tools", "git-gittuf"), place)
+    tool = copied_tool(place)
     for module in ("listing", "words"):
         with open(os.path.join(place, "bridge", "git_gittuf", f"{module}.py"), "w", encoding="utf-8") as file:
             file.write("raise KeyError('none')\n")
@@ -216,6 +245,8 @@ CHECKS = (
     loads_what_is_there,
     looks_objects_up,
     runs_nothing_of_others,
+    ends_where_nothing_is_begun,
+    names_the_way_to_what_others_own,
     tells_its_own_faults,
     tells_the_tip,
     goes_both_ways,

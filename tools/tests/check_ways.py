@@ -5,7 +5,7 @@ import os
 import re
 
 from checking import at_terminal, run, want
-from guarded_clones import MAIN, SMALL, another
+from guarded_clones import MAIN, SMALL, Clones, another
 
 LOG, ATTESTATIONS = "refs/gittuf/reference-state-log", "refs/gittuf/attestations"
 
@@ -167,6 +167,24 @@ def begins_no_second_log(repositories):
     clones.gittuf("plain", "record", "main", "--anyway")
 
 
+def names_what_comes_first(repositories):
+    """where there is neither log nor policy, what cannot be done names the line that begins one, and that line does"""
+    clones = Clones(repositories, repositories.path("nothing yet"))
+    clones.git("init", "--quiet", "-b", "main", "--object-format=sha256", "alice", who="")
+    clones.gittuf("alice", "key", "--file", clones.path("alice.key"), *SMALL)
+    clones.commit("alice")
+    for words in (("verify",), ("report",)):
+        clones.refused("alice", *words, status=3, part="git gittuf policy init and git gittuf policy apply begin one")
+    want(clones.advised("alice", "there is no log here"), "git gittuf setup && git fetch, or git gittuf policy init <your name> begins one", "what doctor says")
+    for words in (("record", "main"), ("approve", "main")):
+        clones.refused("alice", *words, status=3, part="as it would be a violation: no policy is in force, or none whose first keys are")
+    clones.gittuf("alice", "policy", "init", "alice")
+    clones.sign("alice")
+    clones.gittuf("alice", "policy", "apply")
+    clones.gittuf("alice", "record", "main")
+    clones.verdict("alice", f"accepted {MAIN} 1 entries")
+
+
 def leads_from_doctor_to_a_push(repositories):
     """doctor's line for what is recorded and not pushed yet pushes branch and log, or neither"""
     clones = another(repositories, "not pushed")
@@ -179,6 +197,59 @@ def leads_from_doctor_to_a_push(repositories):
     clones.git("reset", "--quiet", "--hard", "HEAD~1", who="alice")
     clones.copied("alice", way)
     want([clones.tip("server.git", it) for it in (MAIN, LOG)], [clones.tip("alice", it) for it in (MAIN, LOG)], "what the server has")
+
+
+def names_no_record_in_vain(repositories):
+    """a push of a branch that the log left behind names no record, which would be refused"""
+    clones = another(repositories, "left behind")
+    clones.git("init", "--quiet", "--bare", "--object-format=sha256", "second.git", who="")
+    clones.git("remote", "add", "second", "../second.git", who="alice")
+    clones.gittuf("alice", "setup", "second")
+    clones.commit("alice")
+    clones.gittuf("alice", "record", "main")
+    clones.git("reset", "--quiet", "--hard", "HEAD~1", who="alice")
+    words = ("push", "--remote", "second")
+    clones.refused("alice", *words, status=3, part="main stands elsewhere than the log has it now: git gittuf verify main says more, and git push second")
+    clones.commit("alice")
+    clones.refused("alice", *words, status=3, part="main stands where no entry of the log has it: git gittuf record main comes first")
+
+
+def goes_on_once_a_remote_is_renamed(repositories):
+    """where a remote was renamed doctor's line lets its log go on, and leaves nothing that writes over what another remote has"""
+    clones = another(repositories, "renamed")
+    clones.gittuf("bob", "verify")
+    clones.git("remote", "rename", "origin", "up-1.2", who="bob")
+    clones.copied("bob", clones.advised("bob", "do not carry the log to and from up-1.2"))
+    want(clones.gittuf("bob", "doctor"), b"all is well\n", "what doctor says")
+    clones.git("remote", "add", "origin", "../fork.git", who="bob")
+    clones.git("clone", "--quiet", "--mirror", "server.git", "fork.git", who="")
+    clones.gittuf("bob", "setup", "origin")
+    clones.git("fetch", "--quiet", "--all", who="bob")
+    clones.commit("alice")
+    clones.gittuf("alice", "record", "main")
+    clones.gittuf("alice", "push")
+    clones.git("fetch", "--quiet", "up-1.2", who="bob")
+    there = [clones.tip("bob", f"refs/gittuf-remotes/{it}/reference-state-log") for it in ("up-1.2", "origin")]
+    want(there, [clones.tip(it, LOG) for it in ("server.git", "fork.git")], "what was fetched of each")
+    for it in ("+refs/gittuf/*:refs/gittuf-remotes/origin/*", "+refs/gittuf/*:refs/gittuf-remotes/up-1_2/*"):
+        clones.git("config", "--add", "remote.up-1.2.fetch", it, who="bob")
+    clones.copied("bob", clones.advised("bob", "puts the log of up-1.2 to where that of another remote stands"))
+    have = clones.git("config", "--get-all", "remote.up-1.2.fetch", who="bob").decode().splitlines()
+    want(have, ["+refs/heads/*:refs/remotes/up-1.2/*", "+refs/gittuf/*:refs/gittuf-remotes/up-1.2/*"], "what is fetched of it")
+
+
+def goes_on_beside_no_key(repositories):
+    """doctor tells of a key file that is none or cannot be read as of anything else, and goes on"""
+    clones = another(repositories, "no key file")
+    clones.commit("alice")
+    clones.gittuf("alice", "record", "main")
+    os.mkdir(clones.path("folder"))
+    with open(clones.path("text"), "wb") as file:
+        file.write(b"no key\n")
+    for it in ("folder", "text"):
+        clones.git("config", "gittuf.key", clones.path(it), who="alice")
+        want(clones.advised("alice", f"{clones.path(it)} is no key file"), "git gittuf key --file <another path>", f"what is said of a {it}")
+        clones.advised("alice", "goes on here by entry 3, signed by alice")
 
 
 def tells_what_is_behind(repositories):
@@ -203,6 +274,10 @@ CHECKS = (
     leads_out_of_a_violation,
     says_who_recovers,
     begins_no_second_log,
+    names_what_comes_first,
     leads_from_doctor_to_a_push,
+    names_no_record_in_vain,
+    goes_on_once_a_remote_is_renamed,
+    goes_on_beside_no_key,
     tells_what_is_behind,
 )

@@ -24,6 +24,8 @@ def setup(work, words):
     if words.store:
         stores.move(work, words.store)
     remote = remotes.remote_named(work.repository, words.remote)
+    for name, value in remotes.take_away_strays(work.repository, remote) if remote else []:
+        print(f"{name} no longer has {value}")
     for name, value in remotes.set_up(work.repository, remote) if remote else []:
         print(f"{name} has {value}")
     print(f"the store has {work.bring()} objects more, {work.kept.place}")
@@ -171,6 +173,15 @@ def branch_here(repository, word, name):
     raise Stopped(f"there is no branch or tag {plain(word)} here: {way}", 3)
 
 
+def commit_named(repository, word):
+    """The commit that a word names, or a refusal that names the branch of a remote which has this name."""
+    beside = names.in_place_of(repository, repository.references(), names.HEADS + os.fsencode(word))
+    if beside and not word.startswith("-") and repository.git("rev-parse", "--verify", "--quiet", word)[0]:
+        at = names.word_at_remote(repository, names.remote_branch(beside[0].name, beside[0].remote))
+        raise Stopped(f"{plain(word)} names no commit here, and {plain(beside[0].remote)} has a branch of that name: {quoted(at)}", 3)
+    return repository.commit_of(word)
+
+
 def what_is_approved(work, name, target):
     """In a sentence what an approval is of, with the line that shows it."""
     shown, there = plain(names.short(name)), (looking.last_counted(work, name) or ZEROS).decode()
@@ -188,7 +199,7 @@ def approve(work, words):
     expect_own(os.fsencode(name))
     if words.delete and words.commit:
         raise Stopped("--delete approves that a branch goes, and takes no commit", 2)
-    target = ZEROS if words.delete else repository.commit_of(words.commit or branch_here(repository, words.branch, name))
+    target = ZEROS if words.delete else commit_named(repository, words.commit or branch_here(repository, words.branch, name))
     work.bring([] if words.delete else [target])
     path = leaves.signing_key(repository)
     expect_one_log(work, words.anyway)

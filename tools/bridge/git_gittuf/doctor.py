@@ -17,6 +17,9 @@ def of_key(repository):
     if not keys.is_there(path):
         yield f"there is no key at {path}, which only who signs needs", "git gittuf key"
         return
+    if not keys.can_be_read(path):
+        yield f"{path} is no key file, or cannot be read, and signs nothing", "git gittuf key --file <another path>"
+        return
     if stat.S_IMODE(os.stat(path).st_mode) & 0o077:
         yield f"others may read or write the key {path}", f"chmod 600 {quoted(path)}"
     left, all_of_them = keys.signatures_left(path)
@@ -72,11 +75,13 @@ def of_lost(work, remote, value, how):
 def of_remotes(work, is_whole):
     repository = work.repository
     found = remotes.remotes(repository)
-    if not found:
+    if not found and repository.top:
         yield "there is no remote, so nobody gets the log from here", "git remote add origin <where> && git gittuf setup"
     for remote in remotes.of_git(repository):
         if remotes.lacking(repository, remote):
             yield f"git push and git fetch do not carry the log to and from {remote}", f"git gittuf setup {quoted(remote)}"
+        elif remotes.strays(repository, remote):
+            yield f"git fetch also puts the log of {remote} to where that of another remote stands", f"git gittuf setup {quoted(remote)}"
     unfit = {(remote, name): how for remote, name, how in work.unfit}
     for remote, name, own, value, how in remotes.standing(repository, repository.references()):
         shown, how = name.decode(), unfit.get((remote, name), how)
@@ -133,7 +138,7 @@ def of_log(work, status, printed):
     repository = work.repository
     references = repository.references()
     if LOG not in references:
-        yield "there is no log here", "git gittuf setup && git fetch, or git gittuf record <branch> begins one"
+        yield "there is no log here", "git gittuf setup && git fetch, or git gittuf policy init <your name> begins one"
         return
     if status:
         said = printed.decode(errors="replace").strip() or f"status {status}"

@@ -60,18 +60,17 @@ def install(repository, name):
 
 def remove(repository):
     """Takes the hooks away, and puts those of others back that they took the place of."""
-    folder, gone = folder_of(repository), []
+    folder, is_gone = folder_of(repository), False
     for path in (os.path.join(folder, it) for it in (CLONE, SERVER)):
         if is_own(path):
             os.remove(path)
-            gone.append(path)
+            is_gone = True
+            print(f"{path} is taken away")
         if os.path.lexists(path + OTHERS) and not os.path.lexists(path):
             os.rename(path + OTHERS, path)
             print(f"{path} is that of others again")
-    if not gone:
+    if not is_gone:
         raise Stopped(f"no hook of git gittuf is in {folder}", 3)
-    for it in gone:
-        print(f"{it} is taken away")
     if repository.config(budgets.SETTING):
         repository.set("--unset-all", budgets.SETTING)
         print(f"{budgets.SETTING} is set no more")

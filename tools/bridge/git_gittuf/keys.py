@@ -71,6 +71,15 @@ def is_there(path):
     return os.path.lexists(path) and os.path.getsize(path) > 0
 
 
+def can_be_read(path):
+    """Whether a file can be read, and begins as a key file does."""
+    try:
+        with open(path, "rb") as file:
+            return file.read(8) in HEADS
+    except OSError:
+        return False
+
+
 def needed(repository):
     """The path of the key file, which is there."""
     path = path_of(repository)

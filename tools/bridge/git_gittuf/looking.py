@@ -88,6 +88,8 @@ def reason(work, name, value, line, key):
     found = FAULT.fullmatch(line)
     fault, rest = found[3], found[4] or ""
     counts = COUNTS.fullmatch(rest)
+    if fault == "no-policy":
+        return f"it would be a violation: {sentences.NO_POLICY}"
     if fault not in ("ref-rule", "path-rule") or not counts:
         return f"it would be a violation: {plain(sentences.of_line(line)).removesuffix('.')}"
     path, rule = (it and policies.unescaped(it) for it in counts.group(1, 2))
@@ -112,6 +114,8 @@ def reason_for(work, name, value, fault, key, entry):
     if fault["kind"] in ("ref-rule", "path-rule"):
         path, rule = (policies.unescaped(os.fsdecode(inspecting.word_of(fault[it]))) if it in fault else None for it in ("path", "rule"))
         return of_rule(work, name, value, (path, rule, fault["need"]), key, [*entry["signers"], key])
+    if fault["kind"] == "no-policy":
+        return sentences.NO_POLICY
     line = b"violation %s %d %s" % (name, entry["number"], inspecting.fault_in_words(fault))
     return plain(sentences.of_line(os.fsdecode(line))).removesuffix(".")
 

@@ -117,7 +117,7 @@ def without_behind(work, remote, found, is_named):
 def expect_recorded(work, remote, found):
     """Refuses to push what a rule protects or the log speaks of where that has it elsewhere."""
     listed = history.entries(work.asked("log")) if LOG in work.repository.references() else []
-    last = skipping.targets_of(work, listed)
+    last, had = skipping.targets_of(work, listed), {(rest[0], rest[1]) for _, _, kind, rest in listed if kind == b"ref"}
     for name, value in found.items():
         if name in last and last[name] == (value or ZEROS) or name not in last and not (listed and verifying.is_protected(work, name)):
             continue
@@ -125,6 +125,8 @@ def expect_recorded(work, remote, found):
             continue
         word = quoted(names.short(name))
         said = f"{plain(names.short(name))} stands where no entry of the log has it: git gittuf record {word} comes first"
+        if (name, value or ZEROS) in had:
+            said = f"{plain(names.short(name))} stands elsewhere than the log has it now: git gittuf verify {word} says more"
         alone = f"git push {quoted(remote)} 'refs/gittuf/*:refs/gittuf/*' carries what else is signed"
         raise Stopped(f"{said}, and {alone}; --anyway pushes it all the same", 3)
 
@@ -172,8 +174,9 @@ def pushed(work, remote, found, anyway):
 def push(work, words):
     if words.desk is not None:
         return desk_pushing.push(work, words)
-    work.bring()
     remote, anyway = remote_of(work, words), words.anyway
+    work.mended = syncing.to_mend(remote)
+    work.bring()
     how = syncing.how_log_stands(work, remote)
     if how in ("broken", "odd") or how in ("back", "dropped") and not anyway:
         raise Stopped(f"the log of {plain(remote)} does not fit, and nothing is pushed: git gittuf doctor says more", 3)
@@ -203,5 +206,7 @@ def push(work, words):
 
 
 def sync(work, words):
+    remote = remote_of(work, words)
+    work.mended = syncing.to_mend(remote)
     work.bring()
-    return 0 if syncing.sync(work, remote_of(work, words), words.anyway) else 3
+    return 0 if syncing.sync(work, remote, words.anyway) else 3

@@ -5,12 +5,15 @@ it is taken over.
 """
 
 import os
+import re
 import subprocess
 
 from git_gittuf.repository import LOG, OWN, REMOTES, STAGED, Stopped
 from git_gittuf.shown import plain, quoted
 
 BESIDE = b"refs/gittuf-remotes/"
+# What may mean something else in an expression of Git's.
+SIGNS = re.compile(r"[!-/:-@\[-`{-~]")
 
 
 def refspecs(remote):
@@ -31,9 +34,24 @@ def lacking(repository, remote):
     return found
 
 
+def strays(repository, remote):
+    """The settings by which git fetch puts what a remote has to where that of another stands, as git remote rename leaves them."""
+    (name, own), _ = refspecs(remote).items()
+    front = f"+refs/gittuf/*:{BESIDE.decode()}"
+    return [(name, it) for it in repository.config(name) if it.startswith(front) and it not in own]
+
+
 def set_up(repository, remote):
     for name, value in (changes := lacking(repository, remote)):
         repository.set("--add", name, value)
+    return changes
+
+
+def take_away_strays(repository, remote):
+    for name, value in (changes := strays(repository, remote)):
+        # Git takes an expression there.
+        just = SIGNS.sub(r"[\g<0>]", value)
+        repository.set("--unset-all", name, f"^{just}$")
     return changes
 
 

@@ -34,13 +34,14 @@ class Stopped(Refused):
 
 
 def asked_here(*words):
-    """What git answers in the folder of the call, for the repository that the caller's environment names."""
+    """What git answers in the folder of the call, for the repository that the caller's environment names, and what it advises."""
     try:
         ran = subprocess.run(("git", "rev-parse", *words), capture_output=True, env={**os.environ, "LC_ALL": "C"})
     except FileNotFoundError:
         raise Stopped("git is not installed, or not on the PATH") from None
     said = ran.stderr.decode(errors="replace").strip().splitlines()
-    return ran.returncode, os.fsdecode(ran.stdout[:-1]), re.sub("^fatal: ", "", said[0]) if said else ""
+    ways = "".join(f": {it.strip()}, if you trust whoever owns it" for it in said if it.startswith("\tgit config "))
+    return ran.returncode, os.fsdecode(ran.stdout[:-1]), re.sub("^fatal: ", "", said[0]) + ways if said else ""
 
 
 def version_of_git():

@@ -137,6 +137,15 @@ def of_unprotected(name, rules):
 UNPINNED = " Whose the first policy is was only seen here, and said by nobody: git gittuf setup --root KEYID,.. pins it."
 
 
+# Why nothing is judged where there is no log.
+NO_LOG = "there is no log here: git gittuf setup and git fetch bring one, and git gittuf policy init and git gittuf policy apply begin one"
+# Why an entry would be a violation that nothing comes before.
+NO_POLICY = (
+    "no policy is in force, or none whose first keys are those of gittuf.root or gittuf.firstRoot: git gittuf policy init and"
+    " git gittuf policy apply come first"
+)
+
+
 def of_no_log(has_remote):
     """Of a clone that has no log."""
     if has_remote:

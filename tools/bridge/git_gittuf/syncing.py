@@ -119,6 +119,11 @@ def fetch(work, remote):
     work.bring()
 
 
+def to_mend(remote):
+    """What a call that goes over to a remote's log by itself does not tell as what does not fit."""
+    return remote, LOG, "apart"
+
+
 def how_log_stands(work, remote):
     return next((how for other, name, how in work.unfit or () if other == remote and name == LOG), None)
 
@@ -168,9 +173,14 @@ def take_theirs(work, remote, anyway):
 def sync(work, remote, anyway):
     """Fetches, and records anew what another's log took no notice of; returns whether all that was recorded is."""
     fetch(work, remote)
-    how = how_log_stands(work, remote)
+    how, own = how_log_stands(work, remote), work.repository.references().get(LOG)
     if how == "apart":
-        return take_theirs(work, remote, anyway)
+        try:
+            return take_theirs(work, remote, anyway)
+        except (Stopped, Ended):
+            if work.repository.references().get(LOG) == own:
+                tell(following.sentence(work, remote, LOG, how))
+            raise
     if how in ("broken", "odd") or how and not anyway:
         raise Stopped(f"the log of {plain(remote)} does not fit: git gittuf doctor says more", 3)
     return True

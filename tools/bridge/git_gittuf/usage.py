@@ -100,7 +100,7 @@ what was asked for, 4 what is outside, as a repository that is none, or another 
 
 
 def help_of(words):
-    """The part of the page of use that is about a word, or of the policy about all of its steps."""
+    """The part of the page of use that is about a word, or of the policy about all of its steps, whatever stands behind it."""
     name, lines, found = " ".join(words), USAGE.splitlines(), []
     is_of = False
     for line in lines:
@@ -109,4 +109,4 @@ def help_of(words):
         elif not line.startswith("   "):
             is_of = False
         found += [line] if is_of else []
-    return "\n".join(found)
+    return "\n".join(found) if found or len(words) < 2 else help_of(words[:-1])

@@ -93,6 +93,13 @@ def seconds(text):
     return int(text)
 
 
+def hook_step(text):
+    """What is to be done about hooks, or the name of one by which Git calls this."""
+    if text not in ("install", hooks.CLONE, hooks.SERVER):
+        raise argparse.ArgumentTypeError(f"{text!r} is no word of hook: install is, and --remove")
+    return text
+
+
 def entry_id(text):
     """The whole id of an entry, since a part of one could be met by trying."""
     if not re.fullmatch("[0-9a-f]{64}", text):
@@ -166,7 +173,7 @@ def words_of_signing(take):
 
 
 def words_of_hooks(take):
-    take["hook"].add_argument("step", nargs="?", choices=("install", hooks.CLONE, hooks.SERVER), metavar="install")
+    take["hook"].add_argument("step", nargs="?", type=hook_step, metavar="install")
     take["hook"].add_argument("more", nargs="*")
     take["hook"].add_argument("--server", action="store_true")
     take["hook"].add_argument("--remove", action="store_true")

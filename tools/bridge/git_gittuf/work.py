@@ -3,7 +3,6 @@
 import contextlib
 import errno
 import os
-import sys
 
 from git_gittuf import copying, damage, following, giving, history, program, remotes, stores, targets
 from git_gittuf.answers import LASTING, Answers
@@ -37,8 +36,8 @@ class Work:
         self.is_ahead = False
         # Which entries of a log were found to be skipped.
         self.skips = None, {}
-        # What remotes have that does not fit what is here, once that was looked at: remote, name, how it stands.
-        self.unfit = None
+        # What remotes have that does not fit what is here, once that was looked at: remote, name, how it stands; and what of it this call mends.
+        self.unfit, self.mended = None, None
         if not reads or not self.kept.is_whole() or self.journal.is_there():
             with self.alone():
                 self.mend()
@@ -80,8 +79,8 @@ class Work:
         """Lets the log, the policy and the approvals go on to where a remote has them. Returns whether they moved."""
         moves, self.unfit = following.to_follow(self, changed)
         self.move(moves)
-        for it in self.unfit:
-            print(f"git-gittuf: {following.sentence(self, *it)}", file=sys.stderr)
+        for it in (it for it in self.unfit if it != self.mended):
+            tell(following.sentence(self, *it))
         return bool(moves)
 
     def move(self, moves):
@@ -165,7 +164,7 @@ class Work:
         finally:
             progress.end()
         for it in too_large:
-            print(f"git-gittuf: the object {it.decode()} has more than 16 MiB and is judged to be broken", file=sys.stderr)
+            tell(f"the object {it.decode()} has more than 16 MiB and is judged to be broken")
         return count
 
     def in_the_way(self, name):
