@@ -91,6 +91,9 @@ def says_what_an_answer_means(repositories):
         (502, f"moved {first} {zeros}", 7, "moved the log in its store"),
         (500, "fault", 7, "The store of the desk failed"),
         (503, "memory", 7, "The desk wanted memory"),
+        (403, f"violation {MAIN} 1 ref-rule main 0 of 2", 7, "of the 2 persons whom rule main wants 0 signed that"),
+        (403, f"violation {MAIN} 1 path-rule {'a' * 4000}/{'%0A' * 2000} keys 0 of 1", 7, "git gittuf doctor --take desk give it up"),
+        (403, "violation refs/gittuf/policy 1 not-epoch bad-root", 7, "recorded a policy that does not follow"),
     ):
         with desk(str(code), line) as port:
             found, said = at_terminal(f"git gittuf push --desk {port}", clones.path("alice"))

@@ -3,15 +3,12 @@
 import os
 
 from git_gittuf import names, remotes
-from git_gittuf.desks import Desk
+from git_gittuf.desks import NAME, Desk
 from git_gittuf.repository import LOG, OWN, TARGETS, ZEROS, Stopped
 from git_gittuf.shown import plain
 from git_gittuf.telling import say, tell
 from packs import EMPTY_TREE, Pack
 from streams import Input, read_stream
-
-# The remote that a desk is where nothing else is said.
-NAME = "desk"
 
 
 def expect_desk(repository, name):
