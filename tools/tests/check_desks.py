@@ -76,6 +76,21 @@ def gives_what_it_has(repositories):
         clones.sound("alice", "bob")
 
 
+def is_named_where_it_is_alone(repositories):
+    """in a clone that has a desk and no remote of Git, what carries an entry to others is the desk, and no remote is wanted"""
+    clones = another(repositories, "desk alone")
+    with desk() as port:
+        sent(clones, "alice", port)
+        clones.gittuf("bob", "fetch", "--desk", port)
+        clones.git("remote", "remove", "origin", who="bob")
+        clones.commit("bob")
+        status, said = at_terminal("git gittuf record main", clones.path("bob"))
+        way = f"git gittuf push --desk {port}"
+        want((status, f"{way} carries it to the desk." in said), (0, True), f"what is said once something is recorded: {said}")
+        clones.refused("bob", "push", status=3, part=f"there is no remote but a desk: {way}")
+        want(len(sent(clones, "bob", port)), 1, "how many entries bob sends there")
+
+
 def says_what_an_answer_means(repositories):
     """each answer is a line, with a sentence for a person, and one that does not take the entry ends the call with 7"""
     clones = another(repositories, "desk answers")
@@ -119,6 +134,7 @@ def refuses_what_does_not_fit(repositories):
         want((found, b"of desk went apart" in said), (0, True), f"what bob is told: {said}")
         clones.git("update-ref", "-d", THEIRS, who="bob")
         clones.refused("bob", "push", "--remote", "desk", status=3, part="desk is a desk")
+        clones.refused("bob", "mirror", "desk", status=3, part=f"curl -s http://127.0.0.1:{port}/v1/stream | gittuf mirror.db - mirror")
 
 
 def takes_nothing_of_a_bad_stream(repositories):
@@ -174,4 +190,11 @@ def told(text):
             ran.terminate()
 
 
-CHECKS = (takes_each_entry_once, gives_what_it_has, says_what_an_answer_means, refuses_what_does_not_fit, takes_nothing_of_a_bad_stream)
+CHECKS = (
+    takes_each_entry_once,
+    gives_what_it_has,
+    is_named_where_it_is_alone,
+    says_what_an_answer_means,
+    refuses_what_does_not_fit,
+    takes_nothing_of_a_bad_stream,
+)

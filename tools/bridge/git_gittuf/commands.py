@@ -138,8 +138,11 @@ def record(work, words):
 
 def say_what_carries_it(repository):
     """Names the next step to a person, once something is recorded."""
-    carried = ", ".join(plain(it) for it in remotes.of_git(repository))
-    say(f"git gittuf push carries it to {carried or 'others, once there is a remote'}.")
+    carried, desk = ", ".join(plain(it) for it in remotes.of_git(repository)), remotes.desk_alone(repository)
+    if desk:
+        say(f"git gittuf push --desk {desk} carries it to the desk.")
+    else:
+        say(f"git gittuf push carries it to {carried or 'others, once there is a remote'}.")
 
 
 def approved_by(work, name, target, path):

@@ -24,6 +24,8 @@ HELD = "another git is at work there, and then git gittuf push tries again; or o
 
 def remote_of(work, words):
     remote = remotes.remote_named(work.repository, words.remote)
+    if not remote and (desk := remotes.desk_alone(work.repository)):
+        raise Stopped(f"there is no remote but a desk: git gittuf push --desk {desk} and git gittuf fetch --desk {desk} talk with it", 3)
     if not remote:
         raise Stopped("there is no remote: git remote add origin <where> && git gittuf setup", 3)
     return remote
