@@ -133,7 +133,7 @@ def of_log(work, status, printed):
     repository = work.repository
     references = repository.references()
     if LOG not in references:
-        yield "there is no log here", "git gittuf setup && git fetch, or git gittuf record <branch> begins one"
+        yield "there is no log here", "git gittuf setup && git fetch, or git gittuf policy init <your name> begins one"
         return
     if status:
         said = printed.decode(errors="replace").strip() or f"status {status}"

@@ -183,7 +183,7 @@ def page(work, words, root, source):
 def report(work, words):
     work.bring()
     if LOG not in work.repository.references():
-        raise Stopped("there is no log here: git gittuf setup and git fetch bring one, and git gittuf record begins one", 3)
+        raise Stopped("there is no log here: git gittuf setup and git fetch bring one, and git gittuf policy init begins one", 3)
     trust.expect_entry(work, words)
     withheld.expect_none(work)
     made, worst = page(work, words, *trust.anchor(work, words))

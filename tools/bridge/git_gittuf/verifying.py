@@ -59,7 +59,7 @@ def meant_by(work, words):
         return [it for word in words.branches for it in names.of_word(repository, word, recorded)]
     if not recorded():
         # Nothing judged is not to look like all is well.
-        raise Stopped("there is no log here: git gittuf setup and git fetch bring one, and git gittuf record begins one", 3)
+        raise Stopped("there is no log here: git gittuf setup and git fetch bring one, and git gittuf policy init begins one", 3)
     protected = functools.partial(protected_of, work)
     if remote is not None:
         return names.all_at_remote(repository, remote, recorded(), protected)
