@@ -77,7 +77,7 @@ def expect_told_wanted(work, name, value, key):
         refuse_unwanted(name, value)
     first = faults[0]
     if first["kind"] not in ("ref-rule", "path-rule"):
-        refuse("approved", f"it would be a violation: {looking.reason_for(work, name, value, first, key, entry)}")
+        refuse("approved", f"it would be a violation: {looking.reason_for(work, name, value, [first], key, entry)}")
     # Where each changed path is met, no rule for paths wants one.
     of_paths = asked_by_paths(policies.in_force(work)) if any(it["kind"] == "path-rule" for it in faults) else []
     rule = policies.unescaped(os.fsdecode(inspecting.word_of(first["rule"])))
