@@ -19,7 +19,11 @@ def edits_rules(repositories):
     """a rule is put before another, ends terminating or not, and goes on in a file of its own that its persons sign"""
     clones = another(repositories, "rules")
     rule = lambda *words: clones.gittuf("alice", "policy", "rule", *words).decode()
-    rule("docs", "file:docs/*", "--persons", "alice,bob", "--terminating")
+    rule("docs", "file:docs/*", "--persons", "alice, bob", "--terminating")
+    clones.refused("alice", "policy", "rule", "docs", "--persons", "alice,", status=2, part="lacks a name before or behind a comma")
+    found, _, said = clones.asked("alice", "policy", "person", "carol", clones.public("bob"))
+    want((found, b"is that of bob too" in said), (0, True), f"what is said of a key of two persons: {said}")
+    clones.gittuf("alice", "policy", "person", "carol", "--remove")
     want("+ rule docs: file:docs/* by 1 of alice bob\n" in rule("docs", "--no-terminating"), True, "whether a later rule counts again")
     rule("docs", "--before", "main")
     clones.refused("alice", "policy", "rule", "docs", "--before", "none", status=3, part="there is no other rule none")

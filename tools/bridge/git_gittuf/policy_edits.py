@@ -73,6 +73,11 @@ def person(work, words):
 def give_keys(says, name, publics):
     """Gives a person these public keys in each file that has the person, and in the one of the rules."""
     them = [policies.key_of(it, hashlib.sha256(bytes.fromhex(it)).hexdigest()) for it in publics]
+    held = {key: it["name"] for file in says.values() for it in file["persons"] if it["name"] != name for key in it["keyids"]}
+    for it in them:
+        if it["keyid"] in held:
+            # Who gives a person another name has both for a while.
+            tell(f"the key {it['keyid'][:12]} is that of {plain(held[it['keyid']])} too, and no policy comes into force in which two persons share one")
     for file, it in says.items():
         if file == "targets" or policies.has_person(it, name):
             policies.add_person(it, name, them)
