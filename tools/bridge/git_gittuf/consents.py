@@ -115,7 +115,7 @@ def expect_counts(work, name, value, key, unmet, given):
     have = len(persons) - len(missing)
     # Who records it signs too.
     if persons and int(threshold) - have > 1:
-        tell(f"{rule}: with you {have} signed, and missing is {' or '.join(map(plain, missing))}: {looking.approval_of(name, value)}")
+        tell(f"{rule}: with you {have} signed, and missing is {' or '.join(map(plain, missing))}: {looking.approval_of(work.repository, name, value)}")
 
 
 def expect_skips(work, ids, key):

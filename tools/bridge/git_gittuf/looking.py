@@ -104,7 +104,7 @@ def of_rule(work, name, value, unmet, key, signed):
     if key not in policy.publics():
         return f"{said}, and your key is that of none of the policy's persons: one of them records it{first_shown(work.repository, value)}"
     who = ' or '.join(map(plain, missing)) or 'one more'
-    return f"{said}; missing is {who}, who approves it by {approval_of(name, value)}{first_shown(work.repository, value)}"
+    return f"{said}; missing is {who}, who approves it by {approval_of(work.repository, name, value)}{first_shown(work.repository, value)}"
 
 
 def first_of(paths):
@@ -133,14 +133,21 @@ def reason_for(work, name, value, alike, key, entry):
 
 def first_shown(repository, value):
     """How others get to see what they are to approve, where no remote has it."""
-    found = of_git(repository)
+    found, value = of_git(repository), commit_of(repository, value)
     if value is None or not found or not repository.are_commits([value]) or fetched(repository, repository.references(), [value]):
         return ""
     return f", once git push {quoted(found[0])} {value.decode()}:refs/heads/idea, say, has shown it"
 
 
-def approval_of(name, value):
+def commit_of(repository, value):
+    """The commit of a tag, which others have or can be shown where a rule keeps the tag from them until it is recorded; else the value."""
+    (row,) = repository.rows([b"%s^{commit}" % value]) if value else [None]
+    return row[0] if row else value
+
+
+def approval_of(repository, name, value):
     """The line by which somebody approves a change."""
+    value = commit_of(repository, value)
     # Who approves may not have it, and a word that is not there is taken for a branch. The front of an id may be the name of a tag there.
     word = quoted(short(name) if name.startswith(HEADS) else os.fsdecode(name))
     return f"git gittuf approve {'--delete ' + word if value is None else f'{word} {value.decode()}'}"
