@@ -74,6 +74,14 @@ def gives_what_it_has(repositories):
         clones.git("merge", "--quiet", "--ff-only", "refs/remotes/shop/main", who="alice")
         clones.gittuf("alice", "push")
         clones.sound("alice", "bob")
+        clones.git("tag", "v1", who="alice")
+        clones.gittuf("alice", "record", "v1")
+        sent(clones, "alice", port)
+        way = f"refs/tags/v1 is not made here, as tags and others are not taken: git update-ref refs/tags/v1 {clones.tip('alice', 'v1')}"
+        _, _, said = clones.asked("bob", "fetch", "--desk", port)
+        want(way in said.decode(), True, f"what bob is told of a tag: {said}")
+        clones.copied("bob", f"git update-ref refs/tags/v1 {clones.tip('alice', 'v1')}")
+        want(clones.asked("bob", "fetch", "--desk", port), (0, b"", b""), "what is said of a tag that stands as at the desk")
 
 
 def is_named_where_it_is_alone(repositories):
