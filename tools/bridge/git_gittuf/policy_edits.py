@@ -98,12 +98,20 @@ def rotate(work, words):
         give_keys(says, words.name, given)
 
     edit(work, change)
-    draft, force = draft_and_force(work)
-    if words.name in force.role("root").get("persons", []):
+    root = draft_and_force(work)[1].role("root")
+    if words.name in root.get("persons", []):
         tell(
             f"{words.name} is of those who sign the policy, and signs this by both keys: git gittuf policy sign with the old one,"
-            " and once git gittuf key --file <the new one> has set it, again with the new one"
+            f" and once git gittuf key --file <the new one> has set it, again with the new one{without(words.name, root)}"
         )
+
+
+def without(name, root):
+    """Who signs a policy where the older key of one of those who do is lost, as far as they are as many as the root asks for."""
+    others = [it for it in root["persons"] if it != name]
+    if len(others) < root["threshold"]:
+        return "; where the old one is lost, too few are left to sign it"
+    return f"; where the old one is lost, it is signed by {root['threshold']} of {', '.join(map(plain, others))}"
 
 
 def remove_person(says, name):
