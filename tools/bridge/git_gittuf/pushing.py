@@ -128,6 +128,8 @@ def expect_recorded(work, remote, found):
         word = quoted(names.short(name))
         said = f"{plain(names.short(name))} stands where no entry of the log has it: git gittuf record {word} comes first"
         alone = f"git push {quoted(remote)} 'refs/gittuf/*:refs/gittuf/*' carries what else is signed"
+        if syncing.how_log_stands(work, remote) == "apart":
+            alone = f"git gittuf sync --remote {quoted(remote)} records anew what else is signed"
         raise Stopped(f"{said}, and {alone}; --anyway pushes it all the same", 3)
 
 
