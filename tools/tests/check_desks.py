@@ -130,6 +130,9 @@ def refuses_what_does_not_fit(repositories):
         clones.refused("alice", "push", "--desk", port, status=4, part="answers 200: welcome")
         clones.refused("alice", "push", "main", "--desk", port, status=2, part="takes no branch")
         clones.refused("alice", "fetch", "--desk", port, "--remote", "origin", status=3, part="origin is a remote of Git already")
+    with desk("0", "") as port:
+        part = "it may have the entry all the same, and the same call again says so"
+        clones.refused("alice", "push", "--desk", port, status=4, part=part)
     clones.refused("alice", "push", "--desk", port, status=4, part="does not answer")
     clones.refused("alice", "push", "--desk", "65536", status=2, part="is no port")
     with desk() as port:
