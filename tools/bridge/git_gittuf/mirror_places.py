@@ -23,6 +23,9 @@ def url_of(repository, word):
     path = os.path.normpath(os.path.join(base, os.path.expanduser(url)))
     if os.path.exists(path):
         url = path
+    elif ":" not in url and is_remote:
+        # As one that cannot be reached, and not as one whose log is none.
+        raise Stopped(f"{plain(word)} does not answer: nothing stands at {plain(path)}")
     elif ":" not in url:
         raise Stopped(f"{plain(word)} is no remote, and nothing stands at {plain(path)}: git remote -v lists the remotes", 3)
     return url, f"remote {word}" if is_remote else f"at {url}"
