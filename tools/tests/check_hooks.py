@@ -31,8 +31,10 @@ def keeps_hooks_of_others(repositories):
         with open(clones.path(name), encoding="utf-8") as file:
             want(MAIN in file.read(), True, f"whether {name} of others was given the references")
     for who, name in (("server.git", "pre-receive"), ("alice", "pre-push")):
-        clones.gittuf(who, "hook", "--remove")
         place = clones.path(os.path.join(who, "hooks" if who == "server.git" else ".git/hooks"))
+        path = os.path.realpath(os.path.join(place, name))
+        said = f"{path} of git gittuf is taken away\n{path} is that of others again\n"
+        want(clones.gittuf(who, "hook", "--remove").decode(), said, "what is said once they are taken away")
         want(os.listdir(place), [name], "what stands there once it is taken away")
         clones.refused(who, "hook", "--remove", status=3, part="no hook of git gittuf is in")
     clones.refused("server.git", "hook", "install", status=2, part="git gittuf hook install --server guards what it takes")

@@ -65,13 +65,12 @@ def remove(repository):
         if is_own(path):
             os.remove(path)
             gone.append(path)
+            print(f"{path} of git gittuf is taken away")
         if os.path.lexists(path + OTHERS) and not os.path.lexists(path):
             os.rename(path + OTHERS, path)
             print(f"{path} is that of others again")
     if not gone:
         raise Stopped(f"no hook of git gittuf is in {folder}", 3)
-    for it in gone:
-        print(f"{it} is taken away")
     if repository.config(budgets.SETTING):
         repository.set("--unset-all", budgets.SETTING)
         print(f"{budgets.SETTING} is set no more")
