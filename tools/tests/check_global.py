@@ -79,4 +79,18 @@ def tells_global_verdicts(repositories):
     want(clones.gittuf("alice", "verify", "main").decode().splitlines()[-1], f"global-kept {MAIN} 3 entries", "the line once the entry is skipped")
 
 
-CHECKS = (edits_global_rules, refuses_global_rules, tells_global_verdicts)
+def tells_who_records(repositories):
+    """record tells that its entry breaks a global rule, which keeps nobody from recording it, and nothing where none is broken"""
+    clones = another(repositories, "global records")
+    put_in_force(clones, KEEP)
+    clones.commit("alice")
+    found, _, said = clones.asked("alice", "record", "main")
+    want((found, said), (0, b""), "what is said where no rule is broken")
+    put_in_force(clones, TWO)
+    clones.commit("alice")
+    found, _, said = clones.asked("alice", "record", "main")
+    parts = ("entry 6 was signed by 1 at most", "global rule two wants 2", "gives up what was recorded here and is not there yet")
+    want((found, [it in said.decode() for it in parts]), (0, [True] * 3), f"what is said of an entry that one signed: {said}")
+
+
+CHECKS = (edits_global_rules, refuses_global_rules, tells_global_verdicts, tells_who_records)

@@ -2,13 +2,14 @@
 
 import os
 
-from git_gittuf import consents, copying, following, fronts, history, keys, leaves, longer_logs, looking, names, remotes, sentences, settings, skipping
-from git_gittuf import stores
+from git_gittuf import consents, copying, following, fronts, gate_sentences, history, keys, leaves, longer_logs, looking, names, remotes, sentences, settings
+from git_gittuf import skipping, stores
+from git_gittuf.global_verdicts import GlobalVerdicts
 from git_gittuf.program import Ended
 from git_gittuf.remotes import is_before
 from git_gittuf.repository import ATTESTATIONS, LOG, REMOTES, ZEROS, Stopped
 from git_gittuf.shown import plain, quoted
-from git_gittuf.telling import say, show
+from git_gittuf.telling import say, show, tell
 
 
 def setup(work, words):
@@ -132,8 +133,18 @@ def record(work, words):
     expect_one_log(work, words.anyway)
     if not words.anyway:
         expect_no_step_back(work, name, value)
-    show(recorded_as_brought(work, name, value, path, words.anyway))
+    printed = recorded_as_brought(work, name, value, path, words.anyway)
+    show(printed)
+    if not words.anyway:
+        tell_of_global(work, name, os.fsdecode(printed).split()[1])
     say_what_carries_it(repository)
+
+
+def tell_of_global(work, name, number):
+    """Tells that the entry of this number, which was recorded just now, breaks a global rule: that keeps nobody from recording it."""
+    line = os.fsdecode(GlobalVerdicts(work, settings.held_to(work.repository)).of(name)[1]).strip()
+    if line.startswith("global-violation ") and line.split(" ")[2] == number:
+        tell(f"{sentences.of_line(line)} {gate_sentences.GIVE_UP}.")
 
 
 def say_what_carries_it(repository):
