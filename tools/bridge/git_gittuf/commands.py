@@ -254,7 +254,8 @@ def annotate(work, words):
     more = (f"--message={words.message}",) if words.message else ()
     show(work.change(lambda: work.asked(*asked, *more, key=path)))
     if words.word == "skip":
-        say("It counts once the branch has the files that it had before, and git gittuf record says so.")
+        enough = "where it was in no violation it is enough that it stands where it stood"
+        say(f"It counts once the branch has the files that it had before, and git gittuf record says so; {enough}.")
 
 
 def export(work, _):
