@@ -123,6 +123,18 @@ def says_what_an_answer_means(repositories):
         want((found, said.splitlines()[0], part in said), (status, line, True), f"what is said of {line}: {said}")
 
 
+def says_how_much_is_brought(repositories):
+    """an entry that recorded more than a push may have is told with the line that brings a repository into the store of a desk"""
+    clones = another(repositories, "desk large")
+    for name in "abcde":
+        clones.commit("alice", f"large/{name}", name * (14 << 20))
+    clones.gittuf("alice", "record", "main")
+    with desk() as port:
+        found, printed, said = clones.asked("alice", "push", "--desk", port)
+    way = b"has more than 64 MiB, and no desk takes it as one push: git-to-stream PROJECT | gittuf STORE - import"
+    want((found, printed.count(b"done "), way in said), (3, 2, True), f"what is said of five files of 14 MiB: {said}")
+
+
 def refuses_what_does_not_fit(repositories):
     """a desk that is none, is not there, has other entries or more, and words that do not fit are refused, and nothing goes"""
     clones = another(repositories, "desk refused")
@@ -206,6 +218,7 @@ CHECKS = (
     gives_what_it_has,
     is_named_where_it_is_alone,
     says_what_an_answer_means,
+    says_how_much_is_brought,
     refuses_what_does_not_fit,
     takes_nothing_of_a_bad_stream,
 )

@@ -56,7 +56,8 @@ def text_of(repository, listed, number):
             break
     text = b"".join([HEADER, *records, b"entry %s\n" % listed[number - 1][1], END])
     if len(text) > MAX_PUSH:
-        raise Stopped(f"what entry {number} recorded has more than {MAX_PUSH >> 20} MiB, and no desk takes it as one push", 3)
+        way = "git-to-stream PROJECT | gittuf STORE - import brings a whole repository into an empty store before a desk opens it"
+        raise Stopped(f"what entry {number} recorded has more than {MAX_PUSH >> 20} MiB, and no desk takes it as one push: {way}", 3)
     return text
 
 
