@@ -11,11 +11,11 @@ import time
 
 from beside_nginx import nginx, nginx_program
 from check_launcher import stand_in
-from check_serving import TRIES, desk, entry_more, free_port, guarded, imported, made_key, opened, tip_of
+from check_serving import TRIES, desk, entry_more, free_port, guarded, imported, line_of_log, made_key, opened, push, tip_of
 from checking import LAUNCHER, TOP, Skip, on_terminal, run, want
 
 PAGE = os.path.join(TOP, "docs", "DESK.md")
-PORT = "8080"
+PORT, BACKUP = "8080", "Back it up, and move it"
 OPENING = b"gittuf: opening the desk on this machine; Ctrl-C stops it\n"
 # What stands in the page's lines for nginx, and is another here.
 NAME, USERS, ENCRYPTED = "desk.example", "/etc/nginx/desk.users", re.compile(r" *ssl_certificate.*\n")
@@ -44,7 +44,8 @@ def does_what_it_says(repositories):
     want(script(first), (0, b"imported\n", b""), f"what `{first}` prints")
     said = b"accepted refs/heads/main 4 entries\n"
     pushes, printed = blocks("Bring it an entry")
-    want(page().count("curl -"), (blocks("Ask it")[0] + pushes).count("curl -"), "how many lines with curl are run")
+    run_here = blocks("Ask it")[0] + pushes + blocks(BACKUP)[0]
+    want(page().count("curl -"), run_here.count("curl -"), "how many lines with curl are run")
     with opened(second.replace(PORT, port).split(), int(port), folder):
         answers = (tip_of(int(port)), said, said, b"malformed 14\n")
         lines = blocks("Ask it")[0].splitlines()
@@ -52,6 +53,42 @@ def does_what_it_says(repositories):
         for line, answer in zip(lines, answers):
             want(script(line), (0, answer, b""), f"what `{line}` prints")
         want(script(pushes), (0, printed.encode(), b""), "what the lines print that bring entries")
+
+
+def is_backed_up(repositories):
+    """the lines of docs/DESK.md keep and move all that a desk has, which its database file alone does not, open or once it was killed"""
+    if not shutil.which("curl"):
+        raise Skip("there is no curl")
+    folder = repositories.path("backed up")
+    os.mkdir(folder)
+    os.symlink(LAUNCHER, os.path.join(folder, os.path.basename(LAUNCHER)))
+    place, alone = (os.path.join(folder, it) for it in ("desk.db", "alone.db"))
+    imported(place, guarded())
+    text, number, entry, after = entry_more(repositories, "backed up.db", guarded(), made_key(repositories, "backed up.key"))
+    script = lambda line: run("bash", "-c", line, folder=folder)
+    asked, stored, restored = blocks(BACKUP)[0].splitlines()
+    kept = os.path.join(folder, "backup.stream")
+    with desk(place) as (ran, port):
+        want(push(port, text), (201, b"done %d %s\n" % (number, entry)), "the reply to a push")
+        want(script(asked.replace(PORT, str(port))), (0, b"", b""), f"what `{asked}` prints")
+        want(whole(kept), after, "what an open desk is backed up as")
+        want(script(stored)[0], 4, "the status of the line for a store that no desk has open")
+        shutil.copyfile(place, alone)
+        ran.kill()
+        ran.wait()
+    want(line_of_log(alone)[0], number - 1, "how many entries a copy of the file alone has")
+    want((script(stored), whole(kept)), ((0, b"", b""), after), "what a killed desk is backed up as")
+    for it in ("copy.db", "copy/"):
+        line = restored.replace("copy.db", it)
+        want(script(line), (0, b"imported\n", b""), f"what `{line}` prints")
+        want(line_of_log(os.path.join(folder, it)), (number, entry), f"the log of {it}")
+    moved = stored.replace("desk.db", "copy/")
+    want((script(moved), whole(kept)), ((0, b"", b""), after), "what a folder is moved as")
+
+
+def whole(path):
+    with open(path, "rb") as file:
+        return file.read()
 
 
 def is_a_unit(repositories):
@@ -153,4 +190,4 @@ def asks_once(port):
     return None
 
 
-CHECKS = (does_what_it_says, is_a_unit, is_kept_from_pages, tells_a_person)
+CHECKS = (does_what_it_says, is_backed_up, is_a_unit, is_kept_from_pages, tells_a_person)

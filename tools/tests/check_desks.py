@@ -74,6 +74,29 @@ def gives_what_it_has(repositories):
         clones.git("merge", "--quiet", "--ff-only", "refs/remotes/shop/main", who="alice")
         clones.gittuf("alice", "push")
         clones.sound("alice", "bob")
+        clones.git("tag", "v1", who="alice")
+        clones.gittuf("alice", "record", "v1")
+        sent(clones, "alice", port)
+        way = f"refs/tags/v1 is not made here, as tags and others are not taken: git update-ref refs/tags/v1 {clones.tip('alice', 'v1')}"
+        _, _, said = clones.asked("bob", "fetch", "--desk", port)
+        want(way in said.decode(), True, f"what bob is told of a tag: {said}")
+        clones.copied("bob", f"git update-ref refs/tags/v1 {clones.tip('alice', 'v1')}")
+        want(clones.asked("bob", "fetch", "--desk", port), (0, b"", b""), "what is said of a tag that stands as at the desk")
+
+
+def is_named_where_it_is_alone(repositories):
+    """in a clone that has a desk and no remote of Git, what carries an entry to others is the desk, and no remote is wanted"""
+    clones = another(repositories, "desk alone")
+    with desk() as port:
+        sent(clones, "alice", port)
+        clones.gittuf("bob", "fetch", "--desk", port)
+        clones.git("remote", "remove", "origin", who="bob")
+        clones.commit("bob")
+        status, said = at_terminal("git gittuf record main", clones.path("bob"))
+        way = f"git gittuf push --desk {port}"
+        want((status, f"{way} carries it to the desk." in said), (0, True), f"what is said once something is recorded: {said}")
+        clones.refused("bob", "push", status=3, part=f"there is no remote but a desk: {way}")
+        want(len(sent(clones, "bob", port)), 1, "how many entries bob sends there")
 
 
 def says_what_an_answer_means(repositories):
@@ -91,10 +114,25 @@ def says_what_an_answer_means(repositories):
         (502, f"moved {first} {zeros}", 7, "moved the log in its store"),
         (500, "fault", 7, "The store of the desk failed"),
         (503, "memory", 7, "The desk wanted memory"),
+        (403, f"violation {MAIN} 1 ref-rule main 0 of 2", 7, "of the 2 persons whom rule main wants 0 signed that"),
+        (403, f"violation {MAIN} 1 path-rule {'a' * 4000}/{'%0A' * 2000} keys 0 of 1", 7, "git gittuf doctor --take desk give it up"),
+        (403, "violation refs/gittuf/policy 1 not-epoch bad-root", 7, "recorded a policy that does not follow"),
     ):
         with desk(str(code), line) as port:
             found, said = at_terminal(f"git gittuf push --desk {port}", clones.path("alice"))
         want((found, said.splitlines()[0], part in said), (status, line, True), f"what is said of {line}: {said}")
+
+
+def says_how_much_is_brought(repositories):
+    """an entry that recorded more than a push may have is told with the line that brings a repository into the store of a desk"""
+    clones = another(repositories, "desk large")
+    for name in "abcde":
+        clones.commit("alice", f"large/{name}", name * (14 << 20))
+    clones.gittuf("alice", "record", "main")
+    with desk() as port:
+        found, printed, said = clones.asked("alice", "push", "--desk", port)
+    way = b"has more than 64 MiB, and no desk takes it as one push: git-to-stream PROJECT | gittuf STORE - import"
+    want((found, printed.count(b"done "), way in said), (3, 2, True), f"what is said of five files of 14 MiB: {said}")
 
 
 def refuses_what_does_not_fit(repositories):
@@ -104,6 +142,9 @@ def refuses_what_does_not_fit(repositories):
         clones.refused("alice", "push", "--desk", port, status=4, part="answers 200: welcome")
         clones.refused("alice", "push", "main", "--desk", port, status=2, part="takes no branch")
         clones.refused("alice", "fetch", "--desk", port, "--remote", "origin", status=3, part="origin is a remote of Git already")
+    with desk("0", "") as port:
+        part = "it may have the entry all the same, and the same call again says so"
+        clones.refused("alice", "push", "--desk", port, status=4, part=part)
     clones.refused("alice", "push", "--desk", port, status=4, part="does not answer")
     clones.refused("alice", "push", "--desk", "65536", status=2, part="is no port")
     with desk() as port:
@@ -116,6 +157,7 @@ def refuses_what_does_not_fit(repositories):
         want((found, b"of desk went apart" in said), (0, True), f"what bob is told: {said}")
         clones.git("update-ref", "-d", THEIRS, who="bob")
         clones.refused("bob", "push", "--remote", "desk", status=3, part="desk is a desk")
+        clones.refused("bob", "mirror", "desk", status=3, part=f"curl -s http://127.0.0.1:{port}/v1/stream | gittuf mirror.db - mirror")
 
 
 def takes_nothing_of_a_bad_stream(repositories):
@@ -171,4 +213,12 @@ def told(text):
             ran.terminate()
 
 
-CHECKS = (takes_each_entry_once, gives_what_it_has, says_what_an_answer_means, refuses_what_does_not_fit, takes_nothing_of_a_bad_stream)
+CHECKS = (
+    takes_each_entry_once,
+    gives_what_it_has,
+    is_named_where_it_is_alone,
+    says_what_an_answer_means,
+    says_how_much_is_brought,
+    refuses_what_does_not_fit,
+    takes_nothing_of_a_bad_stream,
+)

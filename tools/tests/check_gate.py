@@ -65,6 +65,7 @@ def takes_what_is_lawful(repositories):
     clones.sound("alice", "bob")
     # The server is asked as any clone is.
     want(run("git", "-C", clones.path("server.git"), "gittuf", "verify", "main")[1], f"accepted {MAIN} 3 entries\n".encode(), "its verdict")
+    want(clones.gittuf("server.git", "doctor"), b"all is well\n", "what doctor says there, where no key and no remote are wanted")
 
 
 def refuses_logs(clones, evil, log):

@@ -129,4 +129,18 @@ def looks_at_a_million_ancestors(repositories):
     want(asked(FAR), too_far if count > MOST_ANCESTORS else kept, f"of commit {count}")
 
 
-CHECKS = (edits_global_rules, refuses_global_rules, tells_global_verdicts, looks_at_a_million_ancestors)
+def tells_who_records(repositories):
+    """record tells that its entry breaks a global rule, which keeps nobody from recording it, and nothing where none is broken"""
+    clones = another(repositories, "global records")
+    put_in_force(clones, KEEP)
+    clones.commit("alice")
+    found, _, said = clones.asked("alice", "record", "main")
+    want((found, said), (0, b""), "what is said where no rule is broken")
+    put_in_force(clones, TWO)
+    clones.commit("alice")
+    found, _, said = clones.asked("alice", "record", "main")
+    parts = ("entry 6 was signed by 1 at most", "global rule two wants 2", "gives up what was recorded here and is not there yet")
+    want((found, [it in said.decode() for it in parts]), (0, [True] * 3), f"what is said of an entry that one signed: {said}")
+
+
+CHECKS = (edits_global_rules, refuses_global_rules, tells_global_verdicts, tells_who_records, looks_at_a_million_ancestors)

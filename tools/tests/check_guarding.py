@@ -187,7 +187,10 @@ def names_what_is_missing(repositories):
     clones.refused("alice", "policy", "apply", status=3, part="in force already")
     clones.refused("alice", "skip", "99", status=3, part="git gittuf log")
     clones.git("init", "--quiet", "--object-format=sha256", "new", who="")
-    clones.refused("new", "verify", status=3, part="git fetch")
+    # What is recorded before a policy is no lawful beginning.
+    for word in ("verify", "report"):
+        clones.refused("new", word, status=3, part="git fetch bring one, and git gittuf policy init and git gittuf policy apply begin one")
+    want(clones.advised("new", "there is no log here"), "git gittuf setup && git fetch, or git gittuf policy init <your name> begins one", "of no log")
     clones.git("init", "--quiet", "--object-format=sha1", "old", who="")
     clones.refused("old", "verify", status=4, part="and nothing in it: git init -b main --object-format=sha256 ../new begins one")
     clones.git("commit", "--quiet", "--allow-empty", "--message", "something", who="old")

@@ -10,12 +10,13 @@ from guarded_clones import MAIN, another
 def keeps_hooks_of_others(repositories):
     """a hook that stood there is called first with what Git gives, may refuse, and is there again once the own one is taken away"""
     clones = another(repositories, "hooks of others")
-    for who, name, words in (("server.git", "pre-receive", ("--server",)), ("alice", "pre-push", ())):
+    # Git gives a hook that does not name what reads it to the shell.
+    for who, name, words, first in (("server.git", "pre-receive", ("--server",), "#!/bin/sh\n"), ("alice", "pre-push", (), "")):
         place = clones.path(os.path.join(who, "hooks" if who == "server.git" else ".git/hooks"))
         os.makedirs(place, exist_ok=True)
         path = os.path.join(place, name)
         with open(path, "w", encoding="utf-8") as file:
-            file.write(f"#!/bin/sh\ncat > '{clones.path(name)}'\ntest ! -e '{clones.path('closed')}'\n")
+            file.write(f"{first}cat > '{clones.path(name)}'\ntest ! -e '{clones.path('closed')}'\n")
         os.chmod(path, 0o755)
         for _ in range(2):
             found = clones.gittuf(who, "hook", "install", *words).decode()
@@ -31,9 +32,9 @@ def keeps_hooks_of_others(repositories):
             want(MAIN in file.read(), True, f"whether {name} of others was given the references")
     for who, name in (("server.git", "pre-receive"), ("alice", "pre-push")):
         place = clones.path(os.path.join(who, "hooks" if who == "server.git" else ".git/hooks"))
-        path = os.path.join(place, name)
-        told = clones.gittuf(who, "hook", "--remove").decode()
-        want(told, f"{path} is taken away\n{path} is that of others again\n", "what is told of both, in this order")
+        path = os.path.realpath(os.path.join(place, name))
+        said = f"{path} of git gittuf is taken away\n{path} is that of others again\n"
+        want(clones.gittuf(who, "hook", "--remove").decode(), said, "what is said once they are taken away")
         want(os.listdir(place), [name], "what stands there once it is taken away")
         clones.refused(who, "hook", "--remove", status=3, part="no hook of git gittuf is in")
     want(b"there is no remote" in clones.gittuf("server.git", "doctor", status=1), False, "whether a server is told to have a remote")

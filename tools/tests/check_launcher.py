@@ -151,6 +151,7 @@ def runs_in_a_copy(repositories):
         os.utime(source, ns=times)
         status, output, told = judge()
         want((status, output, b"rt is not on the PATH" in told), (4, b"", True), "what a changed source leads to")
+        want(b"building the program" in told, False, f"whether a build is said to begin: {told}")
         with open(source, "wb") as file:
             file.write(text)
         want(judge(), accepted, "what the program answers once the text is as it was")

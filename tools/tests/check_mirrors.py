@@ -87,6 +87,8 @@ def only_grows(repositories):
         judged = run(LAUNCHER, clones.path("") + store, "-", "verify-ref", MAIN)
         want(judged[:2], (0, f"accepted {MAIN} 1 entries\n".encode()), f"the verdict over {into}")
     clones.refused("carol", "mirror", "nowhere", status=3, part="nowhere is no remote, and nothing stands at")
+    os.rename(clones.path("server.git"), clones.path("away.git"))
+    clones.refused("carol", *ORIGIN, status=4, part="origin does not answer: nothing stands at")
 
 
 def keeps_another_past(repositories):

@@ -117,21 +117,26 @@ def judges_large_files(repositories):
 def tells_of_first_records(repositories):
     """the first record of a branch or tag wants the signatures of each path rule, and explain and record say so, as docs/CONCEPTS.md has it"""
     clones = another(repositories, "first records")
-    clones.commit("alice", "docs/page")
+    for name in ("page", "second", "third"):
+        clones.commit("alice", f"docs/{name}")
     clones.gittuf("alice", "record", "main")
     clones.gittuf("alice", "policy", "rule", "docs", "file:docs/*", "--persons", "bob")
     clones.sign("alice")
     clones.gittuf("alice", "policy", "apply")
-    clones.git("tag", "v1", who="alice")
+    clones.git("-c", "user.name=alice", "-c", "user.email=alice@localhost", "tag", "-a", "-m", "one", "v1", who="alice")
     clones.git("branch", "idea", who="alice")
     _, said = at_terminal("git gittuf explain refs/heads/idea", clones.path("alice"))
     want("but for the paths of docs, of which its first record counts each" in said, True, f"what explain says: {said}")
-    part = "rule docs wants 1 of bob for a change of docs/page; missing is bob, who approves it by git gittuf approve refs/tags/v1"
-    clones.refused("alice", "record", "v1", status=3, part=part)
-    clones.git("push", "--quiet", "origin", "idea", "v1", "main", who="alice")
+    # Where gittuf-inspect tells each path, the rule is told once.
+    found, _, said = clones.asked("alice", "record", "v1")
+    # A tag that a rule protects is nowhere else before it is recorded, and its commit is.
+    more = f"(?: and of 2 other paths)?; missing is bob, who approves it by (git gittuf approve refs/tags/v1 {clones.tip('alice')})"
+    told = re.findall(f"rule docs wants 1 of bob for a change of docs/page{more}", said.decode())
+    want((found, len(told), said.count(b"rule docs")), (3, 1, 1), f"what record says: {said}")
+    clones.git("push", "--quiet", "origin", "idea", "main", who="alice")
     clones.gittuf("alice", "push")
-    clones.git("pull", "--quiet", "--tags", who="bob")
-    clones.gittuf("bob", "approve", "v1")
+    clones.git("pull", "--quiet", who="bob")
+    clones.copied("bob", told[0])
     clones.git("push", "--quiet", who="bob")
     clones.git("fetch", "--quiet", who="alice")
     clones.gittuf("alice", "record", "v1")

@@ -19,7 +19,11 @@ def edits_rules(repositories):
     """a rule is put before another, ends terminating or not, and goes on in a file of its own that its persons sign"""
     clones = another(repositories, "rules")
     rule = lambda *words: clones.gittuf("alice", "policy", "rule", *words).decode()
-    rule("docs", "file:docs/*", "--persons", "alice,bob", "--terminating")
+    rule("docs", "file:docs/*", "--persons", "alice, bob", "--terminating")
+    clones.refused("alice", "policy", "rule", "docs", "--persons", "alice,", status=2, part="lacks a name before or behind a comma")
+    found, _, said = clones.asked("alice", "policy", "person", "carol", clones.public("bob"))
+    want((found, b"is that of bob too" in said), (0, True), f"what is said of a key of two persons: {said}")
+    clones.gittuf("alice", "policy", "person", "carol", "--remove")
     want("+ rule docs: file:docs/* by 1 of alice bob\n" in rule("docs", "--no-terminating"), True, "whether a later rule counts again")
     rule("docs", "--before", "main")
     clones.refused("alice", "policy", "rule", "docs", "--before", "none", status=3, part="there is no other rule none")
@@ -29,6 +33,8 @@ def edits_rules(repositories):
     rules = [it.partition(" by ")[0] for it in found if "rule " in it and it.startswith(("+", " "))]
     want(rules, ["+ rule docs: file:docs/*", "+ file metadata/docs.json has rule pages: file:docs/pages/*"], "the new rules")
     want("docs is signed by 0 of 1" in found, True, f"whether the file waits for a signature: {found}")
+    part = "nobody has signed targets and docs yet: git gittuf policy sign by alice or bob"
+    clones.refused("alice", "policy", "apply", status=3, part=part)
     applied(clones, "alice")
     want(clones.gittuf("alice", "explain", "file:docs/pages/a"), b"rule docs 1 open\nrule pages 1 open\n", "the rules of a page")
     rule("pages", "--threshold", "1", "--persons", "alice")
@@ -50,7 +56,8 @@ def rotates_a_key(repositories):
     applied(clones, "alice")
     clones.gittuf("alice", "key", "--file", new, "--height", "5")
     _, _, errors = clones.asked("alice", "policy", "rotate", "alice")
-    want(b"signs this by both keys" in errors, True, f"what is said of both keys: {errors}")
+    lost = b"again with the new one; where the old one is lost, too few are left to sign it"
+    want((b"signs this by both keys" in errors, lost in errors), (True, True), f"what is said of both keys: {errors}")
     clones.sign("alice")
     clones.refused("alice", "policy", "apply", status=3, part="policy root-succession 0 of 1")
     clones.git("config", "gittuf.key", old, who="alice")
@@ -60,6 +67,11 @@ def rotates_a_key(repositories):
     clones.commit("alice")
     clones.gittuf("alice", "record", "main")
     clones.verdict("alice", f"accepted {MAIN} 2 entries")
+    clones.gittuf("alice", "policy", "rule", "root", "--persons", "alice,bob")
+    applied(clones, "alice")
+    # The key of one of two is lost, and one of them is enough.
+    _, _, errors = clones.asked("alice", "policy", "rotate", "bob", clones.public("alice"))
+    want(b"where the old one is lost, it is signed by 1 of alice" in errors, True, f"what is said of a key that is lost: {errors}")
 
 
 def makes_a_lost_line_again(repositories):

@@ -32,6 +32,13 @@ def pushes_all_or_nothing(repositories):
     before = clones.git("for-each-ref", who="server.git")
     clones.refused("alice", "push", status=3, part="git pull brings what is there")
     want(clones.git("for-each-ref", who="server.git"), before, "what the server has after a push that failed")
+    # Where another recorded first, the log alone would not go either.
+    clones.gittuf("bob", "note", "1", "-m", "first")
+    clones.git("push", "--quiet", "origin", "refs/gittuf/*:refs/gittuf/*", who="bob")
+    clones.commit("alice")
+    clones.git("fetch", "--quiet", who="alice")
+    part = "git gittuf record main comes first, and git gittuf sync --remote origin records anew what else is signed"
+    clones.refused_after("alice", "push", status=3, part=part)
 
 
 def pushes_the_log_alone(repositories):

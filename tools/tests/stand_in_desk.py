@@ -1,7 +1,7 @@
 """A desk that stands in for the program's where git gittuf is tried: it takes pushes into memory, and judges nothing.
 
 It prints the port that it has on this machine, and answers until it is ended. Where words are given each push is
-answered by them alone: a code and a line.
+answered by them alone, a code and a line, or by the code 0 not at all.
 """
 
 import http.server
@@ -118,7 +118,10 @@ class Handler(http.server.BaseHTTPRequestHandler):
     def do_POST(self):
         text = self.rfile.read(int(self.headers["content-length"]))
         code, line = self.said or self.shop.push(text)
-        self.answer(code, line + b"\n")
+        if code:
+            self.answer(code, line + b"\n")
+        else:
+            self.close_connection = True
 
 
 def main():

@@ -2,13 +2,14 @@
 
 import os
 
-from git_gittuf import consents, copying, following, fronts, history, keys, leaves, longer_logs, looking, names, remotes, sentences, settings, skipping
-from git_gittuf import stores
+from git_gittuf import consents, copying, following, fronts, gate_sentences, history, keys, leaves, longer_logs, looking, names, remotes, sentences, settings
+from git_gittuf import skipping, stores
+from git_gittuf.global_verdicts import GlobalVerdicts
 from git_gittuf.program import Ended
 from git_gittuf.remotes import is_before
 from git_gittuf.repository import ATTESTATIONS, LOG, REMOTES, ZEROS, Stopped
 from git_gittuf.shown import plain, quoted
-from git_gittuf.telling import say, show
+from git_gittuf.telling import say, show, tell
 
 
 def setup(work, words):
@@ -134,14 +135,27 @@ def record(work, words):
     expect_one_log(work, words.anyway)
     if not words.anyway:
         expect_no_step_back(work, name, value)
-    show(recorded_as_brought(work, name, value, path, words.anyway))
+    printed = recorded_as_brought(work, name, value, path, words.anyway)
+    show(printed)
+    if not words.anyway:
+        tell_of_global(work, name, os.fsdecode(printed).split()[1])
     say_what_carries_it(repository)
+
+
+def tell_of_global(work, name, number):
+    """Tells that the entry of this number, which was recorded just now, breaks a global rule: that keeps nobody from recording it."""
+    line = os.fsdecode(GlobalVerdicts(work, settings.held_to(work.repository)).of(name)[1]).strip()
+    if line.startswith("global-violation ") and line.split(" ")[2] == number:
+        tell(f"{sentences.of_line(line)} {gate_sentences.GIVE_UP}.")
 
 
 def say_what_carries_it(repository):
     """Names the next step to a person, once something is recorded."""
-    carried = ", ".join(plain(it) for it in remotes.of_git(repository))
-    say(f"git gittuf push carries it to {carried or 'others, once there is a remote'}.")
+    carried, desk = ", ".join(plain(it) for it in remotes.of_git(repository)), remotes.desk_alone(repository)
+    if desk:
+        say(f"git gittuf push --desk {desk} carries it to the desk.")
+    else:
+        say(f"git gittuf push carries it to {carried or 'others, once there is a remote'}.")
 
 
 def approved_by(work, name, target, path):
@@ -251,7 +265,8 @@ def annotate(work, words):
     more = (f"--message={words.message}",) if words.message else ()
     show(work.change(lambda: work.asked(*asked, *more, key=path)))
     if words.word == "skip":
-        say("It counts once the branch has the files that it had before, and git gittuf record says so.")
+        enough = "where it was in no violation it is enough that it stands where it stood"
+        say(f"It counts once the branch has the files that it had before, and git gittuf record says so; {enough}.")
 
 
 def export(work, _):

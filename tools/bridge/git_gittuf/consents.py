@@ -77,7 +77,7 @@ def expect_told_wanted(work, name, value, key):
         refuse_unwanted(name, value)
     first = faults[0]
     if first["kind"] not in ("ref-rule", "path-rule"):
-        refuse("approved", f"it would be a violation: {looking.reason_for(work, name, value, first, key, entry)}")
+        refuse("approved", f"it would be a violation: {looking.reason_for(work, name, value, [first], key, entry)}")
     # Where each changed path is met, no rule for paths wants one.
     of_paths = asked_by_paths(policies.in_force(work)) if any(it["kind"] == "path-rule" for it in faults) else []
     rule = policies.unescaped(os.fsdecode(inspecting.word_of(first["rule"])))
@@ -115,7 +115,7 @@ def expect_counts(work, name, value, key, unmet, given):
     have = len(persons) - len(missing)
     # Who records it signs too.
     if persons and int(threshold) - have > 1:
-        tell(f"{rule}: with you {have} signed, and missing is {' or '.join(map(plain, missing))}: {looking.approval_of(name, value)}")
+        tell(f"{rule}: with you {have} signed, and missing is {' or '.join(map(plain, missing))}: {looking.approval_of(work.repository, name, value)}")
 
 
 def expect_skips(work, ids, key):

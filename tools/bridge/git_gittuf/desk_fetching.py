@@ -3,15 +3,12 @@
 import os
 
 from git_gittuf import names, remotes
-from git_gittuf.desks import Desk
+from git_gittuf.desks import NAME, Desk
 from git_gittuf.repository import LOG, OWN, TARGETS, ZEROS, Stopped
-from git_gittuf.shown import plain
+from git_gittuf.shown import plain, quoted
 from git_gittuf.telling import say, tell
 from packs import EMPTY_TREE, Pack
 from streams import Input, read_stream
-
-# The remote that a desk is where nothing else is said.
-NAME = "desk"
 
 
 def expect_desk(repository, name):
@@ -63,8 +60,10 @@ def moved(repository, remote, found):
         place = place_of(remote, name)
         if place is not None:
             wanted[place] = value
-        elif not name.startswith(TARGETS):
-            tell(f"{plain(os.fsdecode(name))} stays where it is: git fetch by a remote of Git brings tags and others")
+        elif not name.startswith(TARGETS) and here.get(name) != value:
+            stands = "stays where it is" if name in here else "is not made here"
+            way = f"git update-ref {quoted(os.fsdecode(name))} {value.decode()}"
+            tell(f"{plain(os.fsdecode(name))} {stands}, as tags and others are not taken: {way} puts it where the desk has it")
     fronts = tuple(it + os.fsencode(remote) + b"/" for it in (remotes.REMOTES, remotes.BESIDE))
     for place in here:
         if place.startswith(fronts):

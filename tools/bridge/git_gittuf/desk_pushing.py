@@ -3,8 +3,8 @@
 What goes with an entry comes from Git, since the store of git gittuf has no files.
 """
 
-from git_gittuf import history, program
-from git_gittuf.desks import Desk
+from git_gittuf import history, program, sentences
+from git_gittuf.desks import NAME, Desk
 from git_gittuf.repository import LOG, ZEROS, Stopped
 from git_gittuf.telling import say
 from stream_format import MAX_BODY
@@ -56,7 +56,8 @@ def text_of(repository, listed, number):
             break
     text = b"".join([HEADER, *records, b"entry %s\n" % listed[number - 1][1], END])
     if len(text) > MAX_PUSH:
-        raise Stopped(f"what entry {number} recorded has more than {MAX_PUSH >> 20} MiB, and no desk takes it as one push", 3)
+        way = "git-to-stream PROJECT | gittuf STORE - import brings a whole repository into an empty store before a desk opens it"
+        raise Stopped(f"what entry {number} recorded has more than {MAX_PUSH >> 20} MiB, and no desk takes it as one push: {way}", 3)
     return text
 
 
@@ -69,9 +70,17 @@ def expect_front(desk, listed, count, tip):
         raise Stopped(f"{desk.name} has another entry {count} than is here: {way}, and git gittuf doctor says more", 3)
 
 
+def of_denied(desk, line):
+    """Why a gate takes an entry not, with the way on: what is signed stays as it is, so it is given up and recorded anew."""
+    taken = f"git gittuf fetch --desk {desk.port} and git gittuf doctor --take {NAME} give it up, with what is recorded here behind it"
+    return f"The gate takes nothing of it. {sentences.of_fault(line)} {taken}; it is recorded anew once it would be lawful."
+
+
 def sentence(desk, number, line):
     """What an answer to the push of an entry means."""
     words = line.split(" ")
+    if words[0] == "violation":
+        return of_denied(desk, line)
     told = words[1] if words[1:] else ""
     back = f"git gittuf fetch --desk {desk.port}"
     return {

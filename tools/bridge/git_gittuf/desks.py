@@ -6,15 +6,19 @@ import re
 from git_gittuf.repository import ZEROS, Stopped
 from git_gittuf.shown import plain
 
+# The remote that a desk is where nothing else is said.
+NAME = "desk"
 # A desk that sends nothing for so many seconds is not waited for.
 SECONDS = 30
-# The most bytes that are read of an answer, but of a stream.
-MOST = 4096
+# The most bytes that are read of an answer, but of a stream: the line of a violation may name a long path.
+MOST = 1 << 16
 TIP = re.compile(rb"tip (0|[1-9][0-9]*) ([0-9a-f]{64})\n")
 # What it answers of a push. Another program at the port may say anything.
 LINE = re.compile(
     rb"(done|stale) [0-9]+ [0-9a-f]{64}|(already|malformed|too large) [0-9]+|misnumbered [0-9]+ [0-9]+|incomplete [0-9a-f]{64}"
     rb"|moved [0-9a-f]{64} [0-9a-f]{64}|fault|memory|bad request|not found|method not allowed|length required"
+    rb"|violation [!-~]+ [0-9]+ (no-policy|broken [0-9a-f]{64}|ref-rule [!-~]+ [0-9]+ of [0-9]+|path-rule [!-~]+ [!-~]+ [0-9]+ of [0-9]+"
+    rb"|not-epoch [ -~]+)"
 )
 TAKEN = (200, 201)
 
@@ -56,8 +60,11 @@ class Desk:
 
     def push(self, text):
         """Sends a push, and returns whether it was taken, and the line that says what became of it."""
-        with self.asked("POST", "/v1/push", text) as answer:
-            said = answer.read(MOST)
+        try:
+            with self.asked("POST", "/v1/push", text) as answer:
+                said = answer.read(MOST)
+        except Stopped as why:
+            raise Stopped(f"{why}; it may have the entry all the same, and the same call again says so") from None
         if not said.endswith(b"\n") or not LINE.fullmatch(said[:-1]):
             raise self.refused(answer.status, said)
         return answer.status in TAKEN, said[:-1].decode()

@@ -15,7 +15,9 @@ from git_gittuf.telling import say
 def of_key(repository):
     path = keys.path_of(repository)
     if not keys.is_there(path):
-        yield f"there is no key at {path}, which only who signs needs", "git gittuf key"
+        # Nobody signs on a server.
+        if repository.top is not None:
+            yield f"there is no key at {path}, which only who signs needs", "git gittuf key"
         return
     if not keys.can_be_read(path):
         yield f"{path} is no key file, or cannot be read, and signs nothing", "git gittuf key --file <another path>"
@@ -75,7 +77,8 @@ def of_lost(work, remote, value, how):
 def of_remotes(work, is_whole):
     repository = work.repository
     found = remotes.remotes(repository)
-    if not found and repository.top:
+    # From a bare repository others fetch it.
+    if not found and repository.top is not None:
         yield "there is no remote, so nobody gets the log from here", "git remote add origin <where> && git gittuf setup"
     for remote in remotes.of_git(repository):
         if remotes.lacking(repository, remote):

@@ -4,7 +4,7 @@ A remote's log is followed where the program reads it as a chain that goes on fr
 approvals stand where the own log records them, and nowhere else. What a remote has beside that stays beside.
 """
 
-from git_gittuf import epochs, history, seen, signers
+from git_gittuf import epochs, history, remotes, seen, signers
 from git_gittuf.remotes import beside, is_before, standing
 from git_gittuf.repository import ATTESTATIONS, LOG, POLICY, STAGED, ZEROS, Stopped
 from git_gittuf.shown import plain, quoted
@@ -136,7 +136,8 @@ def to_take(work, remote, anyway=False):
     repository, references = work.repository, work.repository.references()
     tip = references.get(beside(remote, LOG) if remote else LOG)
     if tip is None and remote:
-        setup = f"git gittuf setup {quoted(remote)}, git fetch {quoted(remote)}"
+        desk = remotes.port_of(repository, remote)
+        setup = f"git gittuf fetch --desk {desk}" if desk else f"git gittuf setup {quoted(remote)}, git fetch {quoted(remote)}"
         raise Stopped(f"no log was fetched from {plain(remote)}: {setup}", 3)
     whole, printed = last_whole(work, tip) if tip else (None, b"")
     if not whole:

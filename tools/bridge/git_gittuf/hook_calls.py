@@ -1,5 +1,6 @@
 """What the hooks do that Git calls: `pre-push` in a clone before a push leaves it, `pre-receive` on a server before it is taken."""
 
+import errno
 import os
 import select
 import subprocess
@@ -25,7 +26,13 @@ def called_first(repository, name, words, given):
     if not os.access(path, os.X_OK):
         # Git calls no such hook either.
         return 0
-    return subprocess.run((path, *words), input=given, check=False).returncode
+    try:
+        return subprocess.run((path, *words), input=given, check=False).returncode
+    except OSError as error:
+        if error.errno != errno.ENOEXEC:
+            raise
+        # A text that does not name what reads it is the shell's, as for Git.
+        return subprocess.run(("/bin/sh", path, *words), input=given, check=False).returncode
 
 
 def value_of(text):

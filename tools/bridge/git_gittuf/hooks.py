@@ -65,7 +65,7 @@ def remove(repository):
         if is_own(path):
             os.remove(path)
             is_gone = True
-            print(f"{path} is taken away")
+            print(f"{path} of git gittuf is taken away")
         if os.path.lexists(path + OTHERS) and not os.path.lexists(path):
             os.rename(path + OTHERS, path)
             print(f"{path} is that of others again")

@@ -94,26 +94,41 @@ def reason(work, name, value, line, key):
         return f"it would be a violation: {plain(sentences.of_line(line)).removesuffix('.')}"
     path, rule = (it and policies.unescaped(it) for it in counts.group(1, 2))
     signed = [*approvers(work, policies.in_force(work), name, value), key]
-    return f"it would be a violation: {of_rule(work, name, value, (path if fault == 'path-rule' else None, rule, counts[4]), key, signed)}"
+    return f"it would be a violation: {of_rule(work, name, value, ([path] if fault == 'path-rule' else [], rule, counts[4]), key, signed)}"
 
 
 def of_rule(work, name, value, unmet, key, signed):
-    """What a rule wants that is not met, given as path or nothing, name and threshold, and who of those whom it asks is missing."""
-    policy, (path, rule, threshold) = policies.in_force(work), unmet
+    """What a rule wants that is not met, given as the paths, name and threshold, and who of those whom it asks is missing."""
+    policy, (paths, rule, threshold) = policies.in_force(work), unmet
     wanted, missing = who_is_missing(policy, rule, signed)
-    what = "it" if path is None else f"a change of {plain(path)}"
+    what = f"a change of {first_of(paths)}" if paths else "it"
     said = f"rule {plain(rule)} wants {threshold} of {listing(wanted)} for {what}"
     if key not in policy.publics():
         return f"{said}, and your key is that of none of the policy's persons: one of them records it{first_shown(work.repository, value)}"
     who = ' or '.join(map(plain, missing)) or 'one more'
-    return f"{said}; missing is {who}, who approves it by {approval_of(name, value)}{first_shown(work.repository, value)}"
+    return f"{said}; missing is {who}, who approves it by {approval_of(work.repository, name, value)}{first_shown(work.repository, value)}"
 
 
-def reason_for(work, name, value, fault, key, entry):
-    """The same from a fault of an entry as gittuf-inspect tells both."""
+def first_of(paths):
+    """The first of some paths, and how many there are beside it."""
+    more = "" if len(paths) == 1 else " and of another path" if len(paths) == 2 else f" and of {len(paths) - 1} other paths"
+    return f"{plain(paths[0])}{more}"
+
+
+def reasons_for(work, name, value, faults, key, entry):
+    """The same from the faults of an entry as gittuf-inspect tells both, of a rule once for all paths at which it is not met."""
+    alike = {}
+    for it in faults:
+        alike.setdefault((it["kind"], str(it.get("rule")), it.get("need")), []).append(it)
+    return "; and ".join(reason_for(work, name, value, them, key, entry) for them in alike.values())
+
+
+def reason_for(work, name, value, alike, key, entry):
+    """The same from faults of an entry that are of one rule, or one fault of another kind."""
+    fault = alike[0]
     if fault["kind"] in ("ref-rule", "path-rule"):
-        path, rule = (policies.unescaped(os.fsdecode(inspecting.word_of(fault[it]))) if it in fault else None for it in ("path", "rule"))
-        return of_rule(work, name, value, (path, rule, fault["need"]), key, [*entry["signers"], key])
+        rule, *paths = (policies.unescaped(os.fsdecode(inspecting.word_of(it))) for it in (fault["rule"], *(at["path"] for at in alike if "path" in at)))
+        return of_rule(work, name, value, (paths, rule, fault["need"]), key, [*entry["signers"], key])
     if fault["kind"] == "no-policy":
         return sentences.NO_POLICY
     line = b"violation %s %d %s" % (name, entry["number"], inspecting.fault_in_words(fault))
@@ -122,14 +137,21 @@ def reason_for(work, name, value, fault, key, entry):
 
 def first_shown(repository, value):
     """How others get to see what they are to approve, where no remote has it."""
-    found = of_git(repository)
+    found, value = of_git(repository), commit_of(repository, value)
     if value is None or not found or not repository.are_commits([value]) or fetched(repository, repository.references(), [value]):
         return ""
     return f", once git push {quoted(found[0])} {value.decode()}:refs/heads/idea, say, has shown it"
 
 
-def approval_of(name, value):
+def commit_of(repository, value):
+    """The commit of a tag, which others have or can be shown where a rule keeps the tag from them until it is recorded; else the value."""
+    (row,) = repository.rows([b"%s^{commit}" % value]) if value else [None]
+    return row[0] if row else value
+
+
+def approval_of(repository, name, value):
     """The line by which somebody approves a change."""
+    value = commit_of(repository, value)
     # Who approves may not have it, and a word that is not there is taken for a branch. The front of an id may be the name of a tag there.
     word = quoted(short(name) if name.startswith(HEADS) else os.fsdecode(name))
     return f"git gittuf approve {'--delete ' + word if value is None else f'{word} {value.decode()}'}"
@@ -215,7 +237,7 @@ def expect_told_lawful(work, name, value, key, listed):
         if is_sure(standing, entry["number"], listed, work, name, key):
             # What is wrong with the branch comes before what would be wrong with this entry.
             refuse(work, name, value, standing, entry["number"], key)
-        said = "; and ".join(reason_for(work, name, value, it, key, entry) for it in faults)
+        said = reasons_for(work, name, value, faults, key, entry)
         raise Stopped(f"nothing is recorded, as it would be a violation: {said}; --anyway records it all the same", 3)
     if entry["prior"] is None and not any(rest[0] == name for _, _, kind, rest in listed if kind == b"ref"):
         return True

@@ -3,6 +3,7 @@
 import hashlib
 import os
 
+from git_gittuf import remotes
 from git_gittuf.repository import Stopped
 from git_gittuf.shown import plain
 
@@ -13,12 +14,18 @@ DATABASES = (".db", ".sqlite", ".sqlite3")
 def url_of(repository, word):
     """From where git fetches for a word, which is a remote, or a path or a url; and by what its place is known."""
     base, url, is_remote = os.getcwd(), word, word in repository.remotes()
+    if is_remote and (desk := remotes.port_of(repository, word)):
+        way = f"curl -s http://127.0.0.1:{desk}/v1/stream | gittuf mirror.db - mirror offers what it has to a mirror"
+        raise Stopped(f"{plain(word)} is a desk, from which git does not fetch: {way}", 3)
     if is_remote:
         base = repository.top or repository.git_dir
         url = os.fsdecode(repository.asked("name a remote", "remote", "get-url", word)).rstrip("\n")
     path = os.path.normpath(os.path.join(base, os.path.expanduser(url)))
     if os.path.exists(path):
         url = path
+    elif ":" not in url and is_remote:
+        # As one that cannot be reached, and not as one whose log is none.
+        raise Stopped(f"{plain(word)} does not answer: nothing stands at {plain(path)}")
     elif ":" not in url:
         raise Stopped(f"{plain(word)} is no remote, and nothing stands at {plain(path)}: git remote -v lists the remotes", 3)
     return url, f"remote {word}" if is_remote else f"at {url}"

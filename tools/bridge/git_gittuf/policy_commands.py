@@ -128,7 +128,9 @@ def apply(work, words):
     draft, force = draft_and_force(work)
     bare = [name for name, file in draft.signed_files().items() if not file.signatures]
     if bare:
-        raise Stopped(f"nobody has signed {' and '.join(bare)} yet: git gittuf policy sign", 3)
+        who = dict.fromkeys(person for name in bare for person in draft.role(name).get("persons", []))
+        whose = f" by {' or '.join(map(plain, who))}" if who else ""
+        raise Stopped(f"nobody has signed {' and '.join(bare)} yet: git gittuf policy sign{whose}", 3)
     listing = draft.listing()
     if force.files and force.listing() == listing:
         raise Stopped("what is edited is in force already: git gittuf policy show prints it", 3)

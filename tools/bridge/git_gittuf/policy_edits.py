@@ -73,6 +73,11 @@ def person(work, words):
 def give_keys(says, name, publics):
     """Gives a person these public keys in each file that has the person, and in the one of the rules."""
     them = [policies.key_of(it, hashlib.sha256(bytes.fromhex(it)).hexdigest()) for it in publics]
+    held = {key: it["name"] for file in says.values() for it in file["persons"] if it["name"] != name for key in it["keyids"]}
+    for it in them:
+        if it["keyid"] in held:
+            # Who gives a person another name has both for a while.
+            tell(f"the key {it['keyid'][:12]} is that of {plain(held[it['keyid']])} too, and no policy comes into force in which two persons share one")
     for file, it in says.items():
         if file == "targets" or policies.has_person(it, name):
             policies.add_person(it, name, them)
@@ -93,12 +98,20 @@ def rotate(work, words):
         give_keys(says, words.name, given)
 
     edit(work, change)
-    draft, force = draft_and_force(work)
-    if words.name in force.role("root").get("persons", []):
+    root = draft_and_force(work)[1].role("root")
+    if words.name in root.get("persons", []):
         tell(
             f"{words.name} is of those who sign the policy, and signs this by both keys: git gittuf policy sign with the old one,"
-            " and once git gittuf key --file <the new one> has set it, again with the new one"
+            f" and once git gittuf key --file <the new one> has set it, again with the new one{without(words.name, root)}"
         )
+
+
+def without(name, root):
+    """Who signs a policy where the older key of one of those who do is lost, as far as they are as many as the root asks for."""
+    others = [it for it in root["persons"] if it != name]
+    if len(others) < root["threshold"]:
+        return "; where the old one is lost, too few are left to sign it"
+    return f"; where the old one is lost, it is signed by {root['threshold']} of {', '.join(map(plain, others))}"
 
 
 def remove_person(says, name):

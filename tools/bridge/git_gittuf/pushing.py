@@ -24,6 +24,8 @@ HELD = "another git is at work there, and then git gittuf push tries again; or o
 
 def remote_of(work, words):
     remote = remotes.remote_named(work.repository, words.remote)
+    if not remote and (desk := remotes.desk_alone(work.repository)):
+        raise Stopped(f"there is no remote but a desk: git gittuf push --desk {desk} and git gittuf fetch --desk {desk} talk with it", 3)
     if not remote:
         raise Stopped("there is no remote: git remote add origin <where> && git gittuf setup", 3)
     return remote
@@ -128,6 +130,8 @@ def expect_recorded(work, remote, found):
         if (name, value or ZEROS) in had:
             said = f"{plain(names.short(name))} stands elsewhere than the log has it now: git gittuf verify {word} says more"
         alone = f"git push {quoted(remote)} 'refs/gittuf/*:refs/gittuf/*' carries what else is signed"
+        if syncing.how_log_stands(work, remote) == "apart":
+            alone = f"git gittuf sync --remote {quoted(remote)} records anew what else is signed"
         raise Stopped(f"{said}, and {alone}; --anyway pushes it all the same", 3)
 
 

@@ -83,7 +83,7 @@ def who_lacks(work, name, wanted, key):
             return ""
         if missing and not said:
             wants = f"rule {plain(rule['name'])} wants {rule['threshold']} of {looking.listing(persons)} for the recovery of {plain(names.short(name))}"
-            way = f"{looking.approval_of(name, value)}{first_pushed(work.repository)}"
+            way = f"{looking.approval_of(work.repository, name, value)}{first_pushed(work.repository)}"
             said = f"{wants}; missing is {' or '.join(map(plain, missing))}, who approves it by {way}"
     return said
 

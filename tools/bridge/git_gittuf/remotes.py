@@ -77,6 +77,11 @@ def of_git(repository):
     return [it for it in repository.remotes() if not is_desk(repository, it)]
 
 
+def desk_alone(repository):
+    """The port of a desk that was fetched from, where there is no remote to which Git talks; or nothing."""
+    return None if of_git(repository) else next((port_of(repository, it) for it in repository.remotes()), None)
+
+
 def set_up_desk(repository, remote, port):
     """Makes a remote of a desk, as Git lists it and fetches nothing of it."""
     if repository.config(f"remote.{remote}.{DESK}") == [str(port)]:

@@ -42,7 +42,7 @@ def policy_words(parser):
     it = words.add_parser("rule")
     it.add_argument("name")
     it.add_argument("patterns", nargs="*")
-    it.add_argument("--persons")
+    it.add_argument("--persons", type=persons)
     it.add_argument("--threshold", type=int)
     it.add_argument("--terminating", action="store_true", default=None)
     it.add_argument("--no-terminating", action="store_false", dest="terminating", default=None)
@@ -77,6 +77,14 @@ def key_ids(text):
         if not re.fullmatch("[0-9a-f]{64}", it):
             raise argparse.ArgumentTypeError(f"{it!r} is no id of a key: git gittuf key --id prints one, of 64 digits")
     return ",".join(ids)
+
+
+def persons(text):
+    """The names of persons that a text has, with a comma between each two."""
+    names = [it.strip() for it in text.split(",")]
+    if not all(names):
+        raise argparse.ArgumentTypeError(f"{text!r} lacks a name before or behind a comma")
+    return ",".join(names)
 
 
 def port(text):
