@@ -7,7 +7,7 @@ from git_gittuf import skipping, stores
 from git_gittuf.global_verdicts import GlobalVerdicts
 from git_gittuf.program import Ended
 from git_gittuf.remotes import is_before
-from git_gittuf.repository import ATTESTATIONS, LOG, REMOTES, ZEROS, Stopped
+from git_gittuf.repository import ATTESTATIONS, LOG, ZEROS, Stopped
 from git_gittuf.shown import plain, quoted
 from git_gittuf.telling import say, show, tell
 

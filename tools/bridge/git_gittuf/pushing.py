@@ -4,7 +4,7 @@ import os
 import re
 import sys
 
-from git_gittuf import desk_pushing, following, history, looking, names, remotes, seen, skipping, syncing, verifying
+from git_gittuf import desk_pushing, following, history, names, remotes, seen, skipping, syncing, verifying
 from git_gittuf.hook_calls import ANYWAY
 from git_gittuf.remotes import is_before
 from git_gittuf.repository import ATTESTATIONS, LOG, POLICY, STAGED, TARGETS, ZEROS, Stopped
