@@ -49,18 +49,34 @@ def is_taken_back(repository, entries, entry_id):
     return False
 
 
+def found_of(repository, rows):
+    """What is here of the policies that these entries record, each its id and path, and the targets of those that are not whole here."""
+    targets = [it[2] for it in rows]
+    found = objects_of(repository, targets) if rows else []
+    if found is not None:
+        return found, ()
+    there = {it: objects_of(repository, [it]) for it in targets}
+    return [row for them in there.values() for row in them or ()], {it for it, them in there.items() if them is None}
+
+
 def looked_for(work):
     """The entries whose policy is not here, and that nobody took back, as number, id and target; and what is here of the others."""
     repository = work.repository
     status, printed = work.read("log") if LOG in repository.references() else (0, b"")
     entries = history.entries(printed) if not status else ()
     rows = policies_of(entries)
-    found = objects_of(repository, [it[2] for it in rows]) if rows else []
-    if found is not None:
-        return [], found
-    there = {it[2]: objects_of(repository, [it[2]]) for it in rows}
-    lacking = [it for it in rows if there[it[2]] is None and not is_taken_back(repository, entries, it[1])]
-    return lacking, [row for them in there.values() for row in them or ()]
+    found, away = found_of(repository, rows)
+    return [it for it in rows if it[2] in away and not is_taken_back(repository, entries, it[1])], found
+
+
+def are_kept(work, entries):
+    """Whether the store has what the program reads of the policies that are here, by the entries of a log."""
+    return is_kept(work, found_of(work.repository, policies_of(entries))[0])
+
+
+def is_kept(work, there):
+    """The same by what is here of them."""
+    return all(map(work.kept.is_sound, read_of(work.repository, there)))
 
 
 def lacking(work):
@@ -79,7 +95,7 @@ def expect_none(work):
     if found:
         what, way = sentence(found[0][0], found[0][2])
         raise Stopped(f"{what}, and by the one before nothing is judged: {way}", 3)
-    if not all(map(work.kept.is_sound, read_of(work.repository, there))):
+    if not is_kept(work, there):
         tell("the store lacks a policy, and is made again from Git")
         work.renew()
 
