@@ -4,7 +4,7 @@ import os
 import re
 import sys
 
-from git_gittuf import desk_pushing, following, history, looking, names, remotes, seen, skipping, syncing, verifying
+from git_gittuf import desk_pushing, following, history, looking, names, remotes, seen, skipping, syncing, verifying, withheld
 from git_gittuf.hook_calls import ANYWAY
 from git_gittuf.remotes import is_before
 from git_gittuf.repository import ATTESTATIONS, LOG, POLICY, STAGED, TARGETS, ZEROS, Stopped
@@ -172,7 +172,7 @@ def pushed(work, remote, found, anyway):
 def push(work, words):
     if words.desk is not None:
         return desk_pushing.push(work, words)
-    work.bring()
+    withheld.bring(work)
     remote, anyway = remote_of(work, words), words.anyway
     how = syncing.how_log_stands(work, remote)
     if how in ("broken", "odd") or how in ("back", "dropped") and not anyway:
