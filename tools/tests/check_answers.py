@@ -170,6 +170,20 @@ def judges_nothing_without_git(repositories):
     clones.verdict("alice", f"accepted {MAIN} 2 entries")
 
 
+def records_what_moves_meanwhile(repositories):
+    """a branch that another moves while it is looked at is recorded where it is by then, with what it has there"""
+    clones = another(repositories, "moves meanwhile")
+    clones.gittuf("alice", "verify", "main")
+    first, second = clones.commit("alice"), clones.commit("alice")
+    clones.git("update-ref", MAIN, first, who="alice")
+    listed, used = clones.path("listed"), clones.used("alice")
+    line = f"""case "$*" in *for-each-ref*) if [ -e '{listed}' ]; then '{shutil.which("git")}' -C . update-ref {MAIN} {second} 2>&-; fi; : > '{listed}';; esac"""
+    words = (*beside_git(clones, line), sys.executable, os.path.join(TOP, "tools", "git-gittuf"), "record", "main")
+    want(run(*words, folder=clones.path("alice"))[::2], (0, b""), "the status and the errors of record")
+    want((clones.tip("alice"), clones.used("alice")), (second, used + 1), "where main is, and how many leaves are used")
+    clones.verdict("alice", f"accepted {MAIN} 2 entries")
+
+
 def begins_few(repositories):
     """a record beside its key begins few programs: so many gits, and the program once for each that it asks"""
     clones = another(repositories, "few programs")
@@ -232,6 +246,7 @@ CHECKS = (
     lists_nothing_odd,
     begins_few,
     judges_nothing_without_git,
+    records_what_moves_meanwhile,
     believes_no_damage,
     keeps_what_it_rests_on,
 )

@@ -253,9 +253,26 @@ def takes_one_of_two(repositories):
             clones.gittuf(who, "verify")
 
 
+def judges_by_no_older_policy(repositories):
+    """where the server's store lacks a policy, or has it damaged, it is made again, and the policy before judges nothing"""
+    clones = gated(repositories, "gated and damaged")
+    clones.gittuf("alice", "policy", "rule", "release", "refs/heads/release", "--persons", "alice")
+    clones.sign("alice")
+    clones.gittuf("alice", "policy", "apply")
+    clones.git("push", "--quiet", who="alice")
+    clones.commit("mallory")
+    clones.gittuf("server.git", "verify", "main")
+    place = clones.path(f"server.git/gittuf/kept/objects/{clones.tip('server.git', f'{POLICY}:metadata/targets.json')}")
+    told = "made again from Git git-gittuf: tip-differs refs/heads/release kept"
+    for damage in (os.remove, lambda path: os.truncate(path, os.stat(path).st_size - 1)):
+        damage(place)
+        denied(clones, "mallory", "origin", "main:refs/heads/release", part=told)
+
+
 CHECKS = (
     takes_what_is_lawful,
     refuses_what_is_not,
+    judges_by_no_older_policy,
     leads_out_where_it_stood,
     goes_on_after_a_vain_policy,
     keeps_approvals_recorded,

@@ -4,7 +4,7 @@ import json
 import os
 import re
 
-from checking import want
+from checking import run, want
 from guarded_clones import MAIN, another
 
 LOG, POLICY = "refs/gittuf/reference-state-log", "refs/gittuf/policy"
@@ -116,6 +116,55 @@ def mends_a_damaged_store(repositories):
         want((status, output, b"the store was damaged, and is made again from Git" in errors), (0, accepted, True), f"what is said: {errors}")
 
 
+def other_length(path):
+    """Says another length of what a file of a folder has."""
+    with open(path, "rb") as file:
+        head, _, body = file.read().partition(b"\0")
+    kind, _, length = head.partition(b" ")
+    with open(path, "wb") as file:
+        file.write(b"%s %d\0%s" % (kind, int(length) + 1, body))
+
+
+def other_byte(path):
+    """Makes one byte of a file another."""
+    with open(path, "r+b") as file:
+        file.seek(-5, os.SEEK_END)
+        last = file.read(1)
+        file.seek(-5, os.SEEK_END)
+        file.write(bytes([last[0] ^ 1]))
+
+
+def signs_by_no_older_policy(repositories):
+    """where a clone's store lacks a policy, or has it damaged, it is made again first: nothing is signed or pushed by the one before"""
+    clones = another(repositories, "no older policy")
+    clones.gittuf("alice", "policy", "rule", "main", "--persons", "alice")
+    clones.gittuf("alice", "policy", "rule", "topic", "refs/heads/topic", "--persons", "alice")
+    clones.sign("alice")
+    clones.gittuf("alice", "policy", "apply")
+    clones.git("push", "--quiet", who="alice")
+    clones.git("fetch", "--quiet", who="bob")
+    clones.commit("bob")
+    clones.git("branch", "topic", who="bob")
+    clones.gittuf("bob", "verify", "main", status=1)
+    log, used, targets = clones.tip("bob", LOG), clones.used("bob"), ":metadata/targets.json"
+    place = os.path.join(clones.path("bob"), ".git", "gittuf", "kept", "objects")
+    for path, damage, words in (
+        (targets, os.remove, ("record", "main")),
+        (targets, os.remove, ("skip", "2")),
+        (targets, os.remove, ("push", "topic")),
+        (targets, other_byte, ("record", "main")),
+        ("^{tree}", other_length, ("record", "main")),
+        (":metadata/root.json", other_byte, ("skip", "2")),
+        ("", os.remove, ("skip", "2")),
+        (":metadata", os.remove, ("push", "topic")),
+    ):
+        damage(os.path.join(place, clones.tip("bob", POLICY + path)))
+        status, output, errors = clones.asked("bob", *words)
+        said = b"git-gittuf: the store lacks a policy, and is made again from Git\n" in errors
+        want((status, output, said, clones.used("bob"), clones.tip("bob", LOG)), (3, b"", True, used, log), f"what {words} does then: {errors}")
+        want(run("git", "-C", clones.path("server.git"), "rev-parse", "--verify", "--quiet", "refs/heads/topic")[1], b"", "topic at the server")
+
+
 def is_small(repositories):
     """the store has no more than judging reads: of 100 commits of which one is recorded, that one's state, and no history"""
     clones = another(repositories, "small store")
@@ -163,5 +212,6 @@ CHECKS = (
     makes_a_lost_line_again,
     judges_alike_in_each_clone,
     mends_a_damaged_store,
+    signs_by_no_older_policy,
     is_small,
 )

@@ -3,7 +3,7 @@
 import os
 
 from git_gittuf import consents, copying, following, fronts, gate_sentences, history, keys, leaves, longer_logs, looking, names, remotes, sentences, settings
-from git_gittuf import skipping, stores
+from git_gittuf import skipping, stores, withheld
 from git_gittuf.global_verdicts import GlobalVerdicts
 from git_gittuf.program import Ended
 from git_gittuf.remotes import is_before
@@ -93,8 +93,10 @@ def expect_own(name):
 
 
 def recorded_by(work, name, value, path, anyway=False):
-    """Records where a reference stands, where that is lawful, and returns the program's line."""
+    """Records where a reference stands, which is there still, where that is lawful, and returns the program's line."""
     work.bring(maybe=[value] if value else [])
+    if work.kept.references().get(name) != value:
+        raise Stopped(f"nothing is recorded, as {plain(names.short(name))} was moved meanwhile: run it again", 3)
     return recorded_as_brought(work, name, value, path, anyway)
 
 
@@ -122,13 +124,22 @@ def recorded_as_brought(work, name, value, path, anyway):
     return work.change(steps, kept)
 
 
+def brought(work, name):
+    """Where the store has a reference, with what it has there, also where another moves it meanwhile."""
+    # What it stands at comes with all else, so that the log is read once.
+    withheld.bring(work, maybe=[it for it in [work.repository.references().get(name)] if it])
+    last = None
+    while (value := work.kept.references().get(name)) not in (None, last) and not work.kept.has(value):
+        work.bring(maybe=[value])
+        last = value
+    return value
+
+
 def record(work, words):
     repository = work.repository
     name = names.own_name(repository, words.branch)
     expect_own(name)
-    # What it stands at comes with all else, so that the log is read once.
-    work.bring(maybe=[it for it in [repository.references().get(name)] if it])
-    value = work.kept.references().get(name)
+    value = brought(work, name)
     if value is None and history.last_recorded(looking.entries_of(work), name)[1] is None:
         raise names.no_such(repository, words.branch, history.recorded_names(work))
     path = leaves.signing_key(repository)
@@ -214,7 +225,7 @@ def approve(work, words):
     if words.delete and words.commit:
         raise Stopped("--delete approves that a branch goes, and takes no commit", 2)
     target = ZEROS if words.delete else commit_named(repository, words.commit or branch_here(repository, words.branch, name))
-    work.bring([] if words.delete else [target])
+    withheld.bring(work, [] if words.delete else [target])
     path = leaves.signing_key(repository)
     expect_one_log(work, words.anyway)
     if not words.anyway:
@@ -256,7 +267,7 @@ def entry_ids(work, words):
 
 
 def annotate(work, words):
-    work.bring()
+    withheld.bring(work)
     path = leaves.signing_key(work.repository)
     ids = entry_ids(work, words.entries)
     if words.word == "skip" and not words.anyway:

@@ -7,7 +7,7 @@ protects it or the log speaks of it. The program judges, over the store as it wo
 import contextlib
 import os
 
-from git_gittuf import asking, damage, epochs, following, fronts, gate_sentences, history, looking, settings, skipping, verifying
+from git_gittuf import asking, damage, epochs, following, fronts, gate_sentences, history, looking, settings, skipping, verifying, withheld
 from git_gittuf.program import Ended
 from git_gittuf.remotes import is_before
 from git_gittuf.repository import ATTESTATIONS, LOG, OWN, POLICY, TARGETS, ZEROS, Stopped
@@ -238,7 +238,8 @@ def is_known_lawful(front, name, value):
     return name.startswith(OWN) and name not in (POLICY, ATTESTATIONS) and is_reference_name(name)
 
 
-def judged(work, push):
+def judged(work, push, is_new=False):
+    """The same by the whole log, over a store that was made again just now, or else may lack a policy: an older one would judge then."""
     said = of_log(work, push) or of_folders(work, push)
     if said:
         return [(None, said)]
@@ -247,6 +248,8 @@ def judged(work, push):
     with work.pushed(push.after()):
         start = fronts.seconds_used()
         gate = Gate(work, push)
+        if not is_new and not withheld.are_kept(work, gate.entries):
+            raise Damaged
         found = gate.refusals()
         if not found:
             fronts.keep(work, gate.entries, gate.accepted, fronts.seconds_used() - start)
@@ -265,7 +268,7 @@ def refusals(work, push):
     except Damaged:
         tell(DAMAGED)
         work.renew()
-        return judged(work, push)
+        return judged(work, push, is_new=True)
 
 
 def expect_none(work, push):

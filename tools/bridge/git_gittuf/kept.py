@@ -181,7 +181,9 @@ class Kept:
                 head, _, body = file.read().partition(b"\0")
         except FileNotFoundError:
             return None
-        return head.split(b" ")[0], body
+        kind = head.split(b" ")[0]
+        # The program takes no other length.
+        return kind if head == b"%s %d" % (kind, len(body)) else b"", body
 
     def write(self, path, text):
         beside = os.path.join(self.beside, "new")

@@ -4,7 +4,7 @@ import os
 import re
 import sys
 
-from git_gittuf import desk_pushing, following, history, names, remotes, seen, skipping, syncing, verifying
+from git_gittuf import desk_pushing, following, history, names, remotes, seen, skipping, syncing, verifying, withheld
 from git_gittuf.hook_calls import ANYWAY
 from git_gittuf.remotes import is_before
 from git_gittuf.repository import ATTESTATIONS, LOG, POLICY, STAGED, TARGETS, ZEROS, Stopped
@@ -180,7 +180,7 @@ def push(work, words):
         return desk_pushing.push(work, words)
     remote, anyway = remote_of(work, words), words.anyway
     work.mended = syncing.to_mend(remote)
-    work.bring()
+    withheld.bring(work)
     how = syncing.how_log_stands(work, remote)
     if how in ("broken", "odd") or how in ("back", "dropped") and not anyway:
         raise Stopped(f"the log of {plain(remote)} does not fit, and nothing is pushed: git gittuf doctor says more", 3)

@@ -2,7 +2,7 @@
 
 import os
 
-from git_gittuf import commands, consents, history, inspecting, leaves, looking, names, policies, settings, signers, skipping
+from git_gittuf import commands, consents, history, inspecting, leaves, looking, names, policies, settings, signers, skipping, withheld
 from git_gittuf.remotes import beside, of_git
 from git_gittuf.repository import LOG, ZEROS, Stopped
 from git_gittuf.shown import plain, quoted
@@ -89,7 +89,7 @@ def who_lacks(work, name, wanted, key):
 
 
 def recover(work, words):
-    work.bring()
+    withheld.bring(work)
     repository, name = work.repository, names.own_name(work.repository, words.branch)
     shown = plain(names.short(name))
     number, fault, line = violation_of(work, name)

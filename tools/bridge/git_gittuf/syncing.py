@@ -3,7 +3,7 @@
 import os
 import re
 
-from git_gittuf import checked, commands, following, forms, history, keys, leaves, looking, names, policies, seen, signers, skipping
+from git_gittuf import checked, commands, following, forms, history, keys, leaves, looking, names, policies, seen, signers, skipping, withheld
 from git_gittuf.program import Ended
 from git_gittuf.remotes import beside, is_before
 from git_gittuf.repository import ATTESTATIONS, LOG, POLICY, STAGED, ZEROS, Stopped
@@ -165,7 +165,7 @@ def take_theirs(work, remote, anyway):
     work.move(moves)
     seen.forget(repository, remote)
     work.unfit = None
-    work.bring()
+    withheld.bring(work)
     mine = [it for it in lost if by.get(it[1]) == key]
     return Anew(work, mine, path, targets_at(work, None if status else base.strip())).all()
 

@@ -7,10 +7,14 @@ into the log may name what never was.
 """
 
 from git_gittuf import epochs, history, policies, signers
-from git_gittuf.repository import LOG, POLICY, ZEROS, Stopped
+from git_gittuf.repository import LOG, POLICY, TREE_ENTRY, ZEROS, Stopped
 from git_gittuf.telling import tell
 from packs import EMPTY_TREE
 from stream_format import MAX_BODY
+
+LACKS = "the store lacks a policy, and is made again from Git"
+# The folders of a policy, and the mode of one in a tree.
+FOLDERS, FOLDER = (b"metadata", b"global"), b"40000"
 
 
 def objects_of(repository, targets):
@@ -49,18 +53,63 @@ def is_taken_back(repository, entries, entry_id):
     return False
 
 
+def found_of(repository, rows):
+    """What is here of the policies that these entries record, each its id and path, and the targets of those that are not whole here."""
+    targets = [it[2] for it in rows]
+    found = objects_of(repository, targets) if rows else []
+    if found is not None:
+        return found, ()
+    there = {it: objects_of(repository, [it]) for it in targets}
+    return [row for them in there.values() for row in them or ()], {it for it, them in there.items() if them is None}
+
+
+def listed(work):
+    """The entries of the log, or none where it is none."""
+    status, printed = work.read("log") if LOG in work.repository.references() else (0, b"")
+    return history.entries(printed) if not status else ()
+
+
 def looked_for(work):
     """The entries whose policy is not here, and that nobody took back, as number, id and target; and what is here of the others."""
-    repository = work.repository
-    status, printed = work.read("log") if LOG in repository.references() else (0, b"")
-    entries = history.entries(printed) if not status else ()
+    repository, entries = work.repository, listed(work)
     rows = policies_of(entries)
-    found = objects_of(repository, [it[2] for it in rows]) if rows else []
-    if found is not None:
-        return [], found
-    there = {it[2]: objects_of(repository, [it[2]]) for it in rows}
-    lacking = [it for it in rows if there[it[2]] is None and not is_taken_back(repository, entries, it[1])]
-    return lacking, [row for them in there.values() for row in them or ()]
+    found, away = found_of(repository, rows)
+    return [it for it in rows if it[2] in away and not is_taken_back(repository, entries, it[1])], found
+
+
+def are_kept(work, entries):
+    """Whether the store has what the program reads of the policies that are here, by the entries of a log."""
+    rows = policies_of(entries)
+    return is_whole(work.kept, {it[2] for it in rows}) or is_kept(work, found_of(work.repository, rows)[0])
+
+
+def tree_in(kept, object_id):
+    """The entries of a tree of the store, each as mode, name and id."""
+    kind, body = kept.read(object_id)
+    return [(it[1], it[2], it[3].hex().encode()) for it in TREE_ENTRY.finditer(body)] if kind == b"tree" else []
+
+
+def is_whole(kept, targets):
+    """Whether the store has all that these commits have of policies, by itself, so that Git need not be asked what that is."""
+    try:
+        commits = [kept.read(it) for it in targets]
+        tops = {body[5:69] for kind, body in commits if kind == b"commit"}
+        folders = {it for top in tops for _, name, it in tree_in(kept, top) if name in FOLDERS}
+        trees, files = set(), set()
+        while folders:
+            folder = folders.pop()
+            trees.add(folder)
+            rows = tree_in(kept, folder)
+            folders |= {it for mode, _, it in rows if mode == FOLDER} - trees
+            files |= {it for mode, name, it in rows if mode != FOLDER and name.endswith(b".json")}
+        return all(kind == b"commit" for kind, _ in commits) and all(map(kept.is_sound, files))
+    except (Stopped, OSError):
+        return False
+
+
+def is_kept(work, there):
+    """The same by what is here of them."""
+    return all(map(work.kept.is_sound, read_of(work.repository, there)))
 
 
 def lacking(work):
@@ -79,15 +128,26 @@ def expect_none(work):
     if found:
         what, way = sentence(found[0][0], found[0][2])
         raise Stopped(f"{what}, and by the one before nothing is judged: {way}", 3)
-    if not all(map(work.kept.is_sound, read_of(work.repository, there))):
-        tell("the store lacks a policy, and is made again from Git")
+    if not is_kept(work, there):
+        tell(LACKS)
         work.renew()
+
+
+def bring(work, extra=(), maybe=()):
+    """Makes the store what Git is, and anew where it lacks a policy: what is signed and pushed is judged over it."""
+    count = work.bring(extra, maybe)
+    if are_kept(work, listed(work)):
+        return count
+    tell(LACKS)
+    work.renew()
+    return work.bring(extra, maybe)
 
 
 def read_of(repository, there):
     """The ids of what the program reads of these objects of policies, as far as a store takes it."""
-    files = {it for it, path in there if path.startswith(b"metadata/") and path.endswith(b".json")}
-    ids = files | {it for it, path in there if path in (b"", b"metadata")}
+    fronts = tuple(it + b"/" for it in FOLDERS)
+    files = {it for it, path in there if path.startswith(fronts) and path.endswith(b".json")}
+    ids = files | {it for it, path in there if path in (b"", *FOLDERS) or path.startswith(fronts)}
     rows = filter(None, repository.rows(sorted(ids - {EMPTY_TREE})))
     most = {b"commit": MAX_BODY, b"tree": MAX_BODY, b"blob": epochs.MAX_FILE}
     return [it for it, kind, size in rows if int(size) <= most.get(kind, -1) and (kind != b"blob" or it in files)]
