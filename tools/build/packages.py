@@ -129,7 +129,7 @@ def files_of(programs, about):
     }
     for name, body in programs.items():
         found[f"{FRONT}/{name}"] = (body, 0o755)
-    for it in TOOLS:
+    for it in (*TOOLS, *([INSPECT] if has_inspect else [])):
         found[f"{FRONT}/tools/{it}"] = (text_of("tools", it), 0o755)
     for folder in ("bridge", "bridge/git_gittuf"):
         for it in sorted(os.listdir(os.path.join(TOP, "tools", folder))):
@@ -200,7 +200,7 @@ def packages_of(programs, number, commit, kit, changed=""):
     cpus = " and ".join(it.removeprefix("gittuf-") for it in sorted(programs) if it.startswith("gittuf-") and not it.startswith(INSPECT))
     says = f"built for {cpus} by {kit}"
     files = files_of(programs, f"{number}; commit {commit}{changed}, {says}")
-    linked = {**LINKS, **({INSPECT: INSPECT} if INSPECT in programs else {})}
+    linked = {**LINKS, **({INSPECT: f"tools/{INSPECT}"} if INSPECT in programs else {})}
     links = {f"bin/{name}": f"../{FRONT}/{it}" for name, it in linked.items()}
     seconds = int(asked("log", "-1", "--format=%ct", commit))
     return {

@@ -1,5 +1,6 @@
 """The checks of tools/test on the package, the manual pages and the completion."""
 
+import json
 import os
 import re
 import shutil
@@ -79,6 +80,10 @@ def runs_where_it_is_installed(repositories):
         version = answer(f"{place}/bin/gittuf", "--version")
         if commit not in version or not re.search(r"rattle-kit-\w+ logic [0-9a-f]+$", version):
             raise Failure(f"--version says {version!r}")
+        if os.path.lexists(inspect := f"{place}/bin/gittuf-inspect"):
+            want(answer(inspect, "--version"), version, "what gittuf-inspect says of itself")
+            want(answer(inspect, "--help").splitlines()[0], "usage: gittuf-inspect STORE WORD ..", "the first line of its help")
+            want(json.loads(answer(inspect, "-", "verdicts", MAIN))["verdict"], "accepted", "what it tells of an empty store")
         answer("git", "gittuf", "setup")
         answer("git", "gittuf", "key", *SMALL)
         answer("git", "gittuf", "record", "main", "--anyway")
