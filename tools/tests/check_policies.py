@@ -139,6 +139,7 @@ def signs_by_no_older_policy(repositories):
     clones = another(repositories, "no older policy")
     clones.gittuf("alice", "policy", "rule", "main", "--persons", "alice")
     clones.gittuf("alice", "policy", "rule", "topic", "refs/heads/topic", "--persons", "alice")
+    clones.gittuf("alice", "policy", "global", "threshold", "one", "1", "refs/heads/other")
     clones.sign("alice")
     clones.gittuf("alice", "policy", "apply")
     clones.git("push", "--quiet", who="alice")
@@ -157,6 +158,7 @@ def signs_by_no_older_policy(repositories):
         (":metadata/root.json", other_byte, ("skip", "2")),
         ("", os.remove, ("skip", "2")),
         (":metadata", os.remove, ("push", "topic")),
+        (":global/rules.json", os.remove, ("record", "main")),
     ):
         damage(os.path.join(place, clones.tip("bob", POLICY + path)))
         status, output, errors = clones.asked("bob", *words)
