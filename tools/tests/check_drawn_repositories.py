@@ -9,8 +9,8 @@ from drawn_repositories import NAMES, Drawn
 from made_folders import IMPORTED
 from rows_histories import POLICY
 
-# So many are drawn in the shorter run, and in the longer one.
-REPOSITORIES, MORE_REPOSITORIES = 40, 2_000
+# The first seed, and how many are drawn in the shorter run, and in the longer one.
+FIRST, REPOSITORIES, MORE_REPOSITORIES = 110, 40, 2_000
 
 
 def word_of(line):
@@ -55,7 +55,7 @@ def drawn_repositories_are_judged(repositories):
     """drawn repositories get the verdicts of a slow reading in Python, by their policies and by their global rules"""
     folder, words = repositories.path("drawn repositories"), Counter()
     os.makedirs(folder)
-    for seed in range(in_this_run(REPOSITORIES, MORE_REPOSITORIES)):
+    for seed in range(FIRST, FIRST + in_this_run(REPOSITORIES, MORE_REPOSITORIES)):
         words.update(word_of(it) for it in hold_drawn(folder, seed))
     seen = {"accepted", "tip-differs", "ref-rule", "path-rule", "no-policy", "global-kept", "threshold", "rewound", "log-broken"}
     want(seen - set(words), set(), "what no drawn repository came to")
