@@ -37,7 +37,7 @@ def keeps_hooks_of_others(repositories):
         want(clones.gittuf(who, "hook", "--remove").decode(), said, "what is said once they are taken away")
         want(os.listdir(place), [name], "what stands there once it is taken away")
         clones.refused(who, "hook", "--remove", status=3, part="no hook of git gittuf is in")
-    want(b"there is no remote" in clones.gittuf("server.git", "doctor", status=1), False, "whether a server is told to have a remote")
+    want(clones.gittuf("server.git", "doctor"), b"all is well\n", "whether a server is told to have a remote or a key")
     clones.refused("server.git", "hook", "install", status=2, part="git gittuf hook install --server guards what it takes")
     clones.git("config", "core.hooksPath", clones.folder, who="alice")
     clones.refused("alice", "hook", "install", status=3, part="which other repositories may share: git config core.hooksPath")
