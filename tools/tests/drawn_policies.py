@@ -70,7 +70,7 @@ def with_files(draw, root, versions, old):
             holders |= {rule.name: (said.people, rule.who) for rule in said.rules}
     if draw.below(24) == 0:
         found.pop("targets", None)
-    return tuple(found.items())
+    return tuple(sorted(found.items(), key=lambda it: (it[0] != "targets", it[0])))
 
 
 def drawn_guards(draw, root):
