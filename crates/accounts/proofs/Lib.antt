@@ -1,6 +1,7 @@
 mod Rowed
 mod Signed
 mod Taking
+mod LaterTaking
 mod Changing
 mod Walked
 mod Lines

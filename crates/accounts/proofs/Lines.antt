@@ -1,5 +1,5 @@
 -- The line of an entry that was read again.
-use Rattle.std.proofs.Common.{◌≡◌, ◌-◌, ℕ, suc, zero, List, [], ◌∷◌, Some, None, sym, ap, subst, ◌∙◌}
+use Rattle.std.proofs.Common.{◌≡◌, ◌-◌, ℕ, Option, suc, zero, List, [], ◌∷◌, Some, None, sym, ap, subst, ◌∙◌}
 use Rattle.std.specs.List.{AllByRecursion, slice_get}
 use Rattle.git_object.specs.Repository.{Repository}
 use Rattle.rsl_chain.specs.Entries.{Taken}
@@ -24,30 +24,37 @@ at_index P [] k x all is = absurd (cc is)
 at_index P (y ∷ ys) zero x all is = let same : y ≡ x = cc is in subst P same all.0
 at_index P (y ∷ ys) (suc k) x all is = at_index P ys k x all.1 is
 
-module _ (r : Repository) (judged : JudgedLog) (is : IsJudgedLog judged.engine.rules.anchor r judged) (number : ℕ) (row : EntryRow) (at : slice_get judged.rows (number - 1) ≡ Some row) where
-  row_is : (t : Taken) × (logs.entry_at is.log number ≡ Some t) × (row ≡ row_of judged.engine.rules.anchor (logs.before is.log number) t) × (entry_at r row.id ≡ Some t.entry)
-  row_is =
-      let there = row_there judged.engine.rules.anchor is.log (number - 1) row (ap (λ (rows : List EntryRow). slice_get rows (number - 1)) (sym is.stands.rows) ∙ at) in
-      let id : row.id ≡ there.0.entry.id = ap (λ (x : EntryRow). x.id) there.2 in
-      (there.0, there.1, there.2, ap (entry_at r) id ∙ at_index (IsOwn r) is.log (number - 1) there.0 is.own there.1)
+-- what is known of the entry of a number
+abbrev pub IsKnownAt : Option (List (List ℕ)) → List Taken → ℕ → EntryRow → Type 0
+IsKnownAt anchor log number row = (t : Taken) × (logs.entry_at log number ≡ Some t) × (row ≡ row_of anchor (logs.before log number) t)
 
-  pub is_line : (entry : Entry) (later : Later) (text : List ℕ) → entry_at r row.id ≡ Some entry → later ≡ later_of judged.engine.rules.anchor is.log number
-      → text ≡ entry_line entry row later → IsLine judged.engine.rules.anchor is.log number text
-  is_line entry later text read known made =
-      let there = row_is in
-      let both : Some entry ≡ Some there.0.entry = sym read ∙ there.3 in
-      let same : entry ≡ there.0.entry = cc both in
+pub known_at : (r : Repository) (judged : JudgedLog) (is : IsJudgedLog judged.engine.rules.anchor r judged) (number : ℕ) (row : EntryRow)
+    → slice_get judged.rows (number - 1) ≡ Some row → IsKnownAt judged.engine.rules.anchor is.log number row
+known_at r judged is number row at =
+    row_there judged.engine.rules.anchor is.log (number - 1) row (ap (λ (rows : List EntryRow). slice_get rows (number - 1)) (sym is.stands.rows) ∙ at)
+
+module _ (r : Repository) (anchor : Option (List (List ℕ))) (log : List Taken) (own : AllByRecursion (IsOwn r) log) (number : ℕ) (row : EntryRow)
+    (known : IsKnownAt anchor log number row) where
+  read_is : entry_at r row.id ≡ Some known.0.entry
+  read_is =
+      let id : row.id ≡ known.0.entry.id = ap (λ (x : EntryRow). x.id) known.2 in
+      ap (entry_at r) id ∙ at_index (IsOwn r) log (number - 1) known.0 own known.1
+
+  pub is_line : (entry : Entry) (later : Later) (text : List ℕ) → entry_at r row.id ≡ Some entry → later ≡ later_of anchor log number
+      → text ≡ entry_line entry row later → IsLine anchor log number text
+  is_line entry later text read told made =
+      let both : Some entry ≡ Some known.0.entry = sym read ∙ read_is in
+      let same : entry ≡ known.0.entry = cc both in
       record {
-        t = there.0;
-        there = there.1;
-        is = made ∙ ap (λ (e : Entry). entry_line e row later) same ∙ ap (λ (x : EntryRow). entry_line there.0.entry x later) there.2
-            ∙ ap (entry_line there.0.entry (row_of judged.engine.rules.anchor (logs.before is.log number) there.0)) known;
+        t = known.0;
+        there = known.1;
+        is = made ∙ ap (λ (e : Entry). entry_line e row later) same ∙ ap (λ (x : EntryRow). entry_line known.0.entry x later) known.2
+            ∙ ap (entry_line known.0.entry (row_of anchor (logs.before log number) known.0)) told;
       }
 
   pub no_break : (fault : LogFault) → IsNoEntryAs r row.id fault → IsUnbroken fault
   no_break (Broken id) none =
-      let there = row_is in
-      let clash : Some there.0.entry ≡ None = sym there.3 ∙ none in
+      let clash : Some known.0.entry ≡ None = sym read_is ∙ none in
       absurd (cc clash)
   no_break Failed none = tt
   no_break Memory none = tt

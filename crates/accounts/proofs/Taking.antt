@@ -6,7 +6,8 @@ use Rattle.git_object.specs.References.{policy_name}
 use Rattle.rsl_chain.specs.Entries.{Taken, is_of, target_of}
 use Rattle.rsl_chain.specs.declared.entries.EntryBody.{EntryBody}
 use Rattle.rsl_chain.specs.declared.entries.EntryBody.TheVariants.{Reference, Annotation}
-use Rattle.judging.specs.Engines.{taken}
+use Rattle.judging.specs.Engines.{Stands, taken}
+use Rattle.judging.specs.declared.engine.Engine as judging
 use Rattle.judging.specs.Logs.{attested_after, body_signers, fault_of, from, last_signers, opened, ordinary_signers, policy_after, signers_of}
 use Rattle.judging.specs.Rules.{Rules}
 use Rattle.judging.specs.Verdicts.{body_verdict, verdict_of}
@@ -34,11 +35,14 @@ authorised_is (Reference name target) None = refl
 authorised_is (Reference name target) (Some fault) = refl
 authorised_is (Annotation ids skip message) fault = refl
 
-pub taken_long : (log : List Taken) (engine : Engine) → Follows log engine → taken engine.entries ≡ length log
-taken_long log engine follows =
+pub all_taken : (rules : Rules Policy Fault) (log : List Taken) (entries : judging.Engine Policy Fault) → Stands rules log entries → taken entries ≡ length log
+all_taken rules log entries stands =
     let targets : Taken → List ℕ = λ t. target_of t.entry.body in
     let many : length (map targets log) ≡ length log = length-map log targets in
-    ap length follows.targets ∙ many
+    ap length stands.targets ∙ many
+
+pub taken_long : (log : List Taken) (engine : Engine) → Follows log engine → taken engine.entries ≡ length log
+taken_long log engine follows = all_taken (real_rules engine.rules.anchor) log engine.entries follows
 
 -- an entry of the policy's reference changes the policy, and no keys count for it
 no_persons : (b : Bool) (was now : Option Policy) (keys : List (List ℕ)) → persons_of (cond b now was) (cond b [] keys) ≡ persons_of was (cond b [] keys)
@@ -51,6 +55,50 @@ same_persons : (rules : Rules Policy Fault) (log : List Taken) (t : Taken) (body
 same_persons rules log t (Reference name target) signer was now =
     no_persons (bytes_eq name policy_name) was now (ordinary_signers rules (policy_after rules log) t (from rules log name) (attested_after log))
 same_persons rules log t (Annotation ids skip message) signer was now = refl
+
+-- what is known of an entry, field by field
+pub record IsRowFound (anchor : Option (List (List ℕ))) (log : List Taken) (t : Taken) (row : EntryRow) : Type 0 where
+  pub id : row.id ≡ t.entry.id
+  pub epoch : row.epoch ≡ epoch_of (real_rules anchor) log
+  pub prior : row.prior ≡ prior_of (real_rules anchor) log t.entry.body
+  pub from : row.from ≡ from_of (real_rules anchor) log t.entry.body
+  pub signed : row.signed ≡ is_some (signer_in (policy_after (real_rules anchor) log) t.entry)
+  pub signers : row.signers ≡ signers_of (real_rules anchor) log t
+  pub persons : row.persons ≡ persons_of (policy_after (real_rules anchor) (log ++ t ∷ []))
+      (counted_by t.entry.body (signer_in (policy_after (real_rules anchor) log) t.entry) row.signers)
+  pub verdict : row.verdict ≡ verdict_of (real_rules anchor) log t
+  pub changed : row.changed ≡ changed_of (real_rules anchor) log t
+
+pub row_found : (anchor : Option (List (List ℕ))) (log : List Taken) (t : Taken) (row : EntryRow) → IsRowFound anchor log t row → row ≡ row_of anchor log t
+row_found anchor log t row found =
+    let rules = real_rules anchor in
+    let signer = signer_in (policy_after rules log) t.entry in
+    let persons : row.persons ≡ persons_of (policy_after rules log) (counted_by t.entry.body signer (signers_of rules log t)) =
+    found.persons
+    ∙ ap (λ (ks : List (List ℕ)). persons_of (policy_after rules (log ++ t ∷ [])) (counted_by t.entry.body signer ks)) found.signers
+    ∙ ap (λ (p : Option Policy). persons_of p (counted_by t.entry.body signer (signers_of rules log t))) (policy_push rules log t)
+    ∙ same_persons rules log t t.entry.body signer (policy_after rules log)
+    (opened rules (policy_after rules log) (rules.epoch t.repository (policy_after rules log) t.entry)) in
+    λ i. record {
+      id = found.id i;
+      epoch = found.epoch i;
+      prior = found.prior i;
+      from = found.from i;
+      signed = found.signed i;
+      signers = found.signers i;
+      persons = persons i;
+      verdict = found.verdict i;
+      changed = found.changed i;
+    }
+
+-- the last entry that brought a policy into force, with one entry more
+pub epoch_found : (rules : Rules Policy Fault) (log : List Taken) (t : Taken) (was now : Option ℕ) (number : ℕ) (opens : Bool) → number ≡ suc (length log)
+    → was ≡ epoch_of rules log → opens ≡ (is_of t.entry.body policy_name && is_none (fault_of rules log (Some t))) → now ≡ cond opens (Some number) was → now ≡ epoch_of rules (log ++ t ∷ [])
+epoch_found rules log t was now number opens number_is was_is opens_is is =
+    is ∙ ap (λ (b : Bool). cond b (Some number) was) opens_is
+    ∙ ap (λ (n : ℕ). cond (is_of t.entry.body policy_name && is_none (fault_of rules log (Some t))) (Some n) was) number_is
+    ∙ ap (λ (e : Option ℕ). cond (is_of t.entry.body policy_name && is_none (fault_of rules log (Some t))) (Some (suc (length log))) e) was_is
+    ∙ sym (epoch_more rules log t)
 
 -- what was found of an entry before it was taken, and what was answered then
 pub record IsFound (log : List Taken) (t : Taken) (was now : JudgedLog) (row : EntryRow) : Type 0 where
@@ -85,34 +133,19 @@ module _ (log : List Taken) (t : Taken) (was now : JudgedLog) (row : EntryRow) (
   row_is : row ≡ row_of now.engine.rules.anchor log t
   row_is =
       let rules = real_rules now.engine.rules.anchor in
-      let epoch : row.epoch ≡ epoch_of rules log = found.epoch ∙ epoch_was in
-      let prior : row.prior ≡ prior_of rules log t.entry.body = found.prior ∙ ap (λ (a : Option (List (List ℕ))). prior_of (real_rules a) log t.entry.body) same in
-      let from : row.from ≡ from_of rules log t.entry.body = found.from ∙ ap (λ (a : Option (List (List ℕ))). from_of (real_rules a) log t.entry.body) same in
-      let signed : row.signed ≡ is_some (signer_in (policy_after rules log) t.entry) =
-      found.signed ∙ ap (λ (a : Option (List (List ℕ))). is_some (signer_in (policy_after (real_rules a) log) t.entry)) same in
-      let signers : row.signers ≡ signers_of rules log t = found.signers ∙ signers_push rules log t in
-      let verdict : row.verdict ≡ verdict_of rules log t = found.takes.answer in
-      let changed : row.changed ≡ changed_of rules log t = found.changed ∙ ap (λ (a : Option (List (List ℕ))). changed_of (real_rules a) log t) same in
-      let signer = signer_in (policy_after rules log) t.entry in
-      let persons : row.persons ≡ persons_of (policy_after rules log) (counted_by t.entry.body signer (signers_of rules log t)) =
-      found.persons
-      ∙ ap (λ (a : Option (List (List ℕ))). persons_of (policy_after rules (log ++ t ∷ []))
-      (counted_by t.entry.body (signer_in (policy_after (real_rules a) log) t.entry) row.signers)) same
-      ∙ ap (λ (ks : List (List ℕ)). persons_of (policy_after rules (log ++ t ∷ [])) (counted_by t.entry.body signer ks)) signers
-      ∙ ap (λ (p : Option Policy). persons_of p (counted_by t.entry.body signer (signers_of rules log t))) (policy_push rules log t)
-      ∙ same_persons rules log t t.entry.body signer (policy_after rules log)
-      (opened rules (policy_after rules log) (rules.epoch t.repository (policy_after rules log) t.entry)) in
-      λ i. record {
-        id = found.id i;
-        epoch = epoch i;
-        prior = prior i;
-        from = from i;
-        signed = signed i;
-        signers = signers i;
-        persons = persons i;
-        verdict = verdict i;
-        changed = changed i;
-      }
+      row_found now.engine.rules.anchor log t row (record {
+        id = found.id;
+        epoch = found.epoch ∙ epoch_was;
+        prior = found.prior ∙ ap (λ (a : Option (List (List ℕ))). prior_of (real_rules a) log t.entry.body) same;
+        from = found.from ∙ ap (λ (a : Option (List (List ℕ))). from_of (real_rules a) log t.entry.body) same;
+        signed = found.signed ∙ ap (λ (a : Option (List (List ℕ))). is_some (signer_in (policy_after (real_rules a) log) t.entry)) same;
+        signers = found.signers ∙ signers_push rules log t;
+        persons = found.persons
+            ∙ ap (λ (a : Option (List (List ℕ))). persons_of (policy_after rules (log ++ t ∷ []))
+            (counted_by t.entry.body (signer_in (policy_after (real_rules a) log) t.entry) row.signers)) same;
+        verdict = found.takes.answer;
+        changed = found.changed ∙ ap (λ (a : Option (List (List ℕ))). changed_of (real_rules a) log t) same;
+      })
 
   epoch_is : now.epoch ≡ epoch_of (real_rules now.engine.rules.anchor) (log ++ t ∷ [])
   epoch_is =
@@ -120,12 +153,8 @@ module _ (log : List Taken) (t : Taken) (was now : JudgedLog) (row : EntryRow) (
       let long = taken_long log was.engine stands.follows in
       let before = found.number in
       let number : t.entry.number ≡ suc (length log) = omega arith in
-      found.opened
-      ∙ ap (λ (v : EntryVerdict Fault). cond (is_of t.entry.body policy_name && is_authorised v) (Some t.entry.number) was.epoch) found.takes.answer
-      ∙ ap (λ (b : Bool). cond b (Some t.entry.number) was.epoch) (authorised_is t.entry.body (fault_of rules log (Some t)))
-      ∙ ap (λ (n : ℕ). cond (is_of t.entry.body policy_name && is_none (fault_of rules log (Some t))) (Some n) was.epoch) number
-      ∙ ap (λ (e : Option ℕ). cond (is_of t.entry.body policy_name && is_none (fault_of rules log (Some t))) (Some (suc (length log))) e) epoch_was
-      ∙ sym (epoch_more rules log t)
+      epoch_found rules log t was.epoch now.epoch t.entry.number (is_of t.entry.body policy_name && is_authorised row.verdict) number epoch_was
+      (ap (λ (v : EntryVerdict Fault). is_of t.entry.body policy_name && is_authorised v) found.takes.answer ∙ authorised_is t.entry.body (fault_of rules log (Some t))) found.opened
 
   pub stands_more : StandsFor (log ++ t ∷ []) now
   stands_more = record {

@@ -18,15 +18,14 @@ use Rattle.policy_epochs.specs.declared.policies.Policy.{Policy}
 use Rattle.entry_rules.specs.declared.faults.Fault.{Fault}
 use Rattle.verify_ref.specs.Logs.{AreEntries, IsAstray, taken_at}
 use Rattle.verify_ref.proofs.Walking.{entries_more, one_more, unbroken}
-use Rattle.accounts.specs.Judging.{IsOwn, JudgesNext, StandsFor}
-use Rattle.accounts.specs.declared.judged_log.JudgedLog.{JudgedLog}
+use Rattle.accounts.specs.Judging.{IsOwn, JudgesNext}
 
 all_push : {X : Type 0} (P : X → Type 0) (xs : List X) (x : X) → AllByRecursion P xs → P x → AllByRecursion P (xs ++ x ∷ [])
 all_push P [] x all p = (p, tt)
 all_push P (y ∷ ys) x all p = (all.0, all_push P ys x all.1 p)
 
-pub judged_next : (r : Repository) (ids : List (List ℕ)) (i : ℕ) (id : List ℕ) → i < length ids → id ≡ get_or ids i id → (log : List Taken) (was now : JudgedLog) → AreEntries r (take i ids) log → AllByRecursion (IsOwn r) log → StandsFor log was
-    → JudgesNext r id was now → (more : List Taken) × AreEntries r (take (i + 1) ids) more × AllByRecursion (IsOwn r) more × StandsFor more now
+pub judged_next : (r : Repository) (ids : List (List ℕ)) (i : ℕ) (id : List ℕ) → i < length ids → id ≡ get_or ids i id → (log : List Taken) (was now : List Taken → Type 0) → AreEntries r (take i ids) log → AllByRecursion (IsOwn r) log → was log
+    → JudgesNext r id was now → (more : List Taken) × AreEntries r (take (i + 1) ids) more × AllByRecursion (IsOwn r) more × now more
 judged_next r ids i id below at log was now are own stands step =
     let t : Taken = record { entry = step.entry; repository = r } in
     let there : taken_at r id ≡ Some t = ap (option_map (λ (entry : Entry). record { entry = entry; repository = r })) step.there in

@@ -23,13 +23,12 @@ pub record StandsFor (log : List Taken) (judged : JudgedLog) : Type 0 where
   pub rows : judged.rows ≡ rows_of judged.engine.rules.anchor log
   pub later : Knows (real_rules judged.engine.rules.anchor) log judged.later
 
--- the entry at the id is judged, as the next
-pub record JudgesNext (r : Repository) (id : List ℕ) (was now : JudgedLog) : Type 0 where
+-- the entry at the id is taken, as the next: what stood for some entries stands for them and it
+pub record JudgesNext (r : Repository) (id : List ℕ) (was now : List Taken → Type 0) : Type 0 where
   pub entry : Entry
   pub there : entry_at r id ≡ Some entry
   pub own : entry.id ≡ id
-  pub stands : (log : List Taken) → StandsFor log was
-      → StandsFor (log ++ record { entry = entry; repository = r } ∷ []) now
+  pub stands : (log : List Taken) → was log → now (log ++ record { entry = entry; repository = r } ∷ [])
 
 -- the entry stands at its id
 abbrev pub IsOwn : Repository → Taken → Type 0

@@ -13,4 +13,6 @@ pub mod Skips
 -- what a judged log stands for, and its steps
 pub mod Judging
 pub mod Fronts
+-- where the entries from a number on were judged
+pub mod Later
 pub mod Steps

@@ -61,9 +61,10 @@ fn judge_entry<R: Keeper>(
         → R.reads keeper.new ≤ R.reads keeper.old + extending_reads (real_rules judged.old.engine.rules.anchor) log
         (record { entry = entry.now; repository = r })) }
 {
-    let prior = prior_of(&judged.engine, entry);
-    let from = from_of(&judged.engine, entry);
-    let numbers = open_to(alloc, judged.engine.entries(), entry)?;
+    let entries = judged.engine.entries();
+    let prior = prior_of(entries, entry);
+    let from = from_of(entries, entry);
+    let numbers = open_to(alloc, entries, entry)?;
     let before = before_of(alloc, judged.engine.policy(), entry, judged.attested)?;
     let epoch = judged.epoch;
     let verdict = match judged.engine.extend(alloc, keeper, entry) {
@@ -104,7 +105,7 @@ fn take<R: Keeper>(
 ) -> Result<(), LogFault>
     requires known { (r : Repository) → R.content keeper.old ≡ Some r → AreKnownIn r judged.old.engine.known }
     ensures taken { OnOk result ((r : Repository) → R.content keeper.new ≡ Some r
-        → JudgesNext r id.now judged.old judged.new) }
+        → JudgesNext r id.now (λ log. StandsFor log judged.old) (λ log. StandsFor log judged.new)) }
     ensures broken { IfErr result (λ fault. (r : Repository) → R.content keeper.new ≡ Some r
         → IsAstray r judged.old.engine.entries id.now fault) }
     ensures rules { judged.new.engine.rules ≡ judged.old.engine.rules }

@@ -6,8 +6,10 @@ ghost use Rattle.std.specs.Option.{option_copied};
 ghost use Rattle.std.specs.Str.{bytes_eq};
 ghost use Rattle.rsl_chain.specs.Entries.{Taken, is_of};
 ghost use Rattle.git_object.specs.References.{policy_name};
-ghost use Rattle.entry_rules.specs.RealRules.{real_rules};
-ghost use Rattle.verify_ref.specs.Following.{Follows};
+ghost use Rattle.judging.specs.Engines.{Stands};
+ghost use Rattle.judging.specs.Rules.{Rules};
+ghost use Rattle.policy_epochs.specs.declared.policies.Policy.{Policy};
+ghost use Rattle.entry_rules.specs.declared.faults.Fault.{Fault};
 ghost use Rattle.signing_persons.specs.Persons.{persons_of};
 ghost use Rattle.accounts.specs.Rows.{counted_by, from_of, prior_of, signer_in};
 ghost use Rattle.accounts.specs.Steps.{apart_signer, attested_then, is_among, is_apart, is_authorised, is_signed_among};
@@ -20,15 +22,15 @@ use policy_epochs::Policy;
 use rsl_chain::{Entry, EntryBody};
 use signing_persons::persons_of;
 use std::alloc::Global;
-use verify_ref::Engine;
+use verify_ref::LogEngine;
 
 /// The number of the last entry of the next entry's reference that is not skipped.
-pub(crate) fn prior_of(engine: &Engine, entry: &Entry) -> Option<u64>
-    ensures { (log : List Taken) → Follows log engine.now
-        → result ≡ prior_of (real_rules engine.now.rules.anchor) log entry.now.body }
+pub(crate) fn prior_of(entries: &LogEngine, entry: &Entry) -> Option<u64>
+    ensures { (rules : Rules Policy Fault) (log : List Taken) → Stands rules log entries.now
+        → result ≡ prior_of rules log entry.now.body }
 {
     match &entry.body {
-        EntryBody::Reference { name, target: _ } => engine.entries().prior(name),
+        EntryBody::Reference { name, target: _ } => entries.prior(name),
         EntryBody::Annotation {
             ids: _,
             skip: _,
@@ -38,12 +40,12 @@ pub(crate) fn prior_of(engine: &Engine, entry: &Entry) -> Option<u64>
 }
 
 /// Where the reference of the next entry stands.
-pub(crate) fn from_of(engine: &Engine, entry: &Entry) -> Option<ObjectId>
-    ensures { (log : List Taken) → Follows log engine.now
-        → result ≡ from_of (real_rules engine.now.rules.anchor) log entry.now.body }
+pub(crate) fn from_of(entries: &LogEngine, entry: &Entry) -> Option<ObjectId>
+    ensures { (rules : Rules Policy Fault) (log : List Taken) → Stands rules log entries.now
+        → result ≡ from_of rules log entry.now.body }
 {
     match &entry.body {
-        EntryBody::Reference { name, target: _ } => engine.prior_target(name),
+        EntryBody::Reference { name, target: _ } => entries.prior_target(name),
         EntryBody::Annotation {
             ids: _,
             skip: _,

@@ -5,7 +5,8 @@ use crate::policies::tell_policy;
 use crate::skipping::inspect_skips;
 use crate::words::{Asked, NamedKey};
 use accounts::{
-    JudgedLog, entry_line, fault_line, judge_before, judge_log, tell_verdict, tell_would,
+    JudgedLog, LaterLog, fault_line, judge_before, judge_from, judge_log, later_line, tell_verdict,
+    tell_would,
 };
 use edge_io::{Failed, Sink, write_all};
 use endings::{Ending, Part, Refusal, print_break};
@@ -47,20 +48,19 @@ pub(crate) fn stopped<K: Sink>(fault: &LogFault, sink: &mut K) -> Ending {
     }
 }
 
-// Tells the entries from a number on, a line for each.
+// Tells the entries that were judged, a line for each.
 fn tell_entries<K: Sink, R: Keeper>(
     alloc: Global,
-    first: u64,
-    judged: &JudgedLog,
+    judged: &LaterLog,
     sink: &mut K,
     keeper: &mut R,
 ) -> Ending {
     for place in 0..judged.len() {
         let number = place as u64 + 1;
-        if number < first {
+        if number < judged.first() {
             continue;
         }
-        let line = match entry_line(alloc, keeper, judged, number) {
+        let line = match later_line(alloc, keeper, judged, number) {
             Ok(line) => line,
             Err(fault) => return stopped(&fault, sink),
         };
@@ -273,8 +273,8 @@ pub(crate) fn inspect<K: Sink, R: Keeper>(
     keeper: &mut R,
 ) -> Ending {
     match asked {
-        Asked::Log { root, first } => match judge_log(alloc, keeper, root) {
-            Ok(judged) => tell_entries(alloc, first, &judged, sink, keeper),
+        Asked::Log { root, first } => match judge_from(alloc, keeper, root, first) {
+            Ok(judged) => tell_entries(alloc, &judged, sink, keeper),
             Err(fault) => stopped(&fault, sink),
         },
         Asked::Verdicts { root, names } => {

@@ -3,7 +3,7 @@ use Rattle.std.specs.List.{slice_get}
 use Rattle.std.proofs.lemmas.Option.{slice_get_read}
 use Rattle.entry_rules.specs.RealRules.{real_rules}
 use Rattle.account_lines.specs.declared.rows.EntryRow.{EntryRow}
-use Rattle.accounts.proofs.Lines.{is_line, no_break}
+use Rattle.accounts.proofs.Lines.{is_line, known_at, no_break}
 use Rattle.accounts.proofs.entry_lines.entry_line.Goals as goal
 
 pub returns-in-Err-clause-unbroken : goal.returns-in-Err-clause-unbroken
@@ -13,7 +13,7 @@ returns-in-Err-clause-unbroken g c = λ r told is.
     slice_get_read rows (length rows) (c.args.number - 1) c.index-as_slice-number.result refl
     (omega (arith, c.requires.some, c.requires.within, ap length c.as_slice.ensures)) c.index-as_slice-number.is in
     let at = ap (λ (all : List EntryRow). slice_get all (c.args.number - 1)) (sym c.as_slice.ensures) ∙ there in
-    no_break r c.args.judged.now is c.args.number c.index-as_slice-number.result at c.in-Err.fault (c.in-Err.ensures.broken r told)
+    no_break r c.args.judged.now.engine.rules.anchor is.log is.own c.args.number c.index-as_slice-number.result (known_at r c.args.judged.now is c.args.number c.index-as_slice-number.result at) c.in-Err.fault (c.in-Err.ensures.broken r told)
 
 pub returns-in-Ok-line_of-clause-line : goal.returns-in-Ok-line_of-clause-line
 returns-in-Ok-line_of-clause-line g c = λ r told is.
@@ -25,5 +25,5 @@ returns-in-Ok-line_of-clause-line g c = λ r told is.
     let rules = real_rules c.args.judged.now.engine.rules.anchor in
     let skipper = c.skipper.ensures rules is.log c.requires.some is.stands.later in
     let rescuer = c.rescuer.ensures rules is.log c.requires.some is.stands.later in
-    is_line r c.args.judged.now is c.args.number c.index-as_slice-number.result at c.in-Ok.entry (record { skipper = c.skipper.result; rescuer = c.rescuer.result }) c.in-Ok-line_of.text
+    is_line r c.args.judged.now.engine.rules.anchor is.log is.own c.args.number c.index-as_slice-number.result (known_at r c.args.judged.now is c.args.number c.index-as_slice-number.result at) c.in-Ok.entry (record { skipper = c.skipper.result; rescuer = c.rescuer.result }) c.in-Ok-line_of.text
     (c.in-Ok.ensures.entry r told) (λ i. record { skipper = skipper i; rescuer = rescuer i }) c.in-Ok-line_of.ensures

@@ -25,6 +25,7 @@ pub returns-clause-stands : goal.returns-clause-stands
 returns-clause-stands g c = λ r told log stands.
     let t : Taken = record { entry = c.args.entry.now; repository = r } in
     let rules = real_rules c.args.judged.now.engine.rules.anchor in
+    let entries : Stands rules log c.entries-entries.result.now = subst (λ (e : judging.Engine Policy Fault). Stands rules log e) (sym c.entries-entries.ensures) stands.follows in
     let takes = c.in-Ok.ensures.taken r log told stands.follows in
     let before = c.in_ok-before.before in
     let after = c.in_ok-after.after in
@@ -55,8 +56,8 @@ returns-clause-stands g c = λ r told log stands.
       opened = c.next_epoch-judged.ensures ∙ ap (λ (b : Bool). cond b (Some c.args.entry.now.number) c.args.judged.now.epoch) c.opens-opens.ensures;
       id = refl;
       epoch = refl;
-      prior = c.prior_of-prior.ensures log stands.follows;
-      from = c.from_of-from.ensures log stands.follows;
+      prior = c.prior_of-prior.ensures rules log entries;
+      from = c.from_of-from.ensures rules log entries;
       signed = signed_found c.args.judged.now.engine.rules.anchor log t (option_copied c.policy-policy.result) before.apart before.attested signers after.signed
           now apart (c.in_ok-before.ensures.attested ∙ stands.attested)
           (c.signers-signers.ensures (log ++ t ∷ []) takes.follows ∙ ap (λ (r : EntryRules). last_signers (real_rules r.anchor) (log ++ t ∷ [])) c.extend.ensures.rules ∙ signers_push rules log t)
@@ -72,9 +73,9 @@ returns-clause-stands g c = λ r told log stands.
       names = c.in_ok-take-2.ensures.added;
       later = subst (λ (r : EntryRules). Knows (real_rules r.anchor) (log ++ t ∷ []) c.take.new.self) (sym c.extend.ensures.rules)
           (c.in_ok-take.ensures rules log t refl
-          (subst (λ (e : judging.Engine Policy Fault). Stands rules (log ++ t ∷ []) e) (sym c.entries-2.ensures)
+          (subst (λ (e : judging.Engine Policy Fault). Stands rules (log ++ t ∷ []) e) (sym c.entries.ensures)
           (subst (λ (r : EntryRules). Stands (real_rules r.anchor) (log ++ t ∷ []) c.extend.new.self.entries) c.extend.ensures.rules takes.follows))
           (subst (λ (ns : List ℕ). AreOpen rules log c.args.entry.now.body ns) (sym c.as_slice.ensures)
-          (c.in_ok-numbers.ensures rules log (subst (λ (e : judging.Engine Policy Fault). Stands rules log e) (sym c.entries.ensures) stands.follows)))
+          (c.in_ok-numbers.ensures rules log entries))
           stands.later);
     })

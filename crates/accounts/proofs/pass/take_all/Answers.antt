@@ -7,6 +7,7 @@ use Rattle.keeper_api.proofs.Coming.{as_before_then}
 use Rattle.verify_ref.specs.Logs.{AreEntries}
 use Rattle.verify_ref.specs.Reading.{extending_reads}
 use Rattle.verify_ref.proofs.Growing.{reads_more}
+use Rattle.accounts.specs.Judging.{StandsFor}
 use Rattle.accounts.proofs.Walked.{judged_next, unbroken_front}
 use Rattle.accounts.proofs.pass.take_all.Goals as goal
 
@@ -24,7 +25,7 @@ pub ids-preserved : goal.ids-preserved
 ids-preserved g c = record {
   so = λ r told.
       let was = c.ids.invariant.so r (c.take.ensures.same.content r told) in
-      judged_next r c.args.ids.now c.ids.id-index c.id-item.result c.ids-test.true c.id-item.is was.0 c.ids.judged c.take.new.judged was.1 was.2 was.3 (c.in-Ok.ensures.taken r told);
+      judged_next r c.args.ids.now c.ids.id-index c.id-item.result c.ids-test.true c.id-item.is was.0 (λ log. StandsFor log c.ids.judged) (λ log. StandsFor log c.take.new.judged) was.1 was.2 was.3 (c.in-Ok.ensures.taken r told);
   rules = c.take.ensures.rules ∙ c.ids.invariant.rules;
   known = c.take.ensures.known;
   reads = λ r more told are bounded.

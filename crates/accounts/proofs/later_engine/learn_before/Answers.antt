@@ -1,0 +1,24 @@
+use Rattle.std.proofs.Common.{◌≡◌, ◌+◌, ◌∙◌, Bool, false, Some, ap, sym, arith}
+use Rattle.std.specs.Prelude.{if◌then◌else◌, unwrap_or}
+use Rattle.git_object.specs.Ids.{zeros}
+use Rattle.tree_paths.specs.Listings.{walk_visits}
+use Rattle.tree_paths.specs.Repositories.{readings_of}
+use Rattle.tree_paths.proofs.Existence.{are_readings}
+use Rattle.judging.specs.Logs.{from, prior_target}
+use Rattle.judging.specs.Reads.{may_rescue}
+use Rattle.verify_ref.specs.Reading.{learning_reads}
+use Rattle.later_rules.specs.LaterRules.{rules_from}
+use Rattle.later_rules.proofs.Later.{may_rescue_late}
+use Rattle.accounts.proofs.later_engine.learn_before.Goals as goal
+
+pub returns-in-Some-clause-reads : goal.returns-in-Some-clause-reads
+returns-in-Some-clause-reads g c = λ r rules log told stands numbered.
+    let part = rules_from c.args.first rules in
+    let at : prior_target rules log c.in-Reference.name ≡ Some c.in-Some.from = sym (c.prior_target.ensures part log stands) ∙ c.in-Some.is in
+    let there : from rules log c.in-Reference.name ≡ c.in-Some.from = ap (λ o. unwrap_or o zeros) at in
+    let visits = ap (walk_visits (readings_of r)) there in
+    let late = c.stands_later.ensures c.if-stands_later.true part log stands in
+    let alone : may_rescue rules log c.in-Reference.name ≡ false =
+    sym (may_rescue_late c.args.first rules log numbered c.in-Reference.name late) ∙ sym (c.may_rescue.ensures part log stands) ∙ c.if-may_rescue.false in
+    let body = ap (learning_reads rules r log) c.in-Reference.is ∙ ap (λ (b : Bool). if b then 0 else 9 + walk_visits (readings_of r) (from rules log c.in-Reference.name)) alone in
+    omega (arith, c.learn.ensures.visited (readings_of r) (record { repository = r; told = told; are = are_readings r }), body, visits)

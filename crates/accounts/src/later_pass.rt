@@ -1,0 +1,209 @@
+//! Judging the entries of a log from a number on, in one pass over all.
+
+ghost use Rattle.std.specs.Prelude.{◌≡◌, ◌≤◌, ◌+◌, ◌++◌, ◌∷◌, [], ℕ, List, Some, true, false};
+ghost use Rattle.std.specs.Prelude.{IfErr, IfOk, OnOk};
+ghost use Rattle.std.specs.List.{AllByRecursion};
+ghost use Rattle.octets.specs.Causes.{HasCause};
+ghost use Rattle.git_object.specs.Repository.{Repository};
+ghost use Rattle.keeper_api.specs.Undisturbed.{Undisturbed};
+ghost use Rattle.rsl_chain.specs.Entries.{Taken};
+ghost use Rattle.rsl_chain.specs.declared.entries.Entry.{Entry};
+ghost use Rattle.rsl_chain.specs.Logs.{IsLogOf, IsUnbroken, entry_at, log_failed};
+ghost use Rattle.tree_paths.specs.Known.{AreKnownIn};
+ghost use Rattle.judging.specs.Engines.{has_taken, taken};
+ghost use Rattle.judging.specs.Reads.{is_bounded};
+ghost use Rattle.entry_rules.specs.RealRules.{real_rules};
+ghost use Rattle.verify_ref.specs.Logs.{AreEntries, IsAstray};
+ghost use Rattle.verify_ref.specs.Reading.{AreBounded, ReadsVerdict, extending_reads, judging_reads};
+ghost use Rattle.verify_ref.specs.Verdicts.{IsRefusal};
+ghost use Rattle.later_rules.specs.LaterRules.{AreNumbered};
+ghost use Rattle.accounts.specs.Judging.{IsOwn, JudgesNext};
+ghost use Rattle.accounts.specs.Later.{FollowsFrom, IsJudgedFrom, StandsFrom};
+
+use crate::LaterLog;
+use crate::finding::{after_of, before_of};
+use crate::later_engine::LaterEngine;
+use crate::rows::{from_of, next_attested, next_epoch, opens, prior_of};
+use account_lines::EntryRow;
+use by_whom::{ByWhom, open_to};
+use entry_rules::Fault;
+use git_object::ObjectId;
+use keeper_api::{Keeper, KeeperFault};
+use octets::Items;
+use policy_epochs::Policy;
+use root_metadata::KeyIds;
+use rsl_chain::{Entry, Log, LogFault, read_entry};
+use std::alloc::Global;
+
+// Takes the next entry, and keeps what is known of it. Of one that is not judged nothing is asked of a policy.
+fn judge_entry<R: Keeper>(
+    alloc: Global,
+    keeper: &mut R,
+    judged: &mut LaterLog,
+    entry: &Entry,
+) -> Result<(), LogFault>
+    requires next { entry.now.number ≡ taken judged.old.engine.entries + 1 }
+    requires fresh { has_taken judged.old.engine.entries entry.now.id ≡ false }
+    requires known { (r : Repository) → R.content keeper.old ≡ Some r → AreKnownIn r judged.old.engine.known }
+    ensures stands { OnOk result ((r : Repository) → R.content keeper.new ≡ Some r
+        → (log : List Taken) → StandsFrom log judged.old
+        → StandsFrom (log ++ record { entry = entry.now; repository = r } ∷ []) judged.new) }
+    ensures unbroken { IfErr result IsUnbroken }
+    ensures first { judged.new.engine.first ≡ judged.old.engine.first }
+    ensures rules { judged.new.engine.rules ≡ judged.old.engine.rules }
+    ensures known { (r : Repository) → R.content keeper.new ≡ Some r → AreKnownIn r judged.new.engine.known }
+    ensures same { Undisturbed R.Keeper keeper.old keeper.new }
+    ensures cause { HasCause log_failed (R.faults keeper.old) (R.faults keeper.new) result }
+    ensures reads { OnOk result ((r : Repository) (log : List Taken) → R.content keeper.new ≡ Some r
+        → FollowsFrom log judged.old.engine → AreNumbered log
+        → is_bounded (real_rules judged.old.engine.rules.anchor) log (record { entry = entry.now; repository = r })
+        ≡ true
+        → R.reads keeper.new ≤ R.reads keeper.old + extending_reads (real_rules judged.old.engine.rules.anchor) log
+        (record { entry = entry.now; repository = r })) }
+{
+    let entries = judged.engine.entries();
+    let prior = prior_of(entries, entry);
+    let from = from_of(entries, entry);
+    let numbers = open_to(alloc, entries, entry)?;
+    let before = before_of(
+        alloc,
+        judged.engine.policy_for(entry),
+        entry,
+        judged.attested,
+    )?;
+    let epoch = judged.epoch;
+    let verdict = match judged.engine.extend(alloc, keeper, entry) {
+        Ok(verdict) => verdict,
+        Err(KeeperFault::Failed) => return Err(LogFault::Failed),
+        Err(KeeperFault::Memory) => return Err(LogFault::Memory),
+    };
+    let opens = opens(entry, &verdict);
+    judged.epoch = next_epoch(epoch, opens, entry.number);
+    let policy = judged.engine.policy_for(entry);
+    let signers = judged.engine.entries().signers();
+    let after = after_of(alloc, policy, signers, entry, &before, opens)?;
+    judged
+        .later
+        .take(judged.engine.entries(), entry, numbers.as_slice())?;
+    judged.attested = next_attested(judged.attested, entry);
+    judged.rows.push(EntryRow {
+        id: entry.id,
+        epoch,
+        prior,
+        from,
+        signed: after.signed,
+        signers: after.signers,
+        persons: after.persons,
+        verdict,
+        changed: after.changed,
+    })?;
+    Ok(())
+}
+
+// Takes the entry at an id, where it is the next.
+fn take<R: Keeper>(
+    alloc: Global,
+    keeper: &mut R,
+    judged: &mut LaterLog,
+    id: &ObjectId,
+) -> Result<(), LogFault>
+    requires known { (r : Repository) → R.content keeper.old ≡ Some r → AreKnownIn r judged.old.engine.known }
+    ensures taken { OnOk result ((r : Repository) → R.content keeper.new ≡ Some r
+        → JudgesNext r id.now (λ log. StandsFrom log judged.old) (λ log. StandsFrom log judged.new)) }
+    ensures broken { IfErr result (λ fault. (r : Repository) → R.content keeper.new ≡ Some r
+        → IsAstray r judged.old.engine.entries id.now fault) }
+    ensures first { judged.new.engine.first ≡ judged.old.engine.first }
+    ensures rules { judged.new.engine.rules ≡ judged.old.engine.rules }
+    ensures known { (r : Repository) → R.content keeper.new ≡ Some r → AreKnownIn r judged.new.engine.known }
+    ensures same { Undisturbed R.Keeper keeper.old keeper.new }
+    ensures cause { HasCause log_failed (R.faults keeper.old) (R.faults keeper.new) result }
+    ensures reads { OnOk result ((r : Repository) (log : List Taken) (entry : Entry) → R.content keeper.new ≡ Some r
+        → FollowsFrom log judged.old.engine → AreNumbered log → entry_at r id.now ≡ Some entry
+        → is_bounded (real_rules judged.old.engine.rules.anchor) log (record { entry = entry; repository = r })
+        ≡ true
+        → R.reads keeper.new ≤ R.reads keeper.old
+        + (1 + extending_reads (real_rules judged.old.engine.rules.anchor) log
+        (record { entry = entry; repository = r }))) }
+{
+    let entry = read_entry(alloc, keeper, id)?;
+    if !judged.engine.comes_next(&entry) {
+        return Err(LogFault::Broken { id: *id });
+    }
+    match judge_entry(alloc, keeper, judged, &entry) {
+        Ok(()) => Ok(()),
+        Err(fault) => Err(fault),
+    }
+}
+
+// Takes the entries at these ids, which are a log, one after the other.
+fn take_all<R: Keeper>(
+    alloc: Global,
+    keeper: &mut R,
+    judged: &mut LaterLog,
+    ids: &[ObjectId],
+) -> Result<(), LogFault>
+    requires none { StandsFrom [] judged.old }
+    requires known { (r : Repository) → R.content keeper.old ≡ Some r → AreKnownIn r judged.old.engine.known }
+    ensures stands { OnOk result ((r : Repository) → R.content keeper.new ≡ Some r → (log : List Taken)
+        × AreEntries r ids.now log × AllByRecursion (IsOwn r) log × StandsFrom log judged.new) }
+    ensures unbroken { IfErr result (λ fault. (r : Repository) → R.content keeper.new ≡ Some r
+        → IsLogOf r ids.now → IsUnbroken fault) }
+    ensures first { judged.new.engine.first ≡ judged.old.engine.first }
+    ensures rules { judged.new.engine.rules ≡ judged.old.engine.rules }
+    ensures same { Undisturbed R.Keeper keeper.old keeper.new }
+    ensures cause { HasCause log_failed (R.faults keeper.old) (R.faults keeper.new) result }
+    ensures reads { OnOk result ((r : Repository) (log : List Taken) → R.content keeper.new ≡ Some r
+        → AreEntries r ids.now log → AreBounded (real_rules judged.old.engine.rules.anchor) log
+        → R.reads keeper.new ≤ R.reads keeper.old + judging_reads (real_rules judged.old.engine.rules.anchor) log) }
+{
+    'ids: for id in ids {
+        match take(alloc, keeper, judged, id) {
+            Ok(()) => {}
+            Err(fault) => return Err(fault),
+        }
+    }
+    Ok(())
+}
+
+// A log of no entry.
+fn unjudged(alloc: Global, anchor: Option<KeyIds>, first: u64) -> LaterLog
+    ensures none { StandsFrom [] result }
+    ensures first { result.engine.first ≡ first }
+    ensures anchor { result.engine.rules.anchor ≡ anchor }
+    ensures known { (r : Repository) → AreKnownIn r result.engine.known }
+{
+    LaterLog {
+        engine: LaterEngine::new(alloc, anchor, first),
+        epoch: None,
+        attested: None,
+        rows: Items::new(alloc),
+        later: ByWhom::new::<Policy, Fault>(alloc),
+    }
+}
+
+/// The log of the store's repository, the entries from a number on judged in it as `judge_log` judges all; of those
+/// before it the policy's are judged, and of the others no signature is checked and no tree read. `Broken` comes
+/// exactly where the log is no chain, and names the commit at which it breaks. The store is as before. It reads no more
+/// than `judge_log`, by the same bound.
+pub fn judge_from<R: Keeper>(
+    alloc: Global,
+    keeper: &mut R,
+    anchor: Option<KeyIds>,
+    first: u64,
+) -> Result<LaterLog, LogFault>
+    ensures judged { IfOk result (λ judged. (r : Repository) → R.content keeper.new ≡ Some r
+        → IsJudgedFrom anchor r first judged) }
+    ensures broken { IfErr result (λ fault. (r : Repository) → R.content keeper.new ≡ Some r
+        → IsRefusal r fault) }
+    ensures same { Undisturbed R.Keeper keeper.old keeper.new }
+    ensures cause { HasCause log_failed (R.faults keeper.old) (R.faults keeper.new) result }
+    ensures reads { OnOk result ((r : Repository) → R.content keeper.new ≡ Some r
+        → ReadsVerdict anchor r (R.reads keeper.old) (R.reads keeper.new)) }
+{
+    let log = Log::load(alloc, keeper)?;
+    let mut judged = unjudged(alloc, anchor, first);
+    match take_all(alloc, keeper, &mut judged, log.ids.as_slice()) {
+        Ok(()) => Ok(judged),
+        Err(fault) => Err(fault),
+    }
+}
