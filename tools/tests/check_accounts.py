@@ -1,13 +1,14 @@
 """The checks of tools/test on what gittuf-inspect tells of logs that were drawn: held to a slow reading of the same logs, and
 what it says mends them is done. `python3 tools/tests/check_accounts.py LOGS [SEED]` draws as many more logs as are wanted."""
 
+import json
 import os
 import sys
 import tempfile
 from itertools import count
 
 from check_inspecting import told
-from checking import INSPECT, ZEROS, Failure, Skip, want
+from checking import INSPECT, ZEROS, Failure, Skip, run, want
 from rows_histories import KEEPER, MAIN, MAINTAINER, NEWCOMER, OWNER, POLICY, REVIEWER, History, top_file
 from rows_objects import AUTHOR
 from rows_policies import root_of_people, rule
@@ -151,6 +152,37 @@ def tells_drawn_logs(repositories):
     return f"{sum(len(log) for log, _ in drawn().LOGS)} entries"
 
 
+def is_seen(entries, number):
+    """What stands before a number, of what is told of all entries: a violation that one from it on rescues, one that none does,
+    an entry that one from it on skips, and policies that came into force before it and from it on."""
+    early, late = entries[: number - 1], entries[number - 1 :]
+    refused = [it["rescued"] for it in early if it["verdict"] == "refused"]
+    opened = [any(it.get("reference") == POLICY and it["verdict"] == "authorised" for it in part) for part in (early, late)]
+    return (
+        any(it and it >= number for it in refused),
+        None in refused and bool(late),
+        any(it.get("skipped") and it["skipped"] >= number for it in early),
+        all(opened),
+    )
+
+
+def tells_from_numbers(repositories):
+    """gittuf-inspect log --from tells of each entry from a number on what it tells of it without, whatever stands before it"""
+    seen, runs = [], 0
+    for place, (log, kept) in enumerate(drawn().LOGS):
+        folder = folder_of(repositories, f"drawn from {place}", history_of(log, kept)[0].repository)
+        lines = run(INSPECT, folder, "log")[1].splitlines(True)
+        entries = [json.loads(it) for it in lines]
+        # From each number of a few logs, from some of the others, and from behind the last entry.
+        for number in range(1, len(lines) + 2, 1 if place < 8 else 7):
+            found = run(INSPECT, folder, "log", "--from", str(number))
+            want(found, (0, b"".join(lines[number - 1 :]), b""), f"drawn log {place} from {number}")
+            seen.append(is_seen(entries, number))
+            runs += 1
+    want([any(it) for it in zip(*seen)], [True] * 4, "whether each of what may stand before a number did")
+    return f"{runs} numbers"
+
+
 def people_history():
     """A log of two policies of schema 2, of which the second has a person and a rule more, and another key, role and threshold."""
     history = History()
@@ -248,7 +280,7 @@ def tells_what_mends(repositories):
     return f"{done} mended, {hopeless} that nobody may mend so"
 
 
-CHECKS = (tells_drawn_logs, tells_changes, tells_what_mends)
+CHECKS = (tells_drawn_logs, tells_from_numbers, tells_changes, tells_what_mends)
 
 
 class Folders:
