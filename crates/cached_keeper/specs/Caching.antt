@@ -32,18 +32,21 @@ StandsIn cached content = (r : Repository) → content ≡ Some r → (id : List
 
 -- ---- how much
 
--- the bytes of the bodies of a generation
-abbrev pub bytes_of : tree.BTreeMap (List ℕ) Pair → ℕ
-bytes_of objects = sum_by (λ e. length e.1.body) objects.entries
+-- an object weighs the bytes of its body, and 256 for its place in a map and what its copies share
+abbrev pub weight_of : Pair → ℕ
+weight_of pair = length pair.body + 256
 
--- the bodies of each generation have at most 32 MiB, and those of the recent one, and so many bytes more, are within
--- what it weighs
+-- what the objects of a generation weigh
+abbrev pub weight_in : tree.BTreeMap (List ℕ) Pair → ℕ
+weight_in objects = sum_by (λ e. weight_of e.1) objects.entries
+
+-- each generation weighs at most 32 MiB, and the recent one with so many bytes more is within what is kept of its weight
 pub record HasRoom (cached : CachedObjects) (room : ℕ) : Type 0 where
-  pub recent : bytes_of cached.recent + room ≤ cached.weight
+  pub recent : weight_in cached.recent + room ≤ cached.weight
   pub weight : cached.weight ≤ 2 ^ 25
-  pub earlier : bytes_of cached.earlier ≤ 2 ^ 25
+  pub earlier : weight_in cached.earlier ≤ 2 ^ 25
 
--- the bodies of each generation have at most 32 MiB
+-- each generation weighs at most 32 MiB
 abbrev pub IsWithin : CachedObjects → Type 0
 IsWithin cached = HasRoom cached 0
 

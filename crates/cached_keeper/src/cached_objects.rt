@@ -5,7 +5,7 @@ ghost use Rattle.std.specs.BTreeMap as tree;
 ghost use Rattle.std.specs.Ordering.{is_eq};
 ghost use Rattle.octets.specs.BytesMap.{by_bytes};
 ghost use Rattle.cached_keeper.specs.Caching.{GainsOnly, HasRoom, IsCached, IsEmpty, IsNoMore, IsWithin};
-ghost use Rattle.cached_keeper.specs.Caching.{bytes_of};
+ghost use Rattle.cached_keeper.specs.Caching.{weight_in, weight_of};
 
 use git_object::{Object, ObjectId};
 use octets::{Copied, Memory};
@@ -32,8 +32,7 @@ pub(crate) struct CachedObjects {
 }
 
 fn weight_of(object: &Object) -> u64
-    ensures least { length object.now.body ≤ result }
-    ensures most { length object.now.body ≤ 2 ^ 20 → result ≤ 2 ^ 25 }
+    ensures { length object.now.body ≤ 2 ^ 20 → result ≡ weight_of object.now }
 {
     (object.body().len() as u64).saturating_add(BESIDE_BODY)
 }
@@ -54,7 +53,7 @@ fn put_object(
     ensures put { OnOk result ((q : List ℕ) → tree.get by_bytes objects.new q
         ≡ (if is_eq (by_bytes id.now q) then Some object else tree.get by_bytes objects.old q)) }
     ensures same { OnErr result (objects.new.entries ≡ objects.old.entries) }
-    ensures bytes { bytes_of objects.new ≤ bytes_of objects.old + length object.body }
+    ensures weight { weight_in objects.new ≤ weight_in objects.old + weight_of object }
 {
     let _had = objects.insert(*id, object)?;
     Ok(())

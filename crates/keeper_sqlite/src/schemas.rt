@@ -1,8 +1,8 @@
 //! Whether the tables of a database are those of the schema with number 1.
 
-ghost use Rattle.std.specs.Prelude.{◌≡◌, ◌<◌, [], ◌∷◌, None, Some, IsTrue, false, slice_get, codes};
+ghost use Rattle.std.specs.Prelude.{◌≡◌, ◌<◌, ◌↔◌, [], ◌∷◌, None, Some, IsTrue, false, slice_get, codes};
 ghost use Rattle.sqlite_value.specs.Keys.{plain};
-ghost use Rattle.keeper_sqlite.specs.Tables.{store_schema};
+ghost use Rattle.keeper_sqlite.specs.Tables.{no_schema, store_schema};
 ghost use Rattle.keeper_sqlite.specs.Schemas.{IsKeyed, IsSimple, automatic_of, facts_columns, objects_columns};
 ghost use Rattle.keeper_sqlite.specs.Schemas.{refs_columns, table_at};
 
@@ -14,7 +14,7 @@ use sqlite_value::keys::Order;
 
 // Whether the places are that of the first column alone.
 fn is_first(places: &Items<usize>) -> bool
-    ensures { IsTrue result → places.now ≡ 1 ∷ [] }
+    ensures { IsTrue result ↔ (places.now ≡ 1 ∷ []) }
 {
     if places.len() != 1 {
         return false;
@@ -26,7 +26,7 @@ fn is_first(places: &Items<usize>) -> bool
 }
 
 fn is_first_alone(keys: &Items<Items<usize>>) -> bool
-    ensures { IsTrue result → keys.now ≡ (1 ∷ []) ∷ [] }
+    ensures { IsTrue result ↔ (keys.now ≡ (1 ∷ []) ∷ []) }
 {
     if keys.len() != 1 {
         return false;
@@ -38,13 +38,13 @@ fn is_first_alone(keys: &Items<Items<usize>>) -> bool
 }
 
 fn is_plain(order: Order) -> bool
-    ensures { IsTrue result → order ≡ plain }
+    ensures { IsTrue result ↔ (order ≡ plain) }
 {
     order.digits == 0
 }
 
 fn is_plain_alone(orders: &Items<Order>) -> bool
-    ensures { IsTrue result → orders.now ≡ plain ∷ [] }
+    ensures { IsTrue result ↔ (orders.now ≡ plain ∷ []) }
 {
     if orders.len() != 1 {
         return false;
@@ -56,13 +56,13 @@ fn is_plain_alone(orders: &Items<Order>) -> bool
 }
 
 fn has_no_terms(terms: &Terms) -> bool
-    ensures { IsTrue result → terms.now ≡ [] }
+    ensures { IsTrue result ↔ (terms.now ≡ []) }
 {
     terms.roots.is_empty()
 }
 
 fn is_unstamped(stamps: &Stamps) -> bool
-    ensures { IsTrue result → stamps.now ≡ record { places = []; terms = []; formats = [] } }
+    ensures { IsTrue result ↔ (stamps.now ≡ record { places = []; terms = []; formats = [] }) }
 {
     if !stamps.places.is_empty() {
         return false;
@@ -75,7 +75,7 @@ fn is_unstamped(stamps: &Stamps) -> bool
 
 // Whether a table has no rule beside its columns and its key.
 fn is_simple(table: &Table) -> bool
-    ensures { IsTrue result → IsSimple table.now }
+    ensures { IsTrue result ↔ IsSimple table.now }
 {
     if table.key.is_some() {
         return false;
@@ -97,7 +97,7 @@ fn is_simple(table: &Table) -> bool
 
 // Whether the first column of a table is its key.
 fn is_keyed(table: &Table) -> bool
-    ensures { IsTrue result → IsKeyed table.now }
+    ensures { IsTrue result ↔ IsKeyed table.now }
 {
     if !is_first(&table.primary) {
         return false;
@@ -109,7 +109,7 @@ fn is_keyed(table: &Table) -> bool
 }
 
 fn is_table(table: &Table, name: &[u8], tree: u32) -> bool
-    ensures { IsTrue result → table.now ≡ table_at name.now table.now.columns tree }
+    ensures { IsTrue result ↔ (table.now ≡ table_at name.now table.now.columns tree) }
 {
     if !is_name(&table.name, name) {
         return false;
@@ -124,7 +124,7 @@ fn is_table(table: &Table, name: &[u8], tree: u32) -> bool
 }
 
 fn is_objects(table: &Table) -> bool
-    ensures { IsTrue result → table.now ≡ table_at (codes "objects") objects_columns 0 }
+    ensures { IsTrue result ↔ (table.now ≡ table_at (codes "objects") objects_columns 0) }
 {
     if !is_table(table, b"objects", 0) {
         return false;
@@ -133,7 +133,7 @@ fn is_objects(table: &Table) -> bool
 }
 
 fn is_refs(table: &Table) -> bool
-    ensures { IsTrue result → table.now ≡ table_at (codes "refs") refs_columns 2 }
+    ensures { IsTrue result ↔ (table.now ≡ table_at (codes "refs") refs_columns 2) }
 {
     if !is_table(table, b"refs", 2) {
         return false;
@@ -142,7 +142,7 @@ fn is_refs(table: &Table) -> bool
 }
 
 fn is_facts(table: &Table) -> bool
-    ensures { IsTrue result → table.now ≡ table_at (codes "facts") facts_columns 4 }
+    ensures { IsTrue result ↔ (table.now ≡ table_at (codes "facts") facts_columns 4) }
 {
     if !is_table(table, b"facts", 4) {
         return false;
@@ -151,7 +151,7 @@ fn is_facts(table: &Table) -> bool
 }
 
 fn has_objects(tables: &Items<Table>) -> bool
-    ensures { IsTrue result → slice_get tables.now 0 ≡ Some (table_at (codes "objects") objects_columns 0) }
+    ensures { IsTrue result ↔ (slice_get tables.now 0 ≡ Some (table_at (codes "objects") objects_columns 0)) }
 {
     match tables.get(0) {
         Some(table) => is_objects(table),
@@ -160,7 +160,7 @@ fn has_objects(tables: &Items<Table>) -> bool
 }
 
 fn has_refs(tables: &Items<Table>) -> bool
-    ensures { IsTrue result → slice_get tables.now 1 ≡ Some (table_at (codes "refs") refs_columns 2) }
+    ensures { IsTrue result ↔ (slice_get tables.now 1 ≡ Some (table_at (codes "refs") refs_columns 2)) }
 {
     match tables.get(1) {
         Some(table) => is_refs(table),
@@ -169,7 +169,7 @@ fn has_refs(tables: &Items<Table>) -> bool
 }
 
 fn has_facts(tables: &Items<Table>) -> bool
-    ensures { IsTrue result → slice_get tables.now 2 ≡ Some (table_at (codes "facts") facts_columns 4) }
+    ensures { IsTrue result ↔ (slice_get tables.now 2 ≡ Some (table_at (codes "facts") facts_columns 4)) }
 {
     match tables.get(2) {
         Some(table) => is_facts(table),
@@ -178,7 +178,7 @@ fn has_facts(tables: &Items<Table>) -> bool
 }
 
 fn are_tables(tables: &Items<Table>) -> bool
-    ensures { IsTrue result → tables.now ≡ store_schema.tables }
+    ensures { IsTrue result ↔ (tables.now ≡ store_schema.tables) }
 {
     if tables.len() != 3 {
         return false;
@@ -195,7 +195,7 @@ fn are_tables(tables: &Items<Table>) -> bool
 // Whether an index is the one that a table's key has.
 fn is_automatic(index: &Index, name: &[u8], table: u32) -> bool
     requires small { table < 8 }
-    ensures { IsTrue result → index.now ≡ automatic_of name.now table }
+    ensures { IsTrue result ↔ (index.now ≡ automatic_of name.now table) }
 {
     if !is_name(&index.name, name) {
         return false;
@@ -217,7 +217,7 @@ fn is_automatic(index: &Index, name: &[u8], table: u32) -> bool
 
 fn is_automatic_at(indexes: &Items<Index>, at: usize, name: &[u8], table: u32) -> bool
     requires small { table < 8 }
-    ensures { IsTrue result → slice_get indexes.now at ≡ Some (automatic_of name.now table) }
+    ensures { IsTrue result ↔ (slice_get indexes.now at ≡ Some (automatic_of name.now table)) }
 {
     match indexes.get(at) {
         Some(index) => is_automatic(index, name, table),
@@ -226,7 +226,7 @@ fn is_automatic_at(indexes: &Items<Index>, at: usize, name: &[u8], table: u32) -
 }
 
 fn are_indexes(indexes: &Items<Index>) -> bool
-    ensures { IsTrue result → indexes.now ≡ store_schema.indexes }
+    ensures { IsTrue result ↔ (indexes.now ≡ store_schema.indexes) }
 {
     if indexes.len() != 3 {
         return false;
@@ -242,7 +242,7 @@ fn are_indexes(indexes: &Items<Index>) -> bool
 
 /// Whether a schema is the one with number 1.
 pub(crate) fn is_store_schema(schema: &Schema) -> bool
-    ensures { IsTrue result → schema.now ≡ store_schema }
+    ensures { IsTrue result ↔ (schema.now ≡ store_schema) }
 {
     if !schema.views.is_empty() {
         return false;
@@ -255,7 +255,7 @@ pub(crate) fn is_store_schema(schema: &Schema) -> bool
 
 /// Whether a schema has no table, index or view.
 pub(crate) fn is_empty(schema: &Schema) -> bool
-    ensures { IsTrue result → schema.now.tables ≡ [] }
+    ensures { IsTrue result ↔ (schema.now ≡ no_schema) }
 {
     if !schema.tables.is_empty() {
         return false;

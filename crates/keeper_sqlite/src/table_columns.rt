@@ -35,7 +35,7 @@ fn is_binary(collation: Collation) -> bool
 }
 
 fn is_column(column: &Column, name: &[u8], kind: Kind) -> bool
-    ensures { IsTrue result → column.now ≡ column_of name.now kind }
+    ensures { IsTrue result ↔ (column.now ≡ column_of name.now kind) }
 {
     if !is_name(&column.name, name) {
         return false;
@@ -56,7 +56,7 @@ fn is_column(column: &Column, name: &[u8], kind: Kind) -> bool
 }
 
 fn is_column_at(columns: &Items<Column>, at: usize, name: &[u8], kind: Kind) -> bool
-    ensures { IsTrue result → slice_get columns.now at ≡ Some (column_of name.now kind) }
+    ensures { IsTrue result ↔ (slice_get columns.now at ≡ Some (column_of name.now kind)) }
 {
     match columns.get(at) {
         Some(column) => is_column(column, name, kind),
@@ -65,7 +65,7 @@ fn is_column_at(columns: &Items<Column>, at: usize, name: &[u8], kind: Kind) -> 
 }
 
 pub(crate) fn are_objects_columns(columns: &Items<Column>) -> bool
-    ensures { IsTrue result → columns.now ≡ objects_columns }
+    ensures { IsTrue result ↔ (columns.now ≡ objects_columns) }
 {
     if columns.len() != 3 {
         return false;
@@ -80,7 +80,7 @@ pub(crate) fn are_objects_columns(columns: &Items<Column>) -> bool
 }
 
 pub(crate) fn are_refs_columns(columns: &Items<Column>) -> bool
-    ensures { IsTrue result → columns.now ≡ refs_columns }
+    ensures { IsTrue result ↔ (columns.now ≡ refs_columns) }
 {
     if columns.len() != 2 {
         return false;
@@ -92,7 +92,7 @@ pub(crate) fn are_refs_columns(columns: &Items<Column>) -> bool
 }
 
 pub(crate) fn are_facts_columns(columns: &Items<Column>) -> bool
-    ensures { IsTrue result → columns.now ≡ facts_columns }
+    ensures { IsTrue result ↔ (columns.now ≡ facts_columns) }
 {
     if columns.len() != 2 {
         return false;

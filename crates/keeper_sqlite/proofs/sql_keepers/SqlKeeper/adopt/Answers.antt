@@ -20,5 +20,5 @@ invariant_of-result g c = record {
   idle = c.in_ok-conn.ensures.idle;
   store = λ known o.
       let clean = clean_if_open _ _ (g.met.S.Store.shut_if_dirty c.in_ok-conn.conn.store) o in
-      store_by (state g.S.Store c.in_ok-conn.conn).now (sym c.schema.ensures.value ∙ c.is_store_schema-known.ensures known) (c.schema.ensures.live o).0 (c.in_ok-conn.ensures.shaped clean);
+      store_by (state g.S.Store c.in_ok-conn.conn).now (sym c.schema.ensures.value ∙ c.is_store_schema-known.ensures.0 known) (c.schema.ensures.live o).0 (c.in_ok-conn.ensures.shaped clean);
 }
