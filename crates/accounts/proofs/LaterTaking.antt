@@ -20,7 +20,7 @@ use Rattle.policy_epochs.specs.declared.policies.Policy.{Policy}
 use Rattle.entry_rules.specs.RealRules.{real_rules}
 use Rattle.entry_rules.specs.declared.faults.Fault.{Fault}
 use Rattle.account_lines.specs.declared.rows.EntryRow.{EntryRow}
-use Rattle.accounts.specs.Later.{AreRowsFrom, StandsFrom}
+use Rattle.accounts.specs.Later.{AreRowsFrom, FollowsFrom, StandsFrom}
 use Rattle.accounts.specs.Rows.{epoch_of, row_of}
 use Rattle.accounts.specs.Steps.{attested_then, is_authorised}
 use Rattle.accounts.specs.declared.later_log.LaterLog.{LaterLog}
@@ -128,3 +128,18 @@ stands_from_more log t was now row stands found =
       rows = carried (λ n a. AreRowsFrom n a more now.rows) first now.engine.first anchor now.engine.rules.anchor (sym found.first) (sym found.anchor) rows;
       later = carried (λ n a. Knows (rules_from n (real_rules a)) more now.later) first now.engine.first anchor now.engine.rules.anchor (sym found.first) (sym found.anchor) found.later;
     }
+
+-- it stands for no entry before any is taken
+pub stands_for_none : (judged : LaterLog) → FollowsFrom [] judged.engine → judged.epoch ≡ None → judged.attested ≡ None → judged.rows ≡ []
+    → Knows (rules_from judged.engine.first (real_rules judged.engine.rules.anchor)) [] judged.later → StandsFrom [] judged
+stands_for_none judged follows epoch attested rows later = record {
+  follows = follows;
+  numbered = λ number t some is. absurd (cc is);
+  epoch = epoch;
+  attested = attested;
+  long = ap length rows;
+  rows = λ number row some late is.
+      let none : None ≡ Some row = sym (ap (λ (xs : List EntryRow). slice_get xs (number - 1)) rows) ∙ is in
+      absurd (cc none);
+  later = later;
+}

@@ -182,9 +182,9 @@ fn unjudged(alloc: Global, anchor: Option<KeyIds>, first: u64) -> LaterLog
 }
 
 /// The log of the store's repository, the entries from a number on judged in it as `judge_log` judges all; of those
-/// before it the policy's are judged, and of the others no signature is checked and no tree read. `Broken` comes
-/// exactly where the log is no chain, and names the commit at which it breaks. The store is as before. It reads no more
-/// than `judge_log`, by the same bound.
+/// before it the policy's are judged, and of the others no signature is checked but that of an annotation that skips.
+/// `Broken` comes exactly where the log is no chain, and names the commit at which it breaks. The store is as before.
+/// It reads no more than `judge_log`, by the same bound.
 pub fn judge_from<R: Keeper>(
     alloc: Global,
     keeper: &mut R,

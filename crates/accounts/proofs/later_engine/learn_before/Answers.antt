@@ -17,7 +17,7 @@ returns-in-Some-clause-reads g c = λ r rules log told stands numbered.
     let at : prior_target rules log c.in-Reference.name ≡ Some c.in-Some.from = sym (c.prior_target.ensures part log stands) ∙ c.in-Some.is in
     let there : from rules log c.in-Reference.name ≡ c.in-Some.from = ap (λ o. unwrap_or o zeros) at in
     let visits = ap (walk_visits (readings_of r)) there in
-    let late = c.stands_later.ensures c.if-stands_later.true part log stands in
+    let late = c.stands_later.ensures c.if-not-stands_later.false part log stands in
     let alone : may_rescue rules log c.in-Reference.name ≡ false =
     sym (may_rescue_late c.args.first rules log numbered c.in-Reference.name late) ∙ sym (c.may_rescue.ensures part log stands) ∙ c.if-may_rescue.false in
     let body = ap (learning_reads rules r log) c.in-Reference.is ∙ ap (λ (b : Bool). if b then 0 else 9 + walk_visits (readings_of r) (from rules log c.in-Reference.name)) alone in
