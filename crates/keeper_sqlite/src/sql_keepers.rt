@@ -1,6 +1,6 @@
 //! The keeper over a database.
 
-ghost use Rattle.std.specs.Prelude.{◌≡◌, true, Some, IfOk};
+ghost use Rattle.std.specs.Prelude.{◌≡◌, ◌↔◌, true, pos, Some, Err, IfOk, IsErrOf, IsTrue};
 ghost use Rattle.std.specs.Option.{option_map, option_copied};
 ghost use Rattle.std.specs.FinMap.{get};
 ghost use Rattle.octets.specs.BytesMap.{entry_after};
@@ -11,6 +11,8 @@ ghost use Rattle.keeper_api.specs.Changes.{ref_value};
 ghost use Rattle.keeper_api.specs.Faults.{keeper_failed};
 ghost use Rattle.keeper_api.specs.Keepers.{Commits, Leaves};
 ghost use Rattle.sqlite.specs.Held.{state};
+ghost use Rattle.sqlite.specs.State.{HasCleanDisk};
+ghost use Rattle.keeper_sqlite.specs.Adopting.{HasNumber, IsReliable, TellsNumber};
 ghost use Rattle.keeper_sqlite.specs.Rows.{repository_in};
 ghost use Rattle.keeper_sqlite.specs.Tables.{store_schema};
 
@@ -188,15 +190,25 @@ impl<S: Alter + Drop> SqlKeeper<S> {
     ghost use Rattle.keeper_sqlite.specs.Keepers.{content_of, tells_left_of, left_of};
 
     /// The keeper over a database with the tables of the schema with number 1, which an empty one gets in one
-    /// transaction. `BadSchema` where the row `schema` has another number, 0 where there is no such row; `Failed` where
-    /// there are other tables and no such row can be looked for, where a transaction is open, or where a statement was
-    /// refused. It tells nothing where the tables are others. The rows are gone over twice.
+    /// transaction. First `Failed` where a transaction is open; then `BadSchema` where the row `schema` has another
+    /// number, 0 where there is no such row; `Failed` also where there are other tables and no such row can be looked
+    /// for, or where a statement was refused. It tells nothing where the tables are others. The rows are gone over
+    /// twice.
     pub fn adopt(alloc: Global, connection: Connection<S>) -> Result<SqlKeeper<S>, SqlFault>
         ensures counts { IfOk result (λ keeper. (keeper.faults ≡ 0) × (keeper.reads ≡ 0)) }
         ensures left { IfOk result (λ keeper. tells_left_of S.Store keeper ≡ true → (r : Repository)
             → left_of S.Store keeper r → content_of S.Store keeper ≡ Some r) }
         ensures held { IfOk result (λ keeper. connection.schema ≡ store_schema → (r : Repository)
             → content_of S.Store keeper ≡ Some r → r ≡ repository_in (state S.Store connection).committed.trees) }
+        ensures known { IfOk result (λ keeper. IsTrue keeper.known ↔ (keeper.conn.schema ≡ store_schema)) }
+        ensures tells { IfOk result (λ keeper. HasCleanDisk (state S.Store keeper.conn)
+            → connection.schema ≡ store_schema → IsTrue keeper.known) }
+        ensures number { IfOk result (λ keeper. HasCleanDisk (state S.Store keeper.conn)
+            → connection.schema ≡ store_schema → TellsNumber ((state S.Store connection).now.trees 4) (pos 1)) }
+        ensures refused { IsReliable S.Store → connection.schema ≡ store_schema
+            → HasNumber result ((state S.Store connection).now.trees 4) }
+        ensures other { IsErrOf result (SqlFault.BadSchema (pos 1)) → ⊥ }
+        ensures busy { connection.in_transaction ≡ true → result ≡ Err SqlFault.Failed }
     {
         let conn = checked(alloc, connection)?;
         let known = is_store_schema(conn.schema());
