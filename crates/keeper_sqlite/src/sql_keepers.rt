@@ -1,6 +1,6 @@
 //! The keeper over a database.
 
-ghost use Rattle.std.specs.Prelude.{◌≡◌, ◌↔◌, true, pos, Some, Err, IfOk, IsErrOf, IsTrue};
+ghost use Rattle.std.specs.Prelude.{◌≡◌, ◌↔◌, ◌⊎◌, true, false, pos, Some, Err, IfOk, IsErrOf, IsTrue};
 ghost use Rattle.std.specs.Option.{option_map, option_copied};
 ghost use Rattle.std.specs.FinMap.{get};
 ghost use Rattle.octets.specs.BytesMap.{entry_after};
@@ -13,6 +13,7 @@ ghost use Rattle.keeper_api.specs.Keepers.{Commits, Leaves};
 ghost use Rattle.sqlite.specs.Held.{state};
 ghost use Rattle.sqlite.specs.State.{HasCleanDisk};
 ghost use Rattle.keeper_sqlite.specs.Adopting.{HasNumber, IsReliable, TellsNumber};
+ghost use Rattle.keeper_sqlite.specs.Answering.{IsAnswered};
 ghost use Rattle.keeper_sqlite.specs.Rows.{repository_in};
 ghost use Rattle.keeper_sqlite.specs.Tables.{store_schema};
 
@@ -33,7 +34,8 @@ pub struct SqlKeeper<S: Alter> {
     conn: Connection<S>,
     // Whether the tables were found to be those of the schema.
     known: bool,
-    // Whether a commit has shut the database, so that a stop may leave the old or the new tables.
+    // Whether a commit failed after which the database answered no more, so that a stop may leave the old or the new
+    // tables. It does not go away: each later call is refused, and leaves all as it is.
     in_doubt: bool,
     faults: u64,
     reads: u64,
@@ -78,6 +80,7 @@ impl<S: Alter> SqlKeeper<S> {
     ) -> Result<Option<Object>, KeeperFault>
         ensures frame { self.new ≡ record self.old { conn = self.new.conn } }
         ensures same { LooksAt S.Store result self.old self.new }
+        ensures doubted { IsTrue self.old.in_doubt → IsErrOf result KeeperFault.Failed × (self.new ≡ self.old) }
         ensures answer { IfOk result (λ found. (r : Repository) → content_of S.Store self.new ≡ Some r → found ≡ get r.objects id.now) }
     {
         if self.in_doubt {
@@ -90,6 +93,7 @@ impl<S: Alter> SqlKeeper<S> {
     pub(crate) fn ref_at(&mut self, name: &RefName) -> Result<Option<ObjectId>, KeeperFault>
         ensures frame { self.new ≡ record self.old { conn = self.new.conn } }
         ensures same { LooksAt S.Store result self.old self.new }
+        ensures doubted { IsTrue self.old.in_doubt → IsErrOf result KeeperFault.Failed × (self.new ≡ self.old) }
         ensures answer { IfOk result (λ found. (r : Repository) → content_of S.Store self.new ≡ Some r → found ≡ get r.refs name.now) }
     {
         if self.in_doubt {
@@ -105,6 +109,7 @@ impl<S: Alter> SqlKeeper<S> {
     ) -> Result<Option<ObjectId>, KeeperFault>
         ensures frame { self.new ≡ record self.old { conn = self.new.conn } }
         ensures same { LooksAt S.Store result self.old self.new }
+        ensures doubted { IsTrue self.old.in_doubt → IsErrOf result KeeperFault.Failed × (self.new ≡ self.old) }
         ensures answer { IfOk result (λ found. (r : Repository) → content_of S.Store self.new ≡ Some r
             → found ≡ option_map (λ e. e.0) (entry_after r.objects (option_copied after.entry))) }
     {
@@ -122,6 +127,7 @@ impl<S: Alter> SqlKeeper<S> {
     ) -> Result<Option<RefValue>, KeeperFault>
         ensures frame { self.new ≡ record self.old { conn = self.new.conn } }
         ensures same { LooksAt S.Store result self.old self.new }
+        ensures doubted { IsTrue self.old.in_doubt → IsErrOf result KeeperFault.Failed × (self.new ≡ self.old) }
         ensures answer { IfOk result (λ found. (r : Repository) → content_of S.Store self.new ≡ Some r
             → found ≡ option_map ref_value (entry_after r.refs (option_copied after.entry))) }
     {
@@ -148,6 +154,10 @@ impl<S: Alter> SqlKeeper<S> {
         ensures counts { (self.new.faults ≡ self.old.faults) × (self.new.reads ≡ self.old.reads) }
         ensures content { Told (Commits change.now result) (content_of S.Store self.old) (content_of S.Store self.new) }
         ensures on { TellsAfterAt S.Store result self.old self.new }
+        ensures doubted { IsTrue self.old.in_doubt → IsErrOf result KeeperFault.Failed × (self.new ≡ self.old) }
+        ensures answered { IsAnswered result → self.new.in_doubt ≡ false }
+        ensures doubt { IsTrue self.new.in_doubt → HasCleanDisk (state S.Store self.new.conn)
+            → IsTrue self.old.in_doubt ⊎ IsTrue (state S.Store self.old.conn).is_open }
         ensures left { Leaves change.now result (content_of S.Store self.old) (tells_left_of S.Store self.old)
             (tells_left_of S.Store self.new) (left_of S.Store self.old) (left_of S.Store self.new) }
     {
