@@ -18,3 +18,4 @@ mod Trying
 mod Coming
 mod Comparing
 mod Reopening
+mod Numbering

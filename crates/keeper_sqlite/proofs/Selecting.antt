@@ -184,19 +184,19 @@ module _ (old new : State) (sql : List ℕ) (params : Row) where
   none_opens (inl (inr h)) = none_shown_opens h.0 _ _ h.2
   none_opens (inr h) = shown_opens h.1.0 _ [] _ h.1.2
 
-false_if : (b : Bool) → ¬ (b ≡ true) → b ≡ false
+pub false_if : (b : Bool) → ¬ (b ≡ true) → b ≡ false
 false_if true h = absurd (h refl)
 false_if false h = refl
 
 module _ (sql : List ℕ) (names : List (List ℕ)) (q : Query) (is : command_of (understood store_schema sql) ≡ Select (record { lets = []; body = q }) names)
-    (plain : IsPlain (understood store_schema sql)) (unlisted : reads_listing store_schema sql ≡ false) (old new : State) (key : List ℕ) (has : old.now.schema ≡ store_schema) where
-  some_answer : (row : Row) → QueriesRow sql (Blob key ∷ []) old new (Ok row) → (tail : List Row) × IsAnswer q (overlay old.now.trees []) (Blob key ∷ []) (row ∷ tail)
-  some_answer row h = let got = (first_as sql (Blob key ∷ []) old new store_schema has _ is plain unlisted row h).1 in (got.0, got.1 Null)
+    (plain : IsPlain (understood store_schema sql)) (unlisted : reads_listing store_schema sql ≡ false) (old new : State) (params : Row) (has : old.now.schema ≡ store_schema) where
+  pub some_answer : (row : Row) → QueriesRow sql params old new (Ok row) → (tail : List Row) × IsAnswer q (overlay old.now.trees []) params (row ∷ tail)
+  some_answer row h = let got = (first_as sql params old new store_schema has _ is plain unlisted row h).1 in (got.0, got.1 Null)
 
-  none_answer : QueriesRow sql (Blob key ∷ []) old new (Err QueryReturnedNoRows) → IsAnswer q (overlay old.now.trees []) (Blob key ∷ []) []
+  pub none_answer : QueriesRow sql params old new (Err QueryReturnedNoRows) → IsAnswer q (overlay old.now.trees []) params []
   none_answer h =
-      let shown = none_shown old new sql (Blob key ∷ []) (subst (λ s. IsPlain (understood s sql)) (sym has) plain) h in
-      (reads_as sql (Blob key ∷ []) old new store_schema has _ is plain unlisted [] shown).answer Null
+      let shown = none_shown old new sql params (subst (λ s. IsPlain (understood s sql)) (sym has) plain) h in
+      (reads_as sql params old new store_schema has _ is plain unlisted [] shown).answer Null
 
 -- by key
 module _ (tree : ℕ) (project : List Term) (key : List ℕ) (db : Trees) where
@@ -287,6 +287,10 @@ pub if_ok : {T E : Type 0} {P Q : T → Type 0} (r : Result T E) → ((x : T) �
 if_ok (Ok x) f p = f x p
 if_ok (Err e) f p = p
 
+pub if_ok_both : {T E : Type 0} {P Q R : T → Type 0} (r : Result T E) → ((x : T) → P x → Q x → R x) → IfOk r P → IfOk r Q → IfOk r R
+if_ok_both (Ok x) f p q = f x p q
+if_ok_both (Err e) f p q = p
+
 -- a selection commits nothing
 pub plain_survives : (sql : List ℕ) (params : Row) (old new : State) → IsPlain (understood old.now.schema sql) → Survives old new (CommitsShowing sql params old) → Survives old new (λ _. ⊥)
 plain_survives sql params old new plain s = record {
@@ -300,17 +304,17 @@ plain_survives sql params old new plain s = record {
 
 module _ (old new : State) (key : List ℕ) (has : old.now.schema ≡ store_schema) where
   pub object_selects : (found : Option Row) → Answers object_text key old new found → Selects (old.now.trees 0) key two_columns found
-  object_selects (Some row) h = let a = some_answer object_text _ _ object_is object_plain object_unlisted old new key has row h in selects_some 0 (col 1 2 ∷ col 1 3 ∷ []) key (overlay old.now.trees []) row a.0 a.1
-  object_selects None h = selects_none 0 (col 1 2 ∷ col 1 3 ∷ []) key (overlay old.now.trees []) (none_answer object_text _ _ object_is object_plain object_unlisted old new key has h)
+  object_selects (Some row) h = let a = some_answer object_text _ _ object_is object_plain object_unlisted old new (Blob key ∷ []) has row h in selects_some 0 (col 1 2 ∷ col 1 3 ∷ []) key (overlay old.now.trees []) row a.0 a.1
+  object_selects None h = selects_none 0 (col 1 2 ∷ col 1 3 ∷ []) key (overlay old.now.trees []) (none_answer object_text _ _ object_is object_plain object_unlisted old new (Blob key ∷ []) has h)
 
   pub ref_selects : (found : Option Row) → Answers ref_text key old new found → Selects (old.now.trees 2) key one_column found
-  ref_selects (Some row) h = let a = some_answer ref_text _ _ ref_is ref_plain ref_unlisted old new key has row h in selects_some 2 (col 1 2 ∷ []) key (overlay old.now.trees []) row a.0 a.1
-  ref_selects None h = selects_none 2 (col 1 2 ∷ []) key (overlay old.now.trees []) (none_answer ref_text _ _ ref_is ref_plain ref_unlisted old new key has h)
+  ref_selects (Some row) h = let a = some_answer ref_text _ _ ref_is ref_plain ref_unlisted old new (Blob key ∷ []) has row h in selects_some 2 (col 1 2 ∷ []) key (overlay old.now.trees []) row a.0 a.1
+  ref_selects None h = selects_none 2 (col 1 2 ∷ []) key (overlay old.now.trees []) (none_answer ref_text _ _ ref_is ref_plain ref_unlisted old new (Blob key ∷ []) has h)
 
   pub object_follows : (found : Option Row) → Answers next_object_text key old new found → Follows (old.now.trees 0) key key_and_column found
-  object_follows (Some row) h = let a = some_answer next_object_text _ _ next_object_is next_object_plain next_object_unlisted old new key has row h in let x = follows_some 0 (col 1 1 ∷ col 1 2 ∷ []) key (overlay old.now.trees []) row a.0 a.1 in (x.0, x.1, x.2, x.3.0, x.3.1)
-  object_follows None h = follows_none 0 (col 1 1 ∷ col 1 2 ∷ []) key (overlay old.now.trees []) (none_answer next_object_text _ _ next_object_is next_object_plain next_object_unlisted old new key has h)
+  object_follows (Some row) h = let a = some_answer next_object_text _ _ next_object_is next_object_plain next_object_unlisted old new (Blob key ∷ []) has row h in let x = follows_some 0 (col 1 1 ∷ col 1 2 ∷ []) key (overlay old.now.trees []) row a.0 a.1 in (x.0, x.1, x.2, x.3.0, x.3.1)
+  object_follows None h = follows_none 0 (col 1 1 ∷ col 1 2 ∷ []) key (overlay old.now.trees []) (none_answer next_object_text _ _ next_object_is next_object_plain next_object_unlisted old new (Blob key ∷ []) has h)
 
   pub ref_follows : (found : Option Row) → Answers next_ref_text key old new found → Follows (old.now.trees 2) key key_and_column found
-  ref_follows (Some row) h = let a = some_answer next_ref_text _ _ next_ref_is next_ref_plain next_ref_unlisted old new key has row h in let x = follows_some 2 (col 1 1 ∷ col 1 2 ∷ []) key (overlay old.now.trees []) row a.0 a.1 in (x.0, x.1, x.2, x.3.0, x.3.1)
-  ref_follows None h = follows_none 2 (col 1 1 ∷ col 1 2 ∷ []) key (overlay old.now.trees []) (none_answer next_ref_text _ _ next_ref_is next_ref_plain next_ref_unlisted old new key has h)
+  ref_follows (Some row) h = let a = some_answer next_ref_text _ _ next_ref_is next_ref_plain next_ref_unlisted old new (Blob key ∷ []) has row h in let x = follows_some 2 (col 1 1 ∷ col 1 2 ∷ []) key (overlay old.now.trees []) row a.0 a.1 in (x.0, x.1, x.2, x.3.0, x.3.1)
+  ref_follows None h = follows_none 2 (col 1 1 ∷ col 1 2 ∷ []) key (overlay old.now.trees []) (none_answer next_ref_text _ _ next_ref_is next_ref_plain next_ref_unlisted old new (Blob key ∷ []) has h)

@@ -1,6 +1,7 @@
 -- The tables of the database, and what their rows stand for.
 pub mod Tables
 pub mod Rows
+pub mod Faults
 pub mod States
 pub mod Answering
 pub mod Making

@@ -1,16 +1,18 @@
 //! A database, taken as a store.
 
-ghost use Rattle.std.specs.Prelude.{◌≡◌, false, IfOk, IsTrue};
+ghost use Rattle.std.specs.Prelude.{◌≡◌, ◌≢◌, ◌≤◌, ℤ, true, false, pos, [], codes, Ok, Err, IfErr, IfOk, IsErrOf, IsTrue};
 ghost use Rattle.sqlite.specs.Held.{state};
-ghost use Rattle.sqlite.specs.State.{HasCleanDisk};
-ghost use Rattle.keeper_sqlite.specs.Adopting.{AreShapedTables, IsReopened};
+ghost use Rattle.sqlite.specs.Order.{column};
+ghost use Rattle.sqlite.specs.State.{HasCleanDisk, QueriesRow};
+ghost use Rattle.sqlite_trees.specs.View.{doubt};
+ghost use Rattle.sqlite_value.specs.declared.value.Value.TheVariants.{Int};
+ghost use Rattle.keeper_sqlite.specs.Adopting.{AreShapedTables, HasNumber, IsReliable, IsReopened, IsUnnumbered, TellsNumber};
 ghost use Rattle.keeper_sqlite.specs.States.{IsSame};
 ghost use Rattle.keeper_sqlite.specs.Tables.{store_schema};
 
 use crate::schemas::is_empty;
 use crate::sql_faults::SqlFault;
 use sqlite::{Alter, Connection, Error, Row};
-use sqlite_value::value::ValueRef;
 use std::alloc::Global;
 
 // The number of the schema.
@@ -37,6 +39,8 @@ fn expect_tables<S: Alter>(conn: &mut Connection<S>) -> Result<(), SqlFault>
     requires idle { conn.old.in_transaction ≡ false }
     ensures idle { conn.new.in_transaction ≡ false }
     ensures kept { conn.old.schema ≡ store_schema → conn.new ≡ conn.old }
+    ensures taken { conn.old.schema ≡ store_schema → IfErr result (λ _. ⊥) }
+    ensures unnumbered { IfErr result IsUnnumbered }
 {
     if !is_empty(conn.schema()) {
         return Ok(());
@@ -51,9 +55,18 @@ fn schema_row<S: Alter>(conn: &mut Connection<S>) -> Result<Row, Error>
     ensures was_open { IsTrue (state S.Store conn.new).is_open → IsTrue (state S.Store conn.old).is_open }
     ensures same { IsTrue (state S.Store conn.new).is_open → conn.old.schema ≡ store_schema
         → IsSame (state S.Store conn.old) (state S.Store conn.new) }
+    ensures row { HasCleanDisk (state S.Store conn.new) → QueriesRow (codes "SELECT value FROM facts WHERE name = 'schema'") []
+        (state S.Store conn.old) (state S.Store conn.new) result }
+    ensures clean { doubt (state S.Store conn.old).is_clean ≤ doubt (state S.Store conn.new).is_clean }
 {
     let _ = conn.is_autocommit();
     conn.query_row("SELECT value FROM facts WHERE name = 'schema'", &[])
+}
+
+fn number_in(row: &Row) -> Result<i64, Error>
+    ensures { IfOk result (λ number. column row.now 0 ≡ Int number) }
+{
+    row.get(0)
 }
 
 // The number in the row `schema`, or 0 where there is no such row.
@@ -63,15 +76,19 @@ fn schema_number<S: Alter>(conn: &mut Connection<S>) -> Result<i64, SqlFault>
     ensures was_open { IsTrue (state S.Store conn.new).is_open → IsTrue (state S.Store conn.old).is_open }
     ensures same { IsTrue (state S.Store conn.new).is_open → conn.old.schema ≡ store_schema
         → IsSame (state S.Store conn.old) (state S.Store conn.new) }
+    ensures number { HasCleanDisk (state S.Store conn.new) → conn.old.schema ≡ store_schema
+        → IfOk result (TellsNumber ((state S.Store conn.old).now.trees 4)) }
+    ensures clean { doubt (state S.Store conn.old).is_clean ≤ doubt (state S.Store conn.new).is_clean }
+    ensures unnumbered { IfErr result IsUnnumbered }
 {
     let row = match schema_row(conn) {
         Ok(row) => row,
         Err(Error::QueryReturnedNoRows) => return Ok(0),
         Err(error) => return Err(SqlFault::from(error)),
     };
-    match row.get_ref(0) {
-        Ok(ValueRef::Int(number)) => Ok(number),
-        _ => Err(SqlFault::Failed),
+    match number_in(&row) {
+        Ok(number) => Ok(number),
+        Err(error) => Err(SqlFault::from(error)),
     }
 }
 
@@ -81,6 +98,10 @@ fn expect_number<S: Alter>(conn: &mut Connection<S>) -> Result<(), SqlFault>
     ensures was_open { IsTrue (state S.Store conn.new).is_open → IsTrue (state S.Store conn.old).is_open }
     ensures same { IsTrue (state S.Store conn.new).is_open → conn.old.schema ≡ store_schema
         → IsSame (state S.Store conn.old) (state S.Store conn.new) }
+    ensures number { HasCleanDisk (state S.Store conn.new) → conn.old.schema ≡ store_schema
+        → HasNumber result ((state S.Store conn.old).now.trees 4) }
+    ensures clean { doubt (state S.Store conn.old).is_clean ≤ doubt (state S.Store conn.new).is_clean }
+    ensures other { IsErrOf result (SqlFault.BadSchema (pos 1)) → ⊥ }
 {
     let found = schema_number(conn)?;
     if found == NUMBER {
@@ -99,7 +120,13 @@ fn reopened<S: Alter + Drop>(
     ensures idle { IfOk result (λ conn. conn.in_transaction ≡ false) }
     ensures again { IfOk result (λ conn. HasCleanDisk (state S.Store conn)
         → IsReopened (state S.Store connection) (state S.Store conn)) }
+    ensures schema { IfOk result (λ conn. HasCleanDisk (state S.Store conn) → connection.in_transaction ≡ false
+        → conn.schema ≡ connection.schema) }
+    ensures clean { IfOk result (λ conn. doubt (state S.Store connection).is_clean ≤ doubt (state S.Store conn).is_clean) }
+    ensures unnumbered { IfErr result IsUnnumbered }
 {
+    let _ = connection.schema();
+    let _ = connection.is_autocommit();
     let store = connection.into_store();
     if store.is_broken() {
         return Err(SqlFault::Failed);
@@ -121,6 +148,14 @@ pub(crate) fn checked<S: Alter + Drop>(
         → AreShapedTables (state S.Store conn).now) }
     ensures kept { IfOk result (λ conn. HasCleanDisk (state S.Store conn) → connection.schema ≡ store_schema
         → (state S.Store conn).committed.trees ≡ (state S.Store connection).committed.trees) }
+    ensures schema { IfOk result (λ conn. HasCleanDisk (state S.Store conn) → connection.schema ≡ store_schema
+        → conn.schema ≡ store_schema) }
+    ensures number { IfOk result (λ conn. HasCleanDisk (state S.Store conn) → connection.schema ≡ store_schema
+        → TellsNumber ((state S.Store connection).now.trees 4) (pos 1)) }
+    ensures refused { IsReliable S.Store → connection.schema ≡ store_schema
+        → HasNumber result ((state S.Store connection).now.trees 4) }
+    ensures other { IsErrOf result (SqlFault.BadSchema (pos 1)) → ⊥ }
+    ensures busy { connection.in_transaction ≡ true → result ≡ Err SqlFault.Failed }
 {
     let mut conn = connection;
     if !conn.is_autocommit() {

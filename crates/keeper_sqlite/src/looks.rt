@@ -1,6 +1,6 @@
 //! What is read of the store.
 
-ghost use Rattle.std.specs.Prelude.{◌≡◌, ◌≤◌, false, IfOk, IsTrue};
+ghost use Rattle.std.specs.Prelude.{◌≡◌, ◌≤◌, ◌↔◌, false, IfOk, IsTrue};
 ghost use Rattle.std.specs.Option.{option_map, option_copied};
 ghost use Rattle.std.specs.FinMap.{get};
 ghost use Rattle.sqlite.specs.Held.{state};
@@ -20,7 +20,11 @@ use keeper_api::{KeeperFault, RefValue};
 use sqlite::{Alter, Connection};
 use std::alloc::Global;
 
-fn row_fault(fault: RowFault) -> KeeperFault {
+// A row that stands for nothing is a failure of the database.
+fn row_fault(fault: RowFault) -> KeeperFault
+    ensures nothing { (result ≡ KeeperFault.Failed) ↔ (fault ≡ RowFault.Nothing) }
+    ensures memory { (result ≡ KeeperFault.Memory) ↔ (fault ≡ RowFault.Memory) }
+{
     match fault {
         RowFault::Nothing => KeeperFault::Failed,
         RowFault::Memory => KeeperFault::Memory,

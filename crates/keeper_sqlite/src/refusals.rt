@@ -1,9 +1,10 @@
 //! How a refusal of the database is answered.
 
-ghost use Rattle.std.specs.Prelude.{◌≡◌, false, IsTrue};
+ghost use Rattle.std.specs.Prelude.{◌≡◌, false, if◌then◌else◌, IsTrue};
 ghost use Rattle.sqlite.specs.Held.{state};
 ghost use Rattle.sqlite.specs.State.{HasCleanDisk, Survives};
 ghost use Rattle.keeper_sqlite.specs.Answering.{MayGoOn};
+ghost use Rattle.keeper_sqlite.specs.Faults.{wants_memory};
 ghost use Rattle.keeper_sqlite.specs.States.{IsSame};
 
 use keeper_api::KeeperFault;
@@ -26,7 +27,9 @@ pub fn is_alive<S: Alter>(conn: &mut Connection<S>) -> bool
 }
 
 /// What a refusal is: want of memory, or a failure.
-pub fn fault_of(error: Error) -> KeeperFault {
+pub fn fault_of(error: Error) -> KeeperFault
+    ensures { result ≡ (if wants_memory error then KeeperFault.Memory else KeeperFault.Failed) }
+{
     match error {
         Error::SqliteFailure(ErrorCode::OutOfMemory) => KeeperFault::Memory,
         _ => KeeperFault::Failed,
@@ -39,6 +42,7 @@ pub fn refusal<S: Alter>(conn: &mut Connection<S>, error: Error) -> KeeperFault
     ensures idle { conn.new.in_transaction ≡ false }
     ensures was_open { IsTrue (state S.Store conn.new).is_open → IsTrue (state S.Store conn.old).is_open }
     ensures same { IsTrue (state S.Store conn.new).is_open → IsSame (state S.Store conn.old) (state S.Store conn.new) }
+    ensures cause { result ≡ KeeperFault.Memory → IsTrue (wants_memory error) }
     ensures answered { HasCleanDisk (state S.Store conn.new) → MayGoOn result
         → IsTrue (state S.Store conn.new).is_open }
     ensures survives { Survives (state S.Store conn.old) (state S.Store conn.new) (λ _. ⊥) }

@@ -1,5 +1,8 @@
 //! Why a database is not taken as a store.
 
+ghost use Rattle.std.specs.Prelude.{◌≡◌, if◌then◌else◌};
+ghost use Rattle.keeper_sqlite.specs.Faults.{wants_memory};
+
 use sqlite::{Error, ErrorCode};
 
 /// Why a database is not taken as a store.
@@ -13,6 +16,10 @@ pub enum SqlFault {
 }
 
 impl From<Error> for SqlFault {
+    ghost use Rattle.keeper_sqlite.specs.declared.sql_faults.SqlFault.TheVariants as fault;
+
+    ghost from_gives = { λ error f. f ≡ (if wants_memory error then fault.Memory else fault.Failed) };
+
     fn from(error: Error) -> SqlFault {
         match error {
             Error::SqliteFailure(ErrorCode::OutOfMemory) => SqlFault::Memory,

@@ -1,6 +1,6 @@
 //! The keeper over a database.
 
-ghost use Rattle.std.specs.Prelude.{◌≡◌, true, Some, IfOk};
+ghost use Rattle.std.specs.Prelude.{◌≡◌, ◌↔◌, ◌⊎◌, true, false, pos, Some, Err, IfOk, IsErrOf, IsTrue};
 ghost use Rattle.std.specs.Option.{option_map, option_copied};
 ghost use Rattle.std.specs.FinMap.{get};
 ghost use Rattle.octets.specs.BytesMap.{entry_after};
@@ -11,6 +11,9 @@ ghost use Rattle.keeper_api.specs.Changes.{ref_value};
 ghost use Rattle.keeper_api.specs.Faults.{keeper_failed};
 ghost use Rattle.keeper_api.specs.Keepers.{Commits, Leaves};
 ghost use Rattle.sqlite.specs.Held.{state};
+ghost use Rattle.sqlite.specs.State.{HasCleanDisk};
+ghost use Rattle.keeper_sqlite.specs.Adopting.{HasNumber, IsReliable, TellsNumber};
+ghost use Rattle.keeper_sqlite.specs.Answering.{IsAnswered};
 ghost use Rattle.keeper_sqlite.specs.Rows.{repository_in};
 ghost use Rattle.keeper_sqlite.specs.Tables.{store_schema};
 
@@ -31,7 +34,8 @@ pub struct SqlKeeper<S: Alter> {
     conn: Connection<S>,
     // Whether the tables were found to be those of the schema.
     known: bool,
-    // Whether a commit has shut the database, so that a stop may leave the old or the new tables.
+    // Whether a commit failed after which the database answered no more, so that a stop may leave the old or the new
+    // tables. It does not go away: each later call is refused, and leaves all as it is.
     in_doubt: bool,
     faults: u64,
     reads: u64,
@@ -76,6 +80,7 @@ impl<S: Alter> SqlKeeper<S> {
     ) -> Result<Option<Object>, KeeperFault>
         ensures frame { self.new ≡ record self.old { conn = self.new.conn } }
         ensures same { LooksAt S.Store result self.old self.new }
+        ensures doubted { IsTrue self.old.in_doubt → IsErrOf result KeeperFault.Failed × (self.new ≡ self.old) }
         ensures answer { IfOk result (λ found. (r : Repository) → content_of S.Store self.new ≡ Some r → found ≡ get r.objects id.now) }
     {
         if self.in_doubt {
@@ -88,6 +93,7 @@ impl<S: Alter> SqlKeeper<S> {
     pub(crate) fn ref_at(&mut self, name: &RefName) -> Result<Option<ObjectId>, KeeperFault>
         ensures frame { self.new ≡ record self.old { conn = self.new.conn } }
         ensures same { LooksAt S.Store result self.old self.new }
+        ensures doubted { IsTrue self.old.in_doubt → IsErrOf result KeeperFault.Failed × (self.new ≡ self.old) }
         ensures answer { IfOk result (λ found. (r : Repository) → content_of S.Store self.new ≡ Some r → found ≡ get r.refs name.now) }
     {
         if self.in_doubt {
@@ -103,6 +109,7 @@ impl<S: Alter> SqlKeeper<S> {
     ) -> Result<Option<ObjectId>, KeeperFault>
         ensures frame { self.new ≡ record self.old { conn = self.new.conn } }
         ensures same { LooksAt S.Store result self.old self.new }
+        ensures doubted { IsTrue self.old.in_doubt → IsErrOf result KeeperFault.Failed × (self.new ≡ self.old) }
         ensures answer { IfOk result (λ found. (r : Repository) → content_of S.Store self.new ≡ Some r
             → found ≡ option_map (λ e. e.0) (entry_after r.objects (option_copied after.entry))) }
     {
@@ -120,6 +127,7 @@ impl<S: Alter> SqlKeeper<S> {
     ) -> Result<Option<RefValue>, KeeperFault>
         ensures frame { self.new ≡ record self.old { conn = self.new.conn } }
         ensures same { LooksAt S.Store result self.old self.new }
+        ensures doubted { IsTrue self.old.in_doubt → IsErrOf result KeeperFault.Failed × (self.new ≡ self.old) }
         ensures answer { IfOk result (λ found. (r : Repository) → content_of S.Store self.new ≡ Some r
             → found ≡ option_map ref_value (entry_after r.refs (option_copied after.entry))) }
     {
@@ -146,6 +154,10 @@ impl<S: Alter> SqlKeeper<S> {
         ensures counts { (self.new.faults ≡ self.old.faults) × (self.new.reads ≡ self.old.reads) }
         ensures content { Told (Commits change.now result) (content_of S.Store self.old) (content_of S.Store self.new) }
         ensures on { TellsAfterAt S.Store result self.old self.new }
+        ensures doubted { IsTrue self.old.in_doubt → IsErrOf result KeeperFault.Failed × (self.new ≡ self.old) }
+        ensures answered { IsAnswered result → self.new.in_doubt ≡ false }
+        ensures doubt { IsTrue self.new.in_doubt → HasCleanDisk (state S.Store self.new.conn)
+            → IsTrue self.old.in_doubt ⊎ IsTrue (state S.Store self.old.conn).is_open }
         ensures left { Leaves change.now result (content_of S.Store self.old) (tells_left_of S.Store self.old)
             (tells_left_of S.Store self.new) (left_of S.Store self.old) (left_of S.Store self.new) }
     {
@@ -188,15 +200,25 @@ impl<S: Alter + Drop> SqlKeeper<S> {
     ghost use Rattle.keeper_sqlite.specs.Keepers.{content_of, tells_left_of, left_of};
 
     /// The keeper over a database with the tables of the schema with number 1, which an empty one gets in one
-    /// transaction. `BadSchema` where the row `schema` has another number, 0 where there is no such row; `Failed` where
-    /// there are other tables and no such row can be looked for, where a transaction is open, or where a statement was
-    /// refused. It tells nothing where the tables are others. The rows are gone over twice.
+    /// transaction. First `Failed` where a transaction is open; then `BadSchema` where the row `schema` has another
+    /// number, 0 where there is no such row; `Failed` also where there are other tables and no such row can be looked
+    /// for, or where a statement was refused. It tells nothing where the tables are others. The rows are gone over
+    /// twice.
     pub fn adopt(alloc: Global, connection: Connection<S>) -> Result<SqlKeeper<S>, SqlFault>
         ensures counts { IfOk result (λ keeper. (keeper.faults ≡ 0) × (keeper.reads ≡ 0)) }
         ensures left { IfOk result (λ keeper. tells_left_of S.Store keeper ≡ true → (r : Repository)
             → left_of S.Store keeper r → content_of S.Store keeper ≡ Some r) }
         ensures held { IfOk result (λ keeper. connection.schema ≡ store_schema → (r : Repository)
             → content_of S.Store keeper ≡ Some r → r ≡ repository_in (state S.Store connection).committed.trees) }
+        ensures known { IfOk result (λ keeper. IsTrue keeper.known ↔ (keeper.conn.schema ≡ store_schema)) }
+        ensures tells { IfOk result (λ keeper. HasCleanDisk (state S.Store keeper.conn)
+            → connection.schema ≡ store_schema → IsTrue keeper.known) }
+        ensures number { IfOk result (λ keeper. HasCleanDisk (state S.Store keeper.conn)
+            → connection.schema ≡ store_schema → TellsNumber ((state S.Store connection).now.trees 4) (pos 1)) }
+        ensures refused { IsReliable S.Store → connection.schema ≡ store_schema
+            → HasNumber result ((state S.Store connection).now.trees 4) }
+        ensures other { IsErrOf result (SqlFault.BadSchema (pos 1)) → ⊥ }
+        ensures busy { connection.in_transaction ≡ true → result ≡ Err SqlFault.Failed }
     {
         let conn = checked(alloc, connection)?;
         let known = is_store_schema(conn.schema());

@@ -1,6 +1,10 @@
-use Rattle.std.proofs.Common.{◌≡◌, false, IsTrue, sym, ◌∙◌, rules, arith}
-use Rattle.sqlite.specs.Effect.{IsDatabase}
+use Rattle.std.proofs.Common.{◌≡◌, false, not, IsTrue, ap, sym, subst, ◌∙◌, rules, arith}
+use Rattle.sqlite.specs.Effect.{Database, IsDatabase}
 use Rattle.sqlite.specs.Held.{state}
+use Rattle.sqlite.specs.Tree.{Trees}
+use Rattle.sqlite_catalog.proofs.ReadLemmas.{lists_once}
+use Rattle.sqlite_catalog.specs.Listing.{Lists}
+use Rattle.sqlite_trees.specs.Objects.{catalog_tree}
 use Rattle.sqlite_trees.specs.View.{IsClean}
 use Rattle.keeper_sqlite.proofs.Reopening.{fresh_if, open_if, shaped_by}
 use Rattle.keeper_sqlite.proofs.adopting.reopened.Goals as goal
@@ -29,3 +33,10 @@ returns-in-Ok-clause-again g c = λ clean_now.
       sound = sound;
       shaped = shaped_by v (state g.S.Store c.in-Ok.conn).now (g.met.S.Alter.listed c.into_store-store.result whole) (g.met.S.Store.ordered c.into_store-store.result whole) sound trees;
     }
+
+pub returns-in-Ok-clause-schema : goal.returns-in-Ok-clause-schema
+returns-in-Ok-clause-schema g c = λ clean_now idle.
+    let it = returns-in-Ok-clause-again g c clean_now in
+    let sound : IsDatabase (state g.S.Store c.args.connection).now = (c.schema.ensures.live it.was_open).0 in
+    let settled = c.is_autocommit.ensures.settled (c.is_autocommit.ensures.value ∙ ap not idle) it.was_open in
+    lists_once _ _ _ it.sound.lists (subst (λ (t : Trees). Lists (t catalog_tree) c.args.connection.schema) (sym (it.trees ∙ sym (ap (λ (d : Database). d.trees) settled))) sound.lists)

@@ -4,5 +4,7 @@ use Rattle.keeper_sqlite.proofs.Comparing.{two_items}
 use Rattle.keeper_sqlite.proofs.table_columns.are_refs_columns.Goals as goal
 
 pub returns : goal.returns
-returns c = (λ is. two_items c.args.columns.now _ _ (search rules) (c.is_column_at.ensures.0 (search rules)) (c.is_column_at-2.ensures.0 is),
-    λ same. c.is_column_at-2.ensures.1 (ap (λ xs. slice_get xs 1) same))
+returns c = (
+  λ is. two_items c.args.columns.now _ _ (search rules) (c.is_column_at.ensures.0 (search rules)) (c.is_column_at-2.ensures.0 is),
+  λ same. c.is_column_at-2.ensures.1 (ap (λ xs. slice_get xs 1) same),
+)

@@ -22,3 +22,6 @@ invariant_of-result g c = record {
       let clean = clean_if_open _ _ (g.met.S.Store.shut_if_dirty c.in_ok-conn.conn.store) o in
       store_by (state g.S.Store c.in_ok-conn.conn).now (sym c.schema.ensures.value ∙ c.is_store_schema-known.ensures.0 known) (c.schema.ensures.live o).0 (c.in_ok-conn.ensures.shaped clean);
 }
+
+pub returns-clause-tells : goal.returns-clause-tells
+returns-clause-tells g c = λ clean has. c.is_store_schema-known.ensures.1 (c.schema.ensures.value ∙ c.in_ok-conn.ensures.schema clean has)
