@@ -1,5 +1,5 @@
 -- A log of which the entries from a number on were judged, with one entry more.
-use Rattle.std.proofs.Common.{◌≡◌, ◌<◌, ◌≤◌, ◌+◌, ◌-◌, ◌&&◌, ◌++◌, ℕ, suc, zero, Bool, true, false, cond, is_none, List, [], ◌∷◌, Option, Some, None, length, refl, ap, sym, subst, ◌∙◌, inl, inr, arith}
+use Rattle.std.proofs.Common.{◌≡◌, ◌<◌, ◌≤◌, ◌+◌, ◌-◌, ◌&&◌, ◌++◌, ℕ, suc, zero, Bool, cond, is_none, List, [], ◌∷◌, Option, Some, None, length, refl, ap, sym, subst, ◌∙◌, inl, inr, arith}
 use Rattle.std.specs.List.{slice_get}
 use Rattle.std.proofs.lemmas.Bool.{cases_Bool, cases_eq}
 use Rattle.std.proofs.lemmas.List.{length_push}
@@ -9,7 +9,6 @@ use Rattle.rsl_chain.specs.Entries.{Taken, is_of}
 use Rattle.judging.specs.Engines.{IsTaken, Stands, taken}
 use Rattle.judging.specs.Logs.{before, entry_at, fault_of}
 use Rattle.judging.specs.Rules.{Rules}
-use Rattle.judging.specs.Verdicts.{verdict_of}
 use Rattle.judging.specs.declared.verdicts.EntryVerdict.{EntryVerdict}
 use Rattle.judging.proofs.Appends.{before_new, before_old, entry_new, entry_old}
 use Rattle.judging.proofs.Takes.{attested_push}
