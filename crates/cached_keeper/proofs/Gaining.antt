@@ -42,13 +42,6 @@ module _ (before after : CachedObjects) (its_id : List ℕ) (its : Pair) where
   cache_gains room less same gains id pair (inr there) =
       inl (less id pair (inr (ap (λ (m : tree.BTreeMap (List ℕ) Pair). tree.get by_bytes m id) (sym same) ∙ there)))
 
-  -- what was there already is no gain
-  pub gains_none : IsCached before its_id its → GainsOnly before after its_id its → IsNoMore before after
-  gains_none had gains id pair there = elim (gains id pair there) [
-    | inl before ↦ before
-    | inr is ↦ subst (λ (i : List ℕ). IsCached before i pair) (sym is.0) (subst (λ (p : Pair). IsCached before its_id p) (sym is.1) had)
-  ]
-
   -- what it gained was read from the repository
   pub stands_more : (was now : Option Repository) (found : Option Pair) → StandsIn before was → Stays was now → GainsOnly before after its_id its
       → found ≡ Some its → ((r : Repository) → now ≡ Some r → found ≡ get r.objects its_id) → StandsIn after now
@@ -56,10 +49,6 @@ module _ (before after : CachedObjects) (its_id : List ℕ) (its : Pair) where
     | inl had ↦ stands r (stays r told) id pair had
     | inr same ↦ ap (get r.objects) same.0 ∙ sym (read r told) ∙ is ∙ ap Some (sym same.1)
   ]
-
--- with no gain, and the same held
-pub stands_on : (before after : CachedObjects) (was now : Option Repository) → StandsIn before was → Stays was now → IsNoMore before after → StandsIn after now
-stands_on before after was now stands stays less r told id pair there = stands r (stays r told) id pair (less id pair there)
 
 -- a cache before a store that holds the same
 pub cache_on : (cached : CachedObjects) (was now : Option Repository) → IsCache cached was → Stays was now → IsCache cached now

@@ -40,7 +40,8 @@ weight_of pair = length pair.body + 256
 abbrev pub weight_in : tree.BTreeMap (List ℕ) Pair → ℕ
 weight_in objects = sum_by (λ e. weight_of e.1) objects.entries
 
--- each generation weighs at most 32 MiB, and the recent one with so many bytes more is within what is kept of its weight
+-- each generation weighs at most 32 MiB, and the recent one with so many bytes more is within what is kept of its
+-- weight
 pub record HasRoom (cached : CachedObjects) (room : ℕ) : Type 0 where
   pub recent : weight_in cached.recent + room ≤ cached.weight
   pub weight : cached.weight ≤ 2 ^ 25

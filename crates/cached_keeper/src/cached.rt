@@ -66,7 +66,7 @@ impl<R: Keeper> Keeper for CachedKeeper<R> {
     ghost comes = { λ a b. R.comes a.0 b.0 };
 
     fn read_object(&mut self, alloc: Global, id: &ObjectId) -> Result<Option<Object>, KeeperFault> {
-        if let Some(object) = self.cached.find(alloc, id) {
+        if let Some(object) = self.cached.find(id) {
             self.answered = self.answered.saturating_add(1);
             return Ok(Some(object));
         }

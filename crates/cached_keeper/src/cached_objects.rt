@@ -109,18 +109,13 @@ impl CachedObjects {
         }
     }
 
-    /// A copy of the object that is kept under an id; None also where memory is wanting. One of the earlier generation
-    /// is kept in the recent one from then on.
-    pub(crate) fn find(&mut self, alloc: Global, id: &ObjectId) -> Option<Object>
-        ensures found { IfSome result (IsCached self.old id.now) }
-        ensures same { IsNoMore self.old self.new }
-        ensures within { IsWithin self.old → IsWithin self.new }
+    /// A copy of the object that is kept under an id; None also where memory is wanting.
+    pub(crate) fn find(&self, id: &ObjectId) -> Option<Object>
+        ensures { IfSome result (IsCached self.now id.now) }
     {
-        if let Some(object) = copy_at(&self.recent, id) {
-            return Some(object);
+        match copy_at(&self.recent, id) {
+            Some(object) => Some(object),
+            None => copy_at(&self.earlier, id),
         }
-        let object = copy_at(&self.earlier, id)?;
-        self.keep(alloc, id, &object);
-        Some(object)
     }
 }

@@ -94,7 +94,6 @@ def verdicts(work, words, root, account):
     asked, rows, bad, worst = types.SimpleNamespace(branches=[], remote=words.remote), [], [], 0
     meant = verifying.meant_by(work, asked)
     asking.ahead(work, [verifying.asked_for(work, it, root) for it in meant])
-    verifying.ask_for_rules(work, [it.name for it in meant])
     for it in meant:
         status, printed = verifying.verdict(work, it, root)
         line = os.fsdecode(printed).strip()
