@@ -143,7 +143,7 @@ impl LaterEngine {
         }
     }
 
-    /// Takes the next entry. After a refusal the engine followed what it followed before.
+    /// Takes the next entry.
     pub(crate) fn extend<R: Keeper>(
         &mut self,
         alloc: Global,

@@ -5,9 +5,8 @@ use Rattle.std.proofs.lemmas.Bool.{false≢true}
 use Rattle.git_object.specs.Ids.{zeros}
 use Rattle.git_object.specs.declared.kinds.Kind.{Kind}
 use Rattle.tree_paths.specs.Readings.{Heads, Readings}
-use Rattle.tree_paths.specs.States.{Ended, ended, ended_by, is_sound, may_be_commit, may_be_tag, peel_step, peeled, root_of, walk_of}
+use Rattle.tree_paths.specs.States.{ended, ended_by, is_sound, may_be_tag, peel_step, peeled, root_of, walk_of}
 use Rattle.tree_paths.specs.Walks.{judge, no_counts, steps}
-use Rattle.tree_paths.specs.declared.counts.Counts.{Counts}
 use Rattle.tree_paths.specs.declared.counts.Walked.{Walked}
 use Rattle.tree_paths.specs.declared.counts.Walked.TheVariants as walked
 use Rattle.tree_paths.specs.declared.heads.TargetHead.{TargetHead}

@@ -1,5 +1,5 @@
 -- What is known of trees: what the walk of each adds, wherever the limits have room for it.
-use Rattle.std.specs.Prelude.{◌≡◌, ◌≤◌, ℕ, List, Some, IsSome, length, min}
+use Rattle.std.specs.Prelude.{◌≡◌, ◌≤◌, ℕ, List, Some, IfSome, IsSome, length, min}
 use Rattle.std.specs.BTreeMap as tree
 use Rattle.std.specs.BTreeMap.{btree_map_len}
 use Rattle.octets.specs.BytesMap.{by_bytes}
@@ -11,11 +11,14 @@ use Rattle.tree_paths.specs.declared.known_trees.KnownTree.{KnownTree}
 use Rattle.tree_paths.specs.declared.known_trees.KnownTrees.{KnownTrees}
 
 -- at each place of so many bytes (of 8,192, where it has more), the walk of the tree of this id with so many levels
--- left
--- adds this
-abbrev pub IsKnown : Trees → List ℕ → KnownTree → Type 0
-IsKnown trees id row = (front : List ℕ) → row.len ≡ min (length front) 8192
-    → Adds trees (steps trees row.left front id) row.adds
+-- left adds this, and the tree has the entries that are kept of it
+pub record HoldsOf (trees : Trees) (id : List ℕ) (row : KnownTree) : Type 0 where
+  pub adds : (front : List ℕ) → row.len ≡ min (length front) 8192 → Adds trees (steps trees row.left front id) row.adds
+  pub entries : IfSome row.entries (λ entries. trees id ≡ Some entries)
+
+-- it stands closed, so that what is known is handed on as one fact
+unfoldable pub IsKnown : Trees → List ℕ → KnownTree → Type 0
+IsKnown trees id row = HoldsOf trees id row
 
 abbrev pub AreKnown : Trees → KnownTrees → Type 0
 AreKnown trees known = (id : List ℕ) (row : KnownTree) → tree.get by_bytes known.rows id ≡ Some row

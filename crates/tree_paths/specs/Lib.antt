@@ -24,6 +24,8 @@ pub mod Blobs
 -- What steps add to counts, and what is known of trees.
 pub mod Adding
 pub mod Known
+-- the entries of trees that are known or read
+pub mod Opening
 -- What is read in larger repositories.
 pub mod Growing
 -- Where a target is broken, read aloud.

@@ -21,6 +21,7 @@ use crate::heads::Peeled;
 use crate::known_trees::KnownTrees;
 use crate::object_reads::open_tree;
 use crate::peeled_targets::root_of;
+use crate::read_trees::ReadTree;
 use git_object::{ObjectId, TreeEntry};
 use keeper_api::{Keeper, KeeperFault};
 use std::alloc::Global;
@@ -107,7 +108,7 @@ fn learn_tree<R: Keeper>(
         adds = sum;
         rest = more;
     }
-    known.keep(id, left, len, adds);
+    known.keep(id, left, len, adds, ReadTree::new(entries));
     Ok(Some(adds))
 }
 

@@ -2,6 +2,7 @@
 
 ghost use Rattle.std.specs.Prelude.{◌≡◌, ◌≤◌, ◌+◌, ◌*◌, ℕ, List, None, Some, if◌then◌else◌, length, min, IfSome, OnErr};
 ghost use Rattle.std.specs.Prelude.{OnOk};
+ghost use Rattle.std.specs.Option.{option_copied};
 ghost use Rattle.std.specs.BTreeMap as tree;
 ghost use Rattle.std.specs.BTreeMap.{btree_map_len};
 ghost use Rattle.std.specs.Ordering.{is_eq};
@@ -16,6 +17,7 @@ ghost use Rattle.tree_paths.specs.declared.paired_counts.Paired.TheVariants as p
 
 use crate::counts::{Counts, add_counts};
 use crate::paired_counts::PairCounts;
+use crate::read_trees::ReadTree;
 use git_object::{Memory, ObjectId};
 use std::alloc::Global;
 use std::collections::BTreeMap;
@@ -26,20 +28,36 @@ const SPARE_TREES: usize = 4096;
 /// The most trees of which something is kept.
 const MOST_TREES: usize = 65_536;
 
-/// What the walk of a tree adds, with so many levels left, at a place of so many bytes (of 8,192, where it has more).
-#[derive(Clone, Copy)]
+/// The most entries of trees that are kept.
+const MOST_ENTRIES: usize = 131_072;
+
+/// What the walk of a tree adds, with so many levels left, at a place of so many bytes (of 8,192, where it has more),
+/// and the entries of the tree, where there was room for them.
+#[derive(Drop)]
 pub(crate) struct KnownTree {
     pub(crate) left: u32,
     pub(crate) len: usize,
     pub(crate) adds: Counts,
+    pub(crate) entries: Option<ReadTree>,
 }
 
-/// What the walk of each of some trees of a repository adds to the counts of a state, of at most 65,536 trees. It is
-/// good for the repository from which it was learned, and for each larger one.
+/// What the walk of each of some trees of a repository adds to the counts of a state, of at most 65,536 trees, and the
+/// entries of some of them. It is good for the repository from which it was learned, and for each larger one.
 #[derive(Drop)]
 pub struct KnownTrees {
     pub(crate) rows: BTreeMap<ObjectId, KnownTree>,
     most: usize,
+    entries: usize,
+}
+
+// A tree whose entries are kept, where so many are kept already; None where there is no room for them.
+fn within_room(kept: usize, tree: ReadTree) -> Option<ReadTree>
+    ensures { IfSome result (λ entries. entries ≡ tree) }
+{
+    if kept > MOST_ENTRIES || tree.as_slice().len() > MOST_ENTRIES - kept {
+        return None;
+    }
+    Some(tree)
 }
 
 // The counts with what a tree below the root adds, if the limits have room for it.
@@ -79,6 +97,7 @@ impl KnownTrees {
         KnownTrees {
             rows: BTreeMap::new(alloc),
             most: SPARE_TREES,
+            entries: 0,
         }
     }
 
@@ -93,6 +112,15 @@ impl KnownTrees {
             return None;
         }
         Some(row.adds)
+    }
+
+    /// The entries of a tree, where they are kept.
+    pub(crate) fn tree_at(&self, id: &ObjectId) -> Option<&ReadTree>
+        ensures { IfSome (option_copied result) (λ entries. (trees : Trees) → AreKnown trees self.now
+            → trees id.now ≡ Some entries) }
+    {
+        let row = self.rows.get(id)?;
+        row.entries.as_ref()
     }
 
     /// The counts of two walks after a tree that both meet at one place, where it is known and the limits of both have
@@ -117,17 +145,34 @@ impl KnownTrees {
         Some(PairCounts { from, to })
     }
 
-    /// Keeps what a tree adds, unless too many are kept already or there is no memory for it.
-    pub(crate) fn keep(&mut self, id: &ObjectId, left: u32, len: usize, adds: Counts)
+    /// Keeps what a tree adds, unless too many are kept already or there is no memory for it, and its entries, where
+    /// there is room for them too.
+    pub(crate) fn keep(
+        &mut self,
+        id: &ObjectId,
+        left: u32,
+        len: usize,
+        adds: Counts,
+        tree: ReadTree,
+    )
         ensures known { (trees : Trees) → AreKnown trees self.old
             → ((front : List ℕ) → len ≡ min (length front) 8192 → Adds trees (steps trees left front id.now) adds)
-            → AreKnown trees self.new }
+            → trees id.now ≡ Some tree → AreKnown trees self.new }
         ensures few { AreFewKnown self.old → AreFewKnown self.new }
         ensures room { HasRoom self.old → HasRoom self.new }
         ensures stay { StayKnown self.old self.new }
     {
         if self.rows.len() < MOST_TREES {
-            match add_row(&mut self.rows, id, KnownTree { left, len, adds }) {
+            let count = tree.as_slice().len();
+            let entries = within_room(self.entries, tree);
+            self.entries = self.entries.saturating_add(count);
+            let row = KnownTree {
+                left,
+                len,
+                adds,
+                entries,
+            };
+            match add_row(&mut self.rows, id, row) {
                 Ok(()) => {}
                 Err(Memory) => {}
             }
@@ -143,6 +188,7 @@ impl KnownTrees {
     {
         if self.rows.len() > self.most {
             self.rows.clear();
+            self.entries = 0;
         }
     }
 

@@ -15,7 +15,7 @@ ghost use Rattle.tree_paths.specs.Places.{AreAtOne, AreTogether, Takes, piece};
 
 use crate::counts::{count_dir, cut, is_dir, longer};
 use crate::known_trees::KnownTrees;
-use crate::object_reads::open_tree;
+use crate::opened_trees::open_known;
 use crate::paired_counts::{PairCounts, Paired};
 use crate::path_walk::place_at;
 use crate::places::next_place;
@@ -177,10 +177,10 @@ pub fn pair_trees<R: Keeper>(
     ensures same { Undisturbed R.Keeper keeper.old keeper.new }
     ensures cause { HasCause keeper_failed (R.faults keeper.old) (R.faults keeper.new) result }
 {
-    let Some(first) = open_tree(alloc, keeper, from, left, front.is_empty())? else {
+    let Some(first) = open_known(alloc, keeper, known, from, left, front.is_empty())? else {
         return Ok(Paired::FromBroken(*from));
     };
-    let Some(second) = open_tree(alloc, keeper, to, left, front.is_empty())? else {
+    let Some(second) = open_known(alloc, keeper, known, to, left, front.is_empty())? else {
         return Ok(Paired::ToBroken(*to));
     };
     let mut counts = PairCounts {

@@ -19,6 +19,7 @@ invariant-learn_tree-entries g l = record {
   adds : (readings : Readings) (front : List ℕ) → Told (g.R.Keeper.content l.keeper) readings → l.len ≡ min (length front) 8192
       → AddsBefore readings.trees (steps readings.trees l.left front l.id) l.adds (below (steps readings.trees (l.left - 1)) l.id front l.rest);
   known : (r : Repository) → g.R.Keeper.content l.keeper ≡ Some r → AreKnownIn r l.known;
+  tree : (readings : Readings) → Told (g.R.Keeper.content l.keeper) readings → readings.trees l.id ≡ Some l.initial.rest;
   visited : (readings : Readings) (front : List ℕ) → Told (g.R.Keeper.content l.keeper) readings
       → g.R.Keeper.reads l.keeper + visits (below (steps readings.trees (l.left - 1)) l.id front l.rest) ≤ g.R.Keeper.reads l.fn.keeper + visits (steps readings.trees l.left front l.id);
   same : Undisturbed g.R.Keeper l.fn.keeper l.keeper;

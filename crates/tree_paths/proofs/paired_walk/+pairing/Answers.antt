@@ -1,13 +1,15 @@
 use Rattle.std.proofs.Common.{rules, true, ap, subst, ◌≡◌, ◌∙◌, ◌≤◌, ◌+◌, ◌-◌, ◌∷◌, ℕ, List, Option, Some, None, arith, length, sym, refl}
-use Rattle.std.specs.Option.{option_copied}
+use Rattle.std.specs.Option.{option_copied, option_map}
 use Rattle.git_object.specs.Trees.{AreWellFormed}
 use Rattle.git_object.specs.declared.trees.TreeEntry.{TreeEntry}
 use Rattle.keeper_api.proofs.Coming.{as_before_then}
+use Rattle.tree_paths.specs.Opening.{entries_in}
 use Rattle.tree_paths.specs.Pairings.{IsPaired, Sides}
 use Rattle.tree_paths.specs.Places.{piece}
 use Rattle.tree_paths.specs.Readings.{Readings, Told}
 use Rattle.tree_paths.specs.Walks.{Step, Visit, below, is_dir, judge, opened, place_of, steps}
 use Rattle.tree_paths.specs.declared.counts.Counts.{Counts}
+use Rattle.tree_paths.specs.declared.opened_trees.Opened.{Opened}
 use Rattle.tree_paths.proofs.ObjectsRead.{kept_told, some_at}
 use Rattle.tree_paths.proofs.Judging.{judge_open, judge_shut, longer_place, open_steps, piece_of, zero_test}
 use Rattle.tree_paths.proofs.Order.{steps_under}
@@ -77,45 +79,45 @@ pair_place-returns-in_ok-paired-in-Some-second-2-clause-steps g t c = λ reading
 
 pub pair_trees-returns-in_default-clause-steps : goal.pair_trees-returns-in_default-clause-steps
 pair_trees-returns-in_default-clause-steps g t c = λ readings told.
-    sym (judge_shut readings.trees c.args.left c.args.front.now c.args.from.now c.is_empty.result c.args.start.from c.is_empty.ensures (sym c.in_default.is ∙ c.in_ok-first.ensures.read readings told))
+    sym (judge_shut readings.trees c.args.left c.args.front.now c.args.from.now c.is_empty.result c.args.start.from c.is_empty.ensures (sym (ap (option_map entries_in) c.in_default.is) ∙ c.in_ok-first.ensures.read readings told))
 
 pub pair_trees-returns-in_default-2-clause-steps : goal.pair_trees-returns-in_default-2-clause-steps
 pair_trees-returns-in_default-2-clause-steps g t c = λ readings told.
-    sym (judge_shut readings.trees c.args.left c.args.front.now c.args.to.now c.is_empty-2.result c.args.start.to c.is_empty-2.ensures (sym c.in_default-2.is ∙ c.in_ok-second.ensures.read readings told))
+    sym (judge_shut readings.trees c.args.left c.args.front.now c.args.to.now c.is_empty-2.result c.args.start.to c.is_empty-2.ensures (sym (ap (option_map entries_in) c.in_default-2.is) ∙ c.in_ok-second.ensures.read readings told))
 
 pub pair_trees-places-init : goal.pair_trees-places-init
 pair_trees-places-init g t c =
-    let level : 1 ≤ c.args.left = some_at (λ (entries : List TreeEntry). 1 ≤ c.args.left) c.in_ok-first.field-0 c.in-Some.first c.in_ok-first.ensures.level c.in-Some.is in
-    let some_from : length c.in-Some.first ≡ 0 → c.is_empty.result ≡ true = some_at (λ (entries : List TreeEntry). length entries ≡ 0 → c.is_empty.result ≡ true) c.in_ok-first.field-0 c.in-Some.first c.in_ok-first.ensures.some c.in-Some.is in
-    let some_to : length c.in-Some-2.second ≡ 0 → c.is_empty-2.result ≡ true = some_at (λ (entries : List TreeEntry). length entries ≡ 0 → c.is_empty-2.result ≡ true) c.in_ok-second.field-0 c.in-Some-2.second c.in_ok-second.ensures.some c.in-Some-2.is in
-    let opens_from : (readings : Readings) → Told (g.R.Keeper.content c.open_tree-2.new.keeper) readings → Some c.in-Some.first ≡ opened c.args.left c.is_empty.result (readings.trees c.args.from.now) =
-    λ readings told. sym c.in-Some.is ∙ c.in_ok-first.ensures.read readings (kept_told readings c.in_ok-second.ensures.same.content told) in
-    let opens_to : (readings : Readings) → Told (g.R.Keeper.content c.open_tree-2.new.keeper) readings → Some c.in-Some-2.second ≡ opened c.args.left c.is_empty-2.result (readings.trees c.args.to.now) =
-    λ readings told. sym c.in-Some-2.is ∙ c.in_ok-second.ensures.read readings told in
+    let level : 1 ≤ c.args.left = some_at (λ (tree : Opened). 1 ≤ c.args.left) c.in_ok-first.field-0 c.in-Some.first c.in_ok-first.ensures.level c.in-Some.is in
+    let some_from : length (entries_in c.in-Some.first) ≡ 0 → c.is_empty.result ≡ true = some_at (λ (tree : Opened). length (entries_in tree) ≡ 0 → c.is_empty.result ≡ true) c.in_ok-first.field-0 c.in-Some.first c.in_ok-first.ensures.some c.in-Some.is in
+    let some_to : length (entries_in c.in-Some-2.second) ≡ 0 → c.is_empty-2.result ≡ true = some_at (λ (tree : Opened). length (entries_in tree) ≡ 0 → c.is_empty-2.result ≡ true) c.in_ok-second.field-0 c.in-Some-2.second c.in_ok-second.ensures.some c.in-Some-2.is in
+    let opens_from : (readings : Readings) → Told (g.R.Keeper.content c.open_known-2.new.keeper) readings → Some (entries_in c.in-Some.first) ≡ opened c.args.left c.is_empty.result (readings.trees c.args.from.now) =
+    λ readings told. sym (ap (option_map entries_in) c.in-Some.is) ∙ c.in_ok-first.ensures.read readings (kept_told readings c.in_ok-second.ensures.same.content told) in
+    let opens_to : (readings : Readings) → Told (g.R.Keeper.content c.open_known-2.new.keeper) readings → Some (entries_in c.in-Some-2.second) ≡ opened c.args.left c.is_empty-2.result (readings.trees c.args.to.now) =
+    λ readings told. sym (ap (option_map entries_in) c.in-Some-2.is) ∙ c.in_ok-second.ensures.read readings told in
     let first_reads = c.in_ok-first.ensures.reads in
     let second_reads = c.in_ok-second.ensures.reads in
-    let spent : g.R.Keeper.reads c.open_tree-2.new.keeper ≤ g.R.Keeper.reads c.args.keeper.now + 2 = omega (arith, first_reads, second_reads) in
+    let spent : g.R.Keeper.reads c.open_known-2.new.keeper ≤ g.R.Keeper.reads c.args.keeper.now + 2 = omega (arith, first_reads, second_reads) in
     record {
       walk = λ readings told.
           let into = steps readings.trees (c.args.left - 1) in
           record {
-            first = judge_open readings.trees c.args.left c.args.front.now c.args.from.now c.is_empty.result c.in-Some.first c.args.start.from level c.is_empty.ensures (opens_from readings told)
+            first = judge_open readings.trees c.args.left c.args.front.now c.args.from.now c.is_empty.result (entries_in c.in-Some.first) c.args.start.from level c.is_empty.ensures (opens_from readings told)
                 ∙ (λ i. judge readings.trees (below into c.args.from.now c.args.front.now (sym c.as_slice-rest_from.ensures i)) (sym c.count_dir.ensures i));
-            second = judge_open readings.trees c.args.left c.args.front.now c.args.to.now c.is_empty-2.result c.in-Some-2.second c.args.start.to level c.is_empty-2.ensures (opens_to readings told)
+            second = judge_open readings.trees c.args.left c.args.front.now c.args.to.now c.is_empty-2.result (entries_in c.in-Some-2.second) c.args.start.to level c.is_empty-2.ensures (opens_to readings told)
                 ∙ (λ i. judge readings.trees (below into c.args.to.now c.args.front.now (sym c.as_slice-rest_to.ensures i)) (sym c.count_dir-2.ensures i));
           };
       rest = λ readings told.
           let into = steps readings.trees (c.args.left - 1) in
           rest_start readings.trees c.args.left c.args.front.now c.args.from.now c.args.to.now (below into c.args.from.now c.args.front.now c.as_slice-rest_from.result.now) (below into c.args.to.now c.args.front.now c.as_slice-rest_to.result.now)
-          c.args.paths.now (g.R.Keeper.reads c.args.keeper.now) (g.R.Keeper.reads c.open_tree-2.new.keeper) c.requires.other
-          (open_steps readings.trees c.args.left c.args.front.now c.args.from.now c.is_empty.result c.in-Some.first level (opens_from readings told)
+          c.args.paths.now (g.R.Keeper.reads c.args.keeper.now) (g.R.Keeper.reads c.open_known-2.new.keeper) c.requires.other
+          (open_steps readings.trees c.args.left c.args.front.now c.args.from.now c.is_empty.result (entries_in c.in-Some.first) level (opens_from readings told)
           ∙ (λ i. Visit c.args.left c.args.front.now c.args.from.now ∷ below into c.args.from.now c.args.front.now (sym c.as_slice-rest_from.ensures i)))
-          (open_steps readings.trees c.args.left c.args.front.now c.args.to.now c.is_empty-2.result c.in-Some-2.second level (opens_to readings told)
+          (open_steps readings.trees c.args.left c.args.front.now c.args.to.now c.is_empty-2.result (entries_in c.in-Some-2.second) level (opens_to readings told)
           ∙ (λ i. Visit c.args.left c.args.front.now c.args.to.now ∷ below into c.args.to.now c.args.front.now (sym c.as_slice-rest_to.ensures i)))
           spent;
-      formed_from = subst AreWellFormed (sym c.as_slice-rest_from.ensures) (some_at AreWellFormed c.in_ok-first.field-0 c.in-Some.first c.in_ok-first.ensures.formed c.in-Some.is);
-      formed_to = subst AreWellFormed (sym c.as_slice-rest_to.ensures) (some_at AreWellFormed c.in_ok-second.field-0 c.in-Some-2.second c.in_ok-second.ensures.formed c.in-Some-2.is);
-      same = as_before_then g.R.Keeper c.args.keeper.now c.open_tree.new.keeper c.open_tree-2.new.keeper
+      formed_from = subst AreWellFormed (sym c.as_slice-rest_from.ensures) (some_at (λ (tree : Opened). AreWellFormed (entries_in tree)) c.in_ok-first.field-0 c.in-Some.first c.in_ok-first.ensures.formed c.in-Some.is);
+      formed_to = subst AreWellFormed (sym c.as_slice-rest_to.ensures) (some_at (λ (tree : Opened). AreWellFormed (entries_in tree)) c.in_ok-second.field-0 c.in-Some-2.second c.in_ok-second.ensures.formed c.in-Some-2.is);
+      same = as_before_then g.R.Keeper c.args.keeper.now c.open_known.new.keeper c.open_known-2.new.keeper
           c.in_ok-first.ensures.same c.in_ok-second.ensures.same;
       quiet = search rules;
       kept_from = kept_start c.args.left c.as_slice-rest_from.result.now c.args.start.from c.count_dir.result (length c.args.front.now) c.requires.few_from c.requires.room_from
