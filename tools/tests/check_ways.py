@@ -46,6 +46,7 @@ def leads_out_of_a_violation(repositories):
     want(skipped, [None, None, 5, 5, None, None], "by which entry each is skipped")
     want(clones.gittuf("alice", "log", "-v").count(b"Z, and entry 5 says skip\n"), 2, "how many entries are said to be skipped")
     clones.refused("alice", "recover", "main", status=3, part="nothing is to be recovered of main")
+    clones.refused("alice", "recover", "mian", status=3, part="there is no branch or tag mian, here or in the log, and near is main")
     clones.gittuf("alice", "policy", "rule", "releases", "refs/heads/release-*", "--persons", "alice")
     clones.sign("alice")
     clones.gittuf("alice", "policy", "apply")
