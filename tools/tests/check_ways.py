@@ -180,6 +180,9 @@ def names_what_comes_first(repositories):
     for words in (("record", "main"), ("approve", "main")):
         clones.refused("alice", *words, status=3, part="as it would be a violation: no policy is in force, or none whose first keys are")
     clones.gittuf("alice", "policy", "init", "alice")
+    way = "git gittuf policy sign and git gittuf policy apply"
+    want(clones.advised("alice", "there is no log here, and a policy that is edited begins one"), way, "what doctor says then")
+    clones.refused("alice", "policy", "init", "alice", status=3, part=f"prints it, and {way} bring it into force")
     clones.sign("alice")
     clones.gittuf("alice", "policy", "apply")
     clones.gittuf("alice", "record", "main")

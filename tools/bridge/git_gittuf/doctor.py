@@ -7,7 +7,7 @@ import stat
 import stream_format
 from git_gittuf import following, history, hook_calls, keys, leaves, names, otherwise, remotes, seen, signers, stores, verifying, withheld
 from git_gittuf.remotes import beside
-from git_gittuf.repository import ATTESTATIONS, LOG, POLICY, ZEROS, Stopped
+from git_gittuf.repository import ATTESTATIONS, LOG, POLICY, STAGED, ZEROS, Stopped
 from git_gittuf.shown import plain, quoted
 from git_gittuf.telling import say
 
@@ -141,6 +141,9 @@ def of_names(repository):
 def of_log(work, status, printed):
     repository = work.repository
     references = repository.references()
+    if LOG not in references and STAGED in references:
+        yield "there is no log here, and a policy that is edited begins one", "git gittuf policy sign and git gittuf policy apply"
+        return
     if LOG not in references:
         yield "there is no log here", "git gittuf setup && git fetch, or git gittuf policy init <your name> begins one"
         return
