@@ -16,6 +16,12 @@ function __git_gittuf_begins
     test -n "$at"; and test (count $words) -eq $at
 end
 
+function __git_gittuf_step
+    set -l words (commandline -opc)
+    set -l at (contains -i policy $words)
+    __git_gittuf_is policy; and test (count $words) -gt $at; and contains -- $words[(math $at + 1)] $argv
+end
+
 function __git_gittuf_names
     git for-each-ref --format='%(refname:short)' $argv 2>/dev/null
 end
@@ -31,7 +37,6 @@ for it in git git-gittuf
     complete -c $it -n '__git_gittuf_is approve' -l delete
     complete -c $it -n '__git_gittuf_is verify' -f -a '(__git_gittuf_names refs/heads refs/tags refs/remotes)' -l root -l pinned -l entry -l json -s v
     complete -c $it -n '__git_gittuf_is log explain' -l json -s v
-    complete -c $it -n '__git_gittuf_is report' -s o -l root -l pinned
     complete -c $it -n '__git_gittuf_is push fetch sync' -l remote
     complete -c $it -n '__git_gittuf_is push fetch' -l desk
     complete -c $it -n '__git_gittuf_is report' -s o -l root -l pinned -l entry
@@ -40,5 +45,12 @@ for it in git git-gittuf
     complete -c $it -n '__git_gittuf_is mirror' -F -a '(git remote 2>/dev/null)' -l into
     complete -c $it -n '__git_gittuf_is evidence' -F -s o -l check -l from -l key
     complete -c $it -n '__git_gittuf_is hook' -f -a install -l server -l most-seconds -l remove
+    complete -c $it -n '__git_gittuf_is skip note' -s m
     complete -c $it -n '__git_gittuf_is policy' -f -a "$steps"
+    complete -c $it -n '__git_gittuf_step rule' -l persons -l threshold -l terminating -l no-terminating -l before -l file
+    complete -c $it -n '__git_gittuf_step rule person global' -l remove
+    complete -c $it -n '__git_gittuf_step global' -f -a 'threshold no-rewind'
+    complete -c $it -n '__git_gittuf_step sign' -l id
+    complete -c $it -n '__git_gittuf_step show' -l json
+    complete -c $it -n '__git_gittuf_step apply' -l anyway
 end

@@ -81,8 +81,12 @@ _git_gittuf() {
                 _gittuf_reply -W 'init person rotate rule global show sign discard apply'
             elif [ "${COMP_WORDS[at + 2]}" = rule ]; then
                 _gittuf_reply -W "--persons --threshold --terminating --no-terminating --before --file --remove $(_gittuf_references)"
+            elif [ "${COMP_WORDS[at + 2]}" = global ]; then
+                _gittuf_reply -W "threshold no-rewind --remove $(_gittuf_references)"
             elif [ "${COMP_WORDS[at + 2]}" = person ]; then
                 _gittuf_reply -W --remove
+            elif [ "${COMP_WORDS[at + 2]}" = apply ]; then
+                _gittuf_reply -W --anyway
             elif [ "${COMP_WORDS[at + 2]}" = sign ]; then
                 _gittuf_reply -W --id
             elif [ "${COMP_WORDS[at + 2]}" = show ]; then

@@ -17,6 +17,14 @@ def expect_sha256(name, *where):
         raise Refused(f"{name} has the object format {form}, and ids here are of sha256: {way}, as git-to-stream --help says")
 
 
+def way_over(branch):
+    """The line that makes one of SHA-256 beside a repository, with the files of the branch that is checked out, if any is."""
+    # Git leaves the files out, and this writes over none that is there.
+    files = " && git -C ../new read-tree -m -u HEAD" if branch else ""
+    makes = f"git init -b {branch or 'main'} --object-format=sha256 ../new"
+    return f"{makes} && git fast-export --all --signed-tags=strip | git -C ../new fast-import{files}"
+
+
 def expect_no_part(name, *where):
     """Refuses a shallow and a partial clone."""
     status, found, said = git(*where, "rev-parse", "--is-shallow-repository")

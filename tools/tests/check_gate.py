@@ -76,7 +76,8 @@ def refuses_logs(clones, evil, log):
     denied(clones, "mallory", "origin", f"{LOG}:{LOG}", part=f"violation {MAIN} 4 broken {evil}")
     odd = clones.git("commit-tree", "-p", clones.tip("server.git", LOG), "-m", "none", EMPTY_TREE, who="mallory").decode().strip()
     denied(clones, "mallory", "origin", f"{odd}:{LOG}", part=f"log-broken {odd}")
-    denied(clones, "mallory", "--force", "origin", f"{log}:{LOG}", part="the log would go back from entry 3 to entry 2")
+    part = "the log would go back from entry 3 to entry 2: git push --force-with-lease origin HEAD, say, forces a branch alone"
+    denied(clones, "mallory", "--force", "origin", f"{log}:{LOG}", part=part)
     apart = clones.git("commit-tree", "-p", log, "-m", "none", EMPTY_TREE, who="mallory").decode().strip()
     denied(clones, "mallory", "--force", "origin", f"{apart}:{LOG}", part="the log goes on from another entry")
     denied(clones, "mallory", "origin", "--delete", LOG, part="the log is not to go")

@@ -147,6 +147,8 @@ def completes(repositories):
         ("_git_gittuf", "git gittuf ver", {"verify"}),
         ("_git_gittuf", "git-gittuf policy s", {"show", "sign"}),
         ("_git_gittuf", "git gittuf policy sign --", {"--id"}),
+        ("_git_gittuf", "git gittuf policy apply --", {"--anyway"}),
+        ("_git_gittuf", "git gittuf policy global t", {"threshold"}),
         ("_git_gittuf", "git gittuf record ma", {"main"}),
         ("_gittuf", "gittuf - - verify-ref --", {"--root", "--stdin"}),
         ("_gittuf", "gittuf kept/ my.key key-gen ", {"5", "10", "15"}),
@@ -161,6 +163,11 @@ def completes(repositories):
     if shutil.which("zsh"):
         for it in ("_gittuf", "_gittuf-inspect", "_git-gittuf"):
             want(run("zsh", "-n", os.path.join(TOP, "completion", it)), (0, b"", b""), f"what zsh says of {it}")
+    if shutil.which("fish"):
+        place = os.path.join(TOP, "completion", "git-gittuf.fish")
+        for line, wanted in (("git gittuf ver", "verify"), ("git gittuf policy sign --", "--id"), ("git gittuf policy apply --", "--anyway")):
+            status, output, errors = run("fish", "--no-config", "-c", 'source $argv[1]; complete -C $argv[2]', place, line)
+            want((status, output.decode().split(), errors), (0, [wanted], b""), f"what fish has behind {line!r}")
 
 
 def tells_its_use(repositories):

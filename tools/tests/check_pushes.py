@@ -100,6 +100,24 @@ def takes_no_branch_back(repositories):
     clones.verdict("alice", f"accepted {MAIN} 3 entries")
 
 
+def pulls_nothing_that_was_skipped(repositories):
+    """who takes back what was never merged here is led to a push that takes it back on the server, and to no pull of it"""
+    clones = another(repositories, "taken back unmerged")
+    tip = clones.tip("alice")
+    clones.clone("mallory")
+    clones.commit("mallory", "evil")
+    clones.gittuf("mallory", "record", "main", "--anyway")
+    clones.git("push", "--quiet", who="mallory")
+    clones.git("fetch", "--quiet", who="alice")
+    clones.gittuf("alice", "recover", "main")
+    way = "git gittuf push --remote origin --anyway main"
+    part = f"what it has there was skipped, and {way} takes it back there"
+    clones.refused("alice", "push", status=3, part=part)
+    clones.copied("alice", way)
+    want([clones.tip("server.git"), clones.tip("alice")], [tip, tip], "where main stands on the server, and here")
+    clones.verdict("alice", f"accepted {MAIN} 3 entries")
+
+
 def records_anew_after_a_race(repositories):
     """of two who record at once the second records anew after the first by push or sync, as far as that is lawful, and an approval too"""
     clones = another(repositories, "raced")
@@ -143,5 +161,6 @@ CHECKS = (
     pushes_all_or_nothing,
     pushes_the_log_alone,
     takes_no_branch_back,
+    pulls_nothing_that_was_skipped,
     records_anew_after_a_race,
 )

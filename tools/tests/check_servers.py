@@ -47,6 +47,21 @@ def tells_a_rollback(repositories):
     want(clones.asked("alice", "verify")[0], 1, "the status of verify then")
 
 
+def puts_a_log_back_alone(repositories):
+    """doctor's line for a log that went back, or is gone, puts it back, and pushes no branch that nobody recorded"""
+    clones = further(repositories, "put back")
+    whole, branch = clones.tip("alice", LOG), clones.tip("server.git")
+    clones.commit("alice")
+    for how in (("update-ref", LOG, clones.tip("alice", f"{LOG}~1")), ("update-ref", "-d", LOG)):
+        clones.git(*how, who="server.git")
+        clones.git("fetch", "--quiet", who="alice")
+        line = clones.advised("alice", "the log of origin no longer has").partition(" by ")[2]
+        clones.copied("alice", line)
+        want([clones.tip("server.git", it) for it in (LOG, MAIN)], [whole, branch], f"what the server has after {line}")
+        found = clones.gittuf("alice", "doctor", status=1).decode()
+        want(found, "main stands elsewhere than it was recorded last: git gittuf verify main\n", "what doctor says then")
+
+
 def tells_a_dropped_log(repositories):
     """a server that dropped what is below refs/gittuf/ is told, by a fetch that prunes, by one of all, and by doctor, which asks it"""
     clones = further(repositories, "dropped")
@@ -222,6 +237,7 @@ def judges_on_where_none_was(repositories):
 
 CHECKS = (
     tells_a_rollback,
+    puts_a_log_back_alone,
     tells_a_dropped_log,
     accuses_no_server_that_is_not_fetched,
     tells_a_fork,

@@ -74,7 +74,7 @@ def refuses_clones(repositories):
 
 
 def comes_from_sha1(repositories):
-    """a repository in SHA-1 comes over by git fast-export, as git-to-stream --help says"""
+    """a repository in SHA-1 comes over by git fast-export, as git-to-stream --help and git gittuf say"""
     repositories.needed()
     repositories.git("init", "--quiet", "-b", "main", "--object-format=sha256", "from-sha1", name="")
     repositories.git("init", "--quiet", "-b", "main", "old", name="")
@@ -82,6 +82,17 @@ def comes_from_sha1(repositories):
     text = repositories.git("fast-export", "--all", "--signed-tags=strip", name="old")
     repositories.git("fast-import", "--quiet", name="from-sha1", input=text)
     want(repositories.stream_of("from-sha1").count(b" commit "), 1, "the number of commits that came over")
+    # By the line of git gittuf the files of what is checked out come too.
+    old = repositories.path("old")
+    repositories.git("checkout", "--quiet", "-b", "it's-old", name="old")
+    with open(os.path.join(old, "README"), "w", encoding="utf-8") as file:
+        file.write("of old\n")
+    repositories.git("add", "README", name="old")
+    repositories.git("commit", "--quiet", "--message", "more of old", name="old")
+    line = run(os.path.join(TOP, "tools", "git-gittuf"), "verify", folder=old)[2].decode().partition(" by: ")[2].strip()
+    status, _, errors = run("bash", "-c", line, folder=old)
+    want(status, 0, f"the status of {line}: {errors}")
+    want(repositories.git("status", "--porcelain", "--branch", name="new"), b"## it's-old\n", "what is checked out then")
 
 
 def tools_tell_their_use(repositories):

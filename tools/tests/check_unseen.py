@@ -179,11 +179,26 @@ def takes_no_tag_for_an_id(repositories):
 
 
 def leads_back_by_whole_names(repositories):
-    """the line that takes a moved branch back names that branch, also where a shorter word would mean another one"""
+    """the line that takes a moved branch back does, checked out or not, and names it where a shorter word means another one"""
     before, now = "ab" * 32, "cd" * 32
     for name, way in (("main", "git branch --force main"), ("-x", "git update-ref refs/heads/-x"), ("refs/heads/x", "git update-ref refs/heads/refs/heads/x")):
         line = f"tip-differs refs/heads/{name} kept {now} recorded {before}"
-        want(f"{way} {before}" in sentences.of_line(line), True, f"the way back of {name}: {sentences.of_line(line)}")
+        told = sentences.of_line(line)
+        want(f"{way} {before} takes it back." in told, True, f"the way back of {name}: {told}")
+    clones = another(repositories, "moved back")
+    recorded, lawful = clones.tip("alice"), f"accepted {MAIN} 1 entries"
+    # Once it is checked out, and once another one is.
+    for branch in ("main", "other"):
+        clones.commit("alice")
+        clones.write("alice", "draft", "not committed\n")
+        clones.git("checkout", "--quiet", "-B", branch, who="alice")
+        status, said = at_terminal("git gittuf verify main", clones.path("alice"))
+        line = said.partition("; if not, ")[2].partition(" takes it back.")[0]
+        want((status, recorded in line), (1, True), f"what is told: {said}")
+        clones.copied("alice", line)
+        clones.verdict("alice", lawful)
+        # It is there, or this fails.
+        os.remove(os.path.join(clones.path("alice"), "draft"))
 
 
 def pins_before_it_is_edited(repositories):

@@ -46,6 +46,7 @@ def leads_out_of_a_violation(repositories):
     want(skipped, [None, None, 5, 5, None, None], "by which entry each is skipped")
     want(clones.gittuf("alice", "log", "-v").count(b"Z, and entry 5 says skip\n"), 2, "how many entries are said to be skipped")
     clones.refused("alice", "recover", "main", status=3, part="nothing is to be recovered of main")
+    clones.refused("alice", "recover", "mian", status=3, part="there is no branch or tag mian, here or in the log, and near is main")
     clones.gittuf("alice", "policy", "rule", "releases", "refs/heads/release-*", "--persons", "alice")
     clones.sign("alice")
     clones.gittuf("alice", "policy", "apply")
@@ -179,6 +180,9 @@ def names_what_comes_first(repositories):
     for words in (("record", "main"), ("approve", "main")):
         clones.refused("alice", *words, status=3, part="as it would be a violation: no policy is in force, or none whose first keys are")
     clones.gittuf("alice", "policy", "init", "alice")
+    way = "git gittuf policy sign and git gittuf policy apply"
+    want(clones.advised("alice", "there is no log here, and a policy that is edited begins one"), way, "what doctor says then")
+    clones.refused("alice", "policy", "init", "alice", status=3, part=f"prints it, and {way} bring it into force")
     clones.sign("alice")
     clones.gittuf("alice", "policy", "apply")
     clones.gittuf("alice", "record", "main")

@@ -7,7 +7,7 @@ import stat
 import stream_format
 from git_gittuf import following, history, hook_calls, keys, leaves, names, otherwise, remotes, seen, signers, stores, verifying, withheld
 from git_gittuf.remotes import beside
-from git_gittuf.repository import ATTESTATIONS, LOG, POLICY, ZEROS, Stopped
+from git_gittuf.repository import ATTESTATIONS, LOG, POLICY, STAGED, ZEROS, Stopped
 from git_gittuf.shown import plain, quoted
 from git_gittuf.telling import say
 
@@ -69,9 +69,10 @@ def of_lost(work, remote, value, how):
     lost = [it for it in entries_after(work, value if how == "back" else None) if it[0] <= following.count_of(work.repository, last)]
     which = f" no longer has {signed_by(work, lost)}" if lost else " went back"
     desk = remotes.port_of(work.repository, remote)
-    way = f"push --desk {desk}" if desk else f"push --remote {quoted(remote)} --anyway"
-    put_back = f"git gittuf {way} puts it back"
-    yield f"the log of {remote}{which}", f"ask who may write to {quoted(remote)}; {put_back}"
+    # The branch that is checked out may stand where no entry has it, and stays out of this.
+    alone = f"git push {quoted(remote)} 'refs/gittuf/*:refs/gittuf/*' && git fetch {quoted(remote)}"
+    put_back = f"git gittuf push --desk {desk}" if desk else alone
+    yield f"the log of {remote}{which}", f"ask who may write to {quoted(remote)}; it is put back by {put_back}"
 
 
 def of_remotes(work, is_whole):
@@ -140,6 +141,9 @@ def of_names(repository):
 def of_log(work, status, printed):
     repository = work.repository
     references = repository.references()
+    if LOG not in references and STAGED in references:
+        yield "there is no log here, and a policy that is edited begins one", "git gittuf policy sign and git gittuf policy apply"
+        return
     if LOG not in references:
         yield "there is no log here", "git gittuf setup && git fetch, or git gittuf policy init <your name> begins one"
         return

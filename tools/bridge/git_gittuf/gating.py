@@ -57,7 +57,9 @@ def of_log(work, push):
         push.log = whole, new
         return None
     if is_before(repository, new, old):
-        return f"the log would go back from entry {following.count_of(repository, old)} to entry {following.count_of(repository, new)}"
+        last, now = (following.count_of(repository, it) for it in (old, new))
+        way = "git push --force-with-lease origin HEAD, say, forces a branch alone"
+        return f"the log would go back from entry {last} to entry {now}: {way}"
     return "the log goes on from another entry than the last one there: git gittuf sync records anew what is still lawful, and git gittuf push"
 
 

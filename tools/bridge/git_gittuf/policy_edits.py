@@ -46,7 +46,8 @@ def init(work, words):
     force = policies.in_force(work)
     policies.expect_recorded(work, force)
     if policies.staged(work, force).files:
-        raise Stopped("there is a policy already: git gittuf policy show prints it", 3)
+        way = "" if force.files else ", and git gittuf policy sign and git gittuf policy apply bring it into force"
+        raise Stopped(f"there is a policy already: git gittuf policy show prints it{way}", 3)
     draft = policies.Policy(work.repository)
     draft.files = policies.begin(words.name, *keys.id_and_public(keys.needed(work.repository)))
     keep(work, draft)

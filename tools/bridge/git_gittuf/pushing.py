@@ -175,6 +175,33 @@ def pushed(work, remote, found, anyway):
     return False, why if not judged else "\n".join([*judged, ""])
 
 
+def taken_back(work, remote, found):
+    """Of branches that are to go the first that a remote has where the log recorded it, and each entry that did so is skipped."""
+    references = work.repository.references()
+    listed = history.entries(work.asked("log")) if LOG in references else []
+    gone = skipping.skips(work, listed) if listed else {}
+    for name in found:
+        there = references.get(names.remote_branch(name, remote)) if name.startswith(names.HEADS) else None
+        by = [entry for _, entry, kind, rest in listed if kind == b"ref" and rest == [name, there]]
+        if by and gone.keys() >= set(by):
+            return name
+    return None
+
+
+def way_on(work, remote, found, why):
+    """What leads on where a remote did not take a push, and git said this of why."""
+    if why.endswith(" stands there"):
+        return HELD
+    if "refs/gittuf/" in why:
+        return "git gittuf doctor says more"
+    name = taken_back(work, remote, found)
+    if name is None:
+        return "git pull brings what is there"
+    # A pull would bring what was taken back.
+    word = quoted(names.short(name))
+    return f"what it has there was skipped, and git gittuf push --remote {quoted(remote)} --anyway {word} takes it back there"
+
+
 def push(work, words):
     if words.desk is not None:
         return desk_pushing.push(work, words)
@@ -203,8 +230,7 @@ def push(work, words):
             if why.startswith(HOOKS_SAY):
                 print(plain_lines(os.fsencode(why)), end="", file=sys.stderr, flush=True)
                 raise Stopped(f"{plain(remote)} gets nothing of it, for what is said above", 3)
-            way = HELD if why.endswith(" stands there") else "git gittuf doctor says more" if "refs/gittuf/" in why else "git pull brings what is there"
-            raise Stopped(f"{plain(remote)} does not take it: {plain(why)}; {way}", 3)
+            raise Stopped(f"{plain(remote)} does not take it: {plain(why)}; {way_on(work, remote, found, why)}", 3)
         say("Another was faster: what is here was recorded anew after that, and is pushed again.")
     raise Stopped(f"others were faster {TRIES} times: git gittuf push tries again", 3)
 

@@ -92,6 +92,8 @@ def recover(work, words):
     withheld.bring(work)
     repository, name = work.repository, names.own_name(work.repository, words.branch)
     shown = plain(names.short(name))
+    if name not in repository.references() and name not in history.recorded_names(work):
+        raise names.no_such(repository, words.branch, history.recorded_names(work))
     number, fault, line = violation_of(work, name)
     if number is None:
         raise Stopped(f"nothing is to be recovered of {shown}: {plain(line) or 'no verdict is to be had'}", 3)

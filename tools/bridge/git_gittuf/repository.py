@@ -7,7 +7,7 @@ import subprocess
 import stream_format
 from git_gittuf.readers import LOOKS, Readers, row_of
 from git_gittuf.shown import quoted
-from git_repositories import expect_whole
+from git_repositories import expect_whole, way_over
 from stream_format import Git, Refused, git
 
 LOG = b"refs/gittuf/reference-state-log"
@@ -88,11 +88,10 @@ class Repository:
             raise Stopped("git does not say where the repository is: a path with a line break in it is not taken")
         if found == "sha1":
             self.expect_commits()
-            raise Stopped(
-                f"{self.top or self.git_dir} has object ids of SHA-1, which are not safe to sign. It becomes a repository"
-                " of SHA-256, with new ids, by: git init -b main --object-format=sha256 ../new &&"
-                " git fast-export --all --signed-tags=strip | git -C ../new fast-import"
-            )
+            head = self.head() or b""
+            branch = quoted(os.fsdecode(head.removeprefix(b"refs/heads/"))) if head in self.all_references() else ""
+            said = f"{self.top or self.git_dir} has object ids of SHA-1, which are not safe to sign"
+            raise Stopped(f"{said}. It becomes a repository of SHA-256, with new ids, by: {way_over(branch)}")
 
     def expect_commits(self):
         """Refuses a repository of SHA-1 that has nothing yet, as git clone makes of an empty one in SHA-256."""

@@ -11,7 +11,8 @@ from git_gittuf.shown import plain, quoted
 class Name:
     """A reference of a line: how a sentence names it, and the word for it in a line that is to be copied."""
 
-    def __init__(self, whole, remote=None):
+    def __init__(self, whole, remote=None, is_checked_out=False):
+        self.is_checked_out = is_checked_out
         self.word = quoted(short(os.fsencode(whole)))
         self.shown = plain(short(os.fsencode(whole)))
         self.whole, self.is_branch = quoted(whole), whole.startswith("refs/heads/")
@@ -36,7 +37,7 @@ def of_tip(name, words):
     back = f"git update-ref {name.whole} {recorded}"
     # A word that is a whole name would be taken for the branch's own.
     if name.is_branch and not name.word.startswith(("refs/", "'refs/")):
-        back = f"git branch --force {name.word} {recorded}, or git reset,"
+        back = f"git branch --force {name.word} {recorded}"
     if not int(recorded, 16):
         return (
             f"No entry of the log says where {name.place} stands. If it is new here, git gittuf record {name.word}; else"
@@ -52,6 +53,9 @@ def of_tip(name, words):
     came = f"git log {recorded}..{kept} shows what came"
     if name.place != name.shown:
         return f"{name.place} was moved and that is not recorded here: {came}. Take nothing of it that no entry records."
+    if name.is_checked_out:
+        # Git moves such a branch by nothing else, and what is not committed stays.
+        back = f"git reset --keep {recorded}"
     return (
         f"{name.shown} was moved and that was not recorded: {came}. If it is yours, git gittuf record {name.word}; if not,"
         f" {back} takes it back."
@@ -180,14 +184,14 @@ def is_unrecorded(line):
     return words[0] == "tip-differs" and not int(words[5], 16)
 
 
-def of_line(line, remote=None):
+def of_line(line, remote=None, is_checked_out=False):
     """The sentence for a line that verify-ref or verify-global printed, of a branch here or of a remote's in its place."""
     words = line.split(" ")
     if words[0] == "log-broken":
         return f"The log is damaged or was tampered with at {words[1][:12]}: nothing is judged. git gittuf doctor says more."
     kinds = {"accepted": of_accepted, "tip-differs": of_tip, "violation": of_violation}
     kinds.update({"global-kept": of_global_kept, "global-violation": of_global_violation})
-    return kinds[words[0]](Name(words[1], remote), words)
+    return kinds[words[0]](Name(words[1], remote, is_checked_out), words)
 
 
 # What a status of the program says beyond its own line, by the command's name.

@@ -104,7 +104,13 @@ def said_of(work, meant, line, source):
     found = damage.object_in(line.encode(errors="surrogateescape") + b"\n") if words[0] == "violation" else None
     if found and repository.there([found]):
         return sentences.of_limit(words)
-    return sentences.of_line(line, meant.remote) + (of_accepted(work, meant, source) if words[0] == "accepted" and words[2] != "0" else "")
+    said = sentences.of_line(line, meant.remote, is_checked_out(repository, meant))
+    return said + (of_accepted(work, meant, source) if words[0] == "accepted" and words[2] != "0" else "")
+
+
+def is_checked_out(repository, meant):
+    """Whether a branch is the one whose files are there to be worked on."""
+    return repository.top is not None and not meant.remote and repository.head() == meant.name
 
 
 def of_accepted(work, meant, source):
