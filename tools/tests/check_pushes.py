@@ -139,9 +139,29 @@ def records_anew_after_a_race(repositories):
     want(clones.gittuf("bob", "sync"), b"", "what sync prints where there is nothing to do")
 
 
+def gives_up_no_entry_for_an_edit(repositories):
+    """of two who edit the policy at once the second goes on from the first one's edit by doctor's line, and keeps what was recorded"""
+    clones = another(repositories, "two edits")
+    clones.gittuf("bob", "verify", "main")
+    clones.gittuf("alice", "policy", "rule", "of-alice", "refs/heads/a", "--persons", "alice")
+    clones.gittuf("alice", "push")
+    clones.gittuf("bob", "policy", "rule", "of-bob", "refs/heads/b", "--persons", "bob")
+    clones.gittuf("bob", "note", "1", "-m", "seen")
+    noted = clones.tip("bob", LOG)
+    clones.refused_after("bob", "push", status=3, part="refs/gittuf/policy-staging; git gittuf doctor says more")
+    clones.copied("bob", clones.advised("bob", "refs/gittuf/policy-staging here and that of origin went apart"))
+    want(clones.tip("bob", LOG), noted, "where the log stands once the other edit is taken")
+    clones.gittuf("bob", "policy", "rule", "of-bob", "refs/heads/b", "--persons", "bob")
+    clones.gittuf("bob", "push")
+    want(clones.tip("server.git", LOG), noted, "where the log of the server stands")
+    edited = clones.gittuf("bob", "policy", "show").decode()
+    want([it in edited for it in ("+ rule of-alice:", "+ rule of-bob:")], [True, True], f"what is edited then: {edited}")
+
+
 CHECKS = (
     pushes_all_or_nothing,
     pushes_the_log_alone,
     takes_no_branch_back,
     records_anew_after_a_race,
+    gives_up_no_entry_for_an_edit,
 )

@@ -41,6 +41,13 @@ def set_back(remote, name, value):
     return f"git push --force-with-lease={name}:{value.decode() if value else ''} {quoted(remote)} {name}"
 
 
+def taken(remote, name, value):
+    """The line that gives up what is here for what a remote has: of what is edited no more than that, and no entry with it."""
+    if name == LOG:
+        return f"git gittuf doctor --take {quoted(remote)}"
+    return f"git update-ref {name.decode()} {value.decode() if value else ''}"
+
+
 def entries_after(work, tip):
     """The entries of the own log after this commit of it, or all."""
     own = work.repository.references().get(LOG)
@@ -88,7 +95,7 @@ def of_remotes(work, is_whole):
     unfit = {(remote, name): how for remote, name, how in work.unfit}
     for remote, name, own, value, how in remotes.standing(repository, repository.references()):
         shown, how = name.decode(), unfit.get((remote, name), how)
-        take, back = f"git gittuf doctor --take {quoted(remote)}", set_back(remote, shown, value)
+        take, back = taken(remote, name, value), set_back(remote, shown, value)
         desk = remotes.port_of(repository, remote)
         if how in ("same", "ahead") and name == LOG and value and not desk:
             how = "dropped" if remotes.asked_log(repository, remote) == (True, None) else how
@@ -105,7 +112,8 @@ def of_remotes(work, is_whole):
             way = anew if not desk and is_own(work, here) else take
             yield f"{shown} here and that of {remote} went apart: here is {signed_by(work, here)}", way
         elif how == "apart":
-            yield f"{shown} here and that of {remote} went apart", take
+            again = "" if name == LOG else ", and once that of the remote is taken what is edited here is to be edited again"
+            yield f"{shown} here and that of {remote} went apart{again}", take
         elif how == "broken":
             whole, _ = following.last_whole(work, value)
             has_all = whole is None or own is not None and (own == whole or remotes.is_before(repository, whole, own))
