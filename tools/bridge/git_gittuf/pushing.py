@@ -16,6 +16,8 @@ from stream_format import Git
 TRIES = 8
 # How the lines begin that hooks of git gittuf say, here and at the remote.
 HOOKS_SAY = ("git-gittuf: ", "remote: git-gittuf: ")
+# How those lines of Git begin that say why a remote refuses what it was sent.
+REMOTES_SAY = ("remote: ", "error: remote unpack failed: ")
 OWN_NAMES = (LOG, POLICY, ATTESTATIONS, STAGED)
 # What Git says of a file by which it holds a reference while it moves it, and which stands there already.
 LOCKED = re.compile(r"Unable to create '(.*\.lock)': File exists")
@@ -150,29 +152,39 @@ def specs(work, remote, found, anyway):
     return [it for it in words if it.startswith("--")], [it for it in words if not it.startswith("--")]
 
 
+def show_lines(lines):
+    """Shows what git said, a line each, to whoever called."""
+    print(plain_lines(os.fsencode("".join(f"{it}\n" for it in lines))), end="", file=sys.stderr, flush=True)
+
+
 def pushed(work, remote, found, anyway):
-    """Pushes at once, or nothing; returns whether that was done, and what git said of why not."""
+    """Pushes at once, or nothing; returns whether that was done, what git said of why not, and the lines of who refused it."""
     options, words = specs(work, remote, found, anyway)
     if not words:
         # Without a word Git would push what its settings name.
-        return True, ""
+        return True, "", []
     settings = ("-c", f"{ANYWAY}=true") if anyway else ()
     with work.unlocked():
         with Git(*work.repository.where, *settings, "push", "--porcelain", "--atomic", *options, "--", remote, *words) as ran:
             output = ran.output.read()
             status, said = ran.end()
     if not status:
-        return True, ""
+        return True, "", []
     refused = [os.fsdecode(it) for it in output.splitlines() if it.startswith(b"!")]
     judged = [it.strip() for it in ran.lines if it.startswith(HOOKS_SAY)]
     if not refused and not judged:
+        # A hook of others here refuses it, or the remote is not reached.
+        show_lines(it for it in ran.lines if it.strip() and not it.endswith(said))
         raise Stopped(f"git does not push to {plain(remote)}: {plain(said)}")
     if locks := LOCKED.findall("\n".join(ran.lines)):
-        return False, f"{locks[0]} stands there"
+        return False, f"{locks[0]} stands there", []
+    if judged:
+        return False, "", judged
     # The others are refused for these alone.
     refused = [it for it in refused if "(atomic push failed)" not in it] or refused
     why = "; ".join(it.rpartition("\t")[2] + " " + it.split("\t")[1].rpartition(":")[2] for it in refused)
-    return False, why if not judged else "\n".join([*judged, ""])
+    is_sent = any("[remote rejected]" in it for it in refused)
+    return False, why, [it.strip() for it in ran.lines if is_sent and it.startswith(REMOTES_SAY)]
 
 
 def push(work, words):
@@ -190,7 +202,7 @@ def push(work, words):
             found = without_behind(work, remote, found, words.branches)
             expect_recorded(work, remote, found)
         found = {**found, **recorded_since(work, remote)}
-        done, why = pushed(work, remote, found, anyway)
+        done, why, lines = pushed(work, remote, found, anyway)
         if done:
             seen.pushed(work.repository, remote)
             for name, value in found.items():
@@ -200,9 +212,10 @@ def push(work, words):
         if not syncing.sync(work, remote, anyway):
             raise Stopped("nothing is pushed: what is said above comes first", 3)
         if before == work.repository.own_references():
-            if why.startswith(HOOKS_SAY):
-                print(plain_lines(os.fsencode(why)), end="", file=sys.stderr, flush=True)
-                raise Stopped(f"{plain(remote)} gets nothing of it, for what is said above", 3)
+            show_lines(lines)
+            if lines:
+                and_why = f": {plain(why)}" if why else ""
+                raise Stopped(f"{plain(remote)} gets nothing of it, for what is said above{and_why}", 3)
             way = HELD if why.endswith(" stands there") else "git gittuf doctor says more" if "refs/gittuf/" in why else "git pull brings what is there"
             raise Stopped(f"{plain(remote)} does not take it: {plain(why)}; {way}", 3)
         say("Another was faster: what is here was recorded anew after that, and is pushed again.")
