@@ -49,7 +49,7 @@ def named(work, words):
         return {name: repository.references()[name]} if name else {}
     references, found = repository.references(), {}
     for word in words.branches:
-        name = names.own_name(repository, word)
+        name = names.own_name(repository, word, lambda: history.recorded_names(work))
         found[name] = references.get(name)
         if found[name] is None and name not in history.recorded_names(work):
             raise names.no_such(repository, word, history.recorded_names(work))

@@ -90,7 +90,8 @@ def who_lacks(work, name, wanted, key):
 
 def recover(work, words):
     withheld.bring(work)
-    repository, name = work.repository, names.own_name(work.repository, words.branch)
+    repository = work.repository
+    name = names.own_name(repository, words.branch, lambda: history.recorded_names(work))
     shown = plain(names.short(name))
     number, fault, line = violation_of(work, name)
     if number is None:
