@@ -139,6 +139,44 @@ def records_anew_after_a_race(repositories):
     want(clones.gittuf("bob", "sync"), b"", "what sync prints where there is nothing to do")
 
 
+def takes_tags_along(repositories):
+    """push moves and takes away the tags that entries put elsewhere or away, where a server has them as its log has, and else no tag"""
+    clones = another(repositories, "moved tags")
+    clones.gittuf("server.git", "setup")
+    clones.gittuf("server.git", "hook", "install", "--server")
+    for name in ("v1", "v2", "v3"):
+        clones.git("tag", name, who="alice")
+        clones.gittuf("alice", "record", name)
+    clones.gittuf("alice", "push")
+    old = clones.tip("alice")
+    clones.commit("alice")
+    clones.gittuf("alice", "record", "main")
+    clones.git("tag", "--delete", "v1", who="alice")
+    clones.git("tag", "--force", "v2", who="alice")
+    for name in ("v1", "v2"):
+        clones.gittuf("alice", "record", name)
+    tip, zeros = clones.tip("alice"), "0" * 64
+    pushed = f"pushed {MAIN} {tip}\npushed refs/tags/v1 {zeros}\npushed refs/tags/v2 {tip}\n"
+    want(clones.gittuf("alice", "push").decode(), pushed, "what push takes along")
+    there = clones.git("for-each-ref", "--format=%(refname) %(objectname)", "refs/tags/", who="server.git").decode()
+    want(there, f"refs/tags/v2 {tip}\nrefs/tags/v3 {old}\n", "the tags of the server")
+    # What somebody put elsewhere on the disk of the server is not taken away with what is recorded.
+    clones.git("update-ref", "refs/tags/v3", tip, who="server.git")
+    clones.git("tag", "--delete", "v3", who="alice")
+    clones.gittuf("alice", "record", "v3")
+    part = "says that v3 is gone, and by this push it would stand at"
+    clones.refused_after("alice", "push", status=3, part=part)
+    want(clones.tip("server.git", "refs/tags/v3"), tip, "where the server has the tag of somebody else")
+    # Where the log went without its tag that goes by its name.
+    clones.git("update-ref", "refs/tags/v3", old, who="server.git")
+    clones.gittuf("server.git", "hook", "--remove")
+    clones.git("tag", "--force", "v3", "v2", who="alice")
+    clones.gittuf("alice", "record", "v3")
+    clones.git("push", "--quiet", "origin", "refs/gittuf/*:refs/gittuf/*", who="alice")
+    want(clones.gittuf("alice", "push", "v3").decode(), f"pushed refs/tags/v3 {tip}\n", "what push prints of a tag that is named")
+    want(clones.tip("server.git", "refs/tags/v3"), tip, "where the server has it then")
+
+
 def gives_up_no_entry_for_an_edit(repositories):
     """of two who edit the policy at once the second goes on from the first one's edit by doctor's line, and keeps what was recorded"""
     clones = another(repositories, "two edits")
@@ -163,5 +201,6 @@ CHECKS = (
     pushes_the_log_alone,
     takes_no_branch_back,
     records_anew_after_a_race,
+    takes_tags_along,
     gives_up_no_entry_for_an_edit,
 )

@@ -5,7 +5,7 @@ import re
 import sys
 
 from git_gittuf import desk_pushing, following, history, names, remotes, seen, skipping, syncing, verifying, withheld
-from git_gittuf.hook_calls import ANYWAY
+from git_gittuf.hook_calls import ANYWAY, asked_where
 from git_gittuf.remotes import is_before
 from git_gittuf.repository import ATTESTATIONS, LOG, POLICY, STAGED, TARGETS, ZEROS, Stopped
 from git_gittuf.shown import plain, plain_lines, quoted
@@ -80,14 +80,25 @@ def names_in(listed):
     return dict.fromkeys(rest[0] for _, _, kind, rest in listed if kind == b"ref")
 
 
-def recorded_since(work, remote):
-    """What entries record that a remote's log lacks, where it stands here as the log has it: it goes with them."""
+def moved_tags(work, remote, found):
+    """Where a remote has the tags that its log put there, and that stand elsewhere or are gone by what is to go: no fetch tells, so it is asked."""
+    listed, count = entries_there(work, remote)
+    had = {(rest[0], rest[1]) for _, _, kind, rest in listed[:count] if kind == b"ref"}
+    known = {name for name, _ in had}
+    asked = [it for it in {**found, **names_in(listed[count:])} if it.startswith(names.TAGS) and it in known]
+    there = asked_where(work.repository, remote, asked) if asked else {}
+    return {name: value for name, value in there.items() if (name, value) in had and value != work.repository.references().get(name)}
+
+
+def recorded_since(work, remote, tags):
+    """What entries record that a remote's log lacks, where it stands here as the log has it: it goes with them, as do these tags."""
     repository, references = work.repository, work.repository.references()
     listed, count = entries_there(work, remote)
     known, found = set(names_in(listed[:count])), {}
     for name in names_in(listed[count:]):
         value = references.get(name)
-        if (value or ZEROS) == skipping.last_of(work, listed, name) and goes_on_there(repository, remote, name, value, known):
+        goes = name in tags or goes_on_there(repository, remote, name, value, known)
+        if (value or ZEROS) == skipping.last_of(work, listed, name) and goes:
             found[name] = value
     return found
 
@@ -137,16 +148,17 @@ def expect_recorded(work, remote, found):
         raise Stopped(f"{said}, and {alone}; --anyway pushes it all the same", 3)
 
 
-def specs(work, remote, found, anyway):
-    """What git push is given: each branch, forced only over what was seen there, and the own references."""
+def specs(work, remote, found, anyway, tags):
+    """What git push is given: each branch, forced only over what was seen there, as these tags are, and the own references."""
     references, words = work.repository.references(), []
     for name, value in found.items():
         whole = os.fsdecode(name)
         # What was looked at goes, also where another moves it meanwhile.
         words.append(f":{whole}" if value is None else f"{value.decode()}:{whole}")
         seen_there = references.get(names.remote_branch(name, remote)) if name.startswith(names.HEADS) else None
-        if anyway and seen_there:
-            words.insert(0, f"--force-with-lease={whole}:{seen_there.decode()}")
+        over = tags.get(name) or anyway and seen_there
+        if over:
+            words.insert(0, f"--force-with-lease={whole}:{over.decode()}")
     own = [name for name in references if name in OWN_NAMES or name.startswith(TARGETS)]
     words += [f"{references[name].decode()}:{os.fsdecode(name)}" for name in own if references.get(remotes.beside(remote, name)) != references[name]]
     return [it for it in words if it.startswith("--")], [it for it in words if not it.startswith("--")]
@@ -157,9 +169,9 @@ def show_lines(lines):
     print(plain_lines(os.fsencode("".join(f"{it}\n" for it in lines))), end="", file=sys.stderr, flush=True)
 
 
-def pushed(work, remote, found, anyway):
+def pushed(work, remote, found, anyway, tags):
     """Pushes at once, or nothing; returns whether that was done, what git said of why not, and the lines of who refused it."""
-    options, words = specs(work, remote, found, anyway)
+    options, words = specs(work, remote, found, anyway, tags)
     if not words:
         # Without a word Git would push what its settings name.
         return True, "", []
@@ -201,8 +213,9 @@ def push(work, words):
         if not anyway:
             found = without_behind(work, remote, found, words.branches)
             expect_recorded(work, remote, found)
-        found = {**found, **recorded_since(work, remote)}
-        done, why, lines = pushed(work, remote, found, anyway)
+        tags = moved_tags(work, remote, found)
+        found = {**found, **recorded_since(work, remote, tags)}
+        done, why, lines = pushed(work, remote, found, anyway, tags)
         if done:
             seen.pushed(work.repository, remote)
             for name, value in found.items():
