@@ -139,6 +139,19 @@ def records_anew_after_a_race(repositories):
     want(clones.gittuf("bob", "sync"), b"", "what sync prints where there is nothing to do")
 
 
+def asks_nobody_for_what_is_recorded(repositories):
+    """who records once more what is recorded is told the entry that has it, and nobody is asked to approve that"""
+    clones = another(repositories, "recorded already")
+    clones.gittuf("alice", "policy", "rule", "main", "--persons", "alice,bob", "--threshold", "2")
+    clones.sign("alice")
+    clones.gittuf("alice", "policy", "apply")
+    clones.refused("alice", "record", "main", status=3, part="nothing is recorded, as entry 2 has main where it stands already")
+    tip = clones.commit("alice")
+    clones.refused("alice", "record", "main", status=3, part=f"missing is bob, who approves it by git gittuf approve main {tip}")
+    clones.gittuf("alice", "record", "main", "--anyway")
+    clones.refused("alice", "record", "main", status=3, part="main stands in violation since entry 4, and this would not end it")
+
+
 def takes_tags_along(repositories):
     """push moves and takes away the tags that entries put elsewhere or away, where a server has them as its log has, and else no tag"""
     clones = another(repositories, "moved tags")
@@ -201,6 +214,7 @@ CHECKS = (
     pushes_the_log_alone,
     takes_no_branch_back,
     records_anew_after_a_race,
+    asks_nobody_for_what_is_recorded,
     takes_tags_along,
     gives_up_no_entry_for_an_edit,
 )
