@@ -88,6 +88,7 @@ def gives_what_it_has(repositories):
 def tells_nothing_of_remotes_of_others(repositories):
     """of what a desk has from the clone whose stream was brought into it, nothing that stood there of remotes is to be put here"""
     clones = another(repositories, "desk of a clone")
+    clones.refused("bob", "doctor", "--take", "desk", status=3, part="and git gittuf fetch --desk PORT makes one of a desk")
     clones.git("push", "--quiet", "origin", "main:idea", who="alice")
     clones.gittuf("alice", "note", "1")
     clones.gittuf("alice", "push")
