@@ -268,6 +268,7 @@ def names_a_tag_that_is_gone(repositories):
     clones.gittuf("alice", "record", "v1")
     clones.git("tag", "-d", "v1", who="alice")
     clones.refused("alice", "recover", "v1", status=3, part="nothing is to be recovered of v1: tip-differs refs/tags/v1 ")
+    clones.refused("alice", "recover", "v1", status=3, part=": git gittuf verify v1 says what leads on")
     clones.refused("alice", "push", "v1", status=3, part="v1 stands where no entry of the log has it: git gittuf record v1 comes first")
     clones.refused("alice", "approve", "v1", status=3, part="there is no branch or tag v1 here: git fetch --tags may bring it")
     clones.gittuf("alice", "approve", "--delete", "v1", "--anyway")

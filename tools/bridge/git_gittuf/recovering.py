@@ -95,7 +95,8 @@ def recover(work, words):
     shown = plain(names.short(name))
     number, fault, line = violation_of(work, name)
     if number is None:
-        raise Stopped(f"nothing is to be recovered of {shown}: {plain(line) or 'no verdict is to be had'}", 3)
+        way = f": git gittuf verify {quoted(names.short(name))} says what leads on" if line.startswith("tip-differs ") else ""
+        raise Stopped(f"nothing is to be recovered of {shown}: {plain(line) or 'no verdict is to be had'}{way}", 3)
     if fault == "no-policy":
         raise Stopped(f"entry {number} was recorded before a policy was in force, and no recovery takes that in", 3)
     path = leaves.signing_key(repository)
