@@ -5,7 +5,7 @@ import os
 import stat
 
 import stream_format
-from git_gittuf import following, history, hook_calls, keys, leaves, names, otherwise, remotes, seen, signers, stores, verifying, withheld
+from git_gittuf import budgets, following, history, hook_calls, keys, leaves, names, otherwise, remotes, seen, signers, stores, verifying, withheld
 from git_gittuf.remotes import beside
 from git_gittuf.repository import ATTESTATIONS, LOG, POLICY, ZEROS, Stopped
 from git_gittuf.shown import plain, quoted
@@ -137,6 +137,8 @@ def of_unrecorded(work, entries):
 def of_settings(repository):
     if repository.config(hook_calls.ANYWAY, "--type=bool")[-1:] == ["true"]:
         yield f"{hook_calls.ANYWAY} is set, so the hook of this clone refuses no push", f"git config --unset-all {hook_calls.ANYWAY}"
+    if wrong := budgets.wrong_limit(repository):
+        yield f"{wrong[0]}, so the hook of a server refuses each push", wrong[1]
 
 
 def of_names(repository):
