@@ -5,6 +5,7 @@ import os
 import subprocess
 import sys
 
+import loaded
 from checking import Failure, at_terminal, want
 from guarded_clones import MAIN, another
 from rows_objects import object_id
@@ -82,6 +83,20 @@ def gives_what_it_has(repositories):
         want(way in said.decode(), True, f"what bob is told of a tag: {said}")
         clones.copied("bob", f"git update-ref refs/tags/v1 {clones.tip('alice', 'v1')}")
         want(clones.asked("bob", "fetch", "--desk", port), (0, b"", b""), "what is said of a tag that stands as at the desk")
+
+
+def tells_nothing_of_remotes_of_others(repositories):
+    """of what a desk has from the clone whose stream was brought into it, nothing that stood there of remotes is to be put here"""
+    clones = another(repositories, "desk of a clone")
+    clones.refused("bob", "doctor", "--take", "desk", status=3, part="and git gittuf fetch --desk PORT makes one of a desk")
+    clones.git("push", "--quiet", "origin", "main:idea", who="alice")
+    clones.gittuf("alice", "note", "1")
+    clones.gittuf("alice", "push")
+    with told(loaded.stream_of(clones.path("alice"))) as port:
+        found, _, said = clones.asked("bob", "fetch", "--desk", port)
+    want((found, said), (0, b""), "what bob is told")
+    want(clones.tip("bob", "refs/remotes/desk/main"), clones.tip("alice"), "where bob has its branch")
+    want("refs/gittuf-remotes/origin" in clones.git("for-each-ref", "refs/gittuf-remotes/desk", who="bob").decode(), False, "what else bob has of it")
 
 
 def is_named_where_it_is_alone(repositories):
@@ -216,6 +231,7 @@ def told(text):
 CHECKS = (
     takes_each_entry_once,
     gives_what_it_has,
+    tells_nothing_of_remotes_of_others,
     is_named_where_it_is_alone,
     says_what_an_answer_means,
     says_how_much_is_brought,

@@ -141,6 +141,7 @@ def refuses_what_takes_long(repositories):
     clones.git("config", "gittuf.mostSeconds", "soon", who="server.git")
     _, _, errors = run("git", "-C", clones.path("alice"), "push", *words)
     want(b"gittuf.mostSeconds is 'soon', and no number" in errors, True, f"whether an odd limit is told: {errors}")
+    want(clones.advised("server.git", "the hook of a server refuses each push"), "git gittuf hook install --server --most-seconds N", "what doctor says")
     clones.gittuf("server.git", "hook", "install", "--server", "--most-seconds", "900")
     clones.git("push", *words, who="alice")
 

@@ -95,7 +95,25 @@ def stops_before_it_leaves(repositories):
     clones.gittuf("bob", "push", "late")
 
 
+def tells_why_others_refuse(repositories):
+    """push shows what a hook of others says, on the server and here, where that refuses it"""
+    clones = another(repositories, "refused by others")
+    clones.gittuf("alice", "note", "1")
+    log, why = clones.tip("server.git", LOG), "no pushes on Fridays: ask ops"
+    for who, name, part in (("server.git", "hooks/pre-receive", "origin gets nothing of it"), ("alice", ".git/hooks/pre-push", "git does not push to")):
+        path = clones.path(os.path.join(who, name))
+        os.makedirs(os.path.dirname(path), exist_ok=True)
+        with open(path, "w", encoding="utf-8") as file:
+            file.write(f"#!/bin/sh\necho '{why}' >&2\nexit 1\n")
+        os.chmod(path, 0o755)
+        said = clones.refused_after("alice", "push", status=3 if who == "server.git" else 4, part=part)
+        want((said.count(why), "doctor" in said), (1, False), f"what push says where {name} refuses: {said}")
+        want(clones.tip("server.git", LOG), log, "where the log of the server stands")
+        os.remove(path)
+
+
 CHECKS = (
     keeps_hooks_of_others,
     stops_before_it_leaves,
+    tells_why_others_refuse,
 )

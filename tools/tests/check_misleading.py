@@ -261,6 +261,25 @@ def knows_what_a_word_names(repositories):
     want(differs in clones.gittuf("bob", "verify", status=1), True, "whether all verdicts have that one")
 
 
+def names_a_tag_that_is_gone(repositories):
+    """the short word for a tag that is gone here names it to record, approve, recover and push, as to verify, and no branch"""
+    clones = another(repositories, "gone tag")
+    clones.git("tag", "v1", who="alice")
+    clones.gittuf("alice", "record", "v1")
+    clones.git("tag", "-d", "v1", who="alice")
+    clones.refused("alice", "recover", "v1", status=3, part="nothing is to be recovered of v1: tip-differs refs/tags/v1 ")
+    clones.refused("alice", "recover", "v1", status=3, part=": git gittuf verify v1 says what leads on")
+    clones.refused("alice", "push", "v1", status=3, part="v1 stands where no entry of the log has it: git gittuf record v1 comes first")
+    clones.refused("alice", "approve", "v1", status=3, part="there is no branch or tag v1 here: git fetch --tags may bring it")
+    clones.gittuf("alice", "approve", "--delete", "v1", "--anyway")
+    clones.gittuf("alice", "record", "v1")
+    lines = clones.gittuf("alice", "log").decode().splitlines()
+    want(lines[-1].split()[3:], ["ref", "refs/tags/v1", "0" * 64], "what is recorded of it")
+    approved = clones.git("ls-tree", "-r", "--name-only", "refs/gittuf/attestations", who="alice").decode()
+    want(("/refs/tags/v1/" in approved, "refs/heads/v1" in approved), (True, False), f"what is approved: {approved}")
+    clones.refused("alice", "record", "v2", status=3, part="there is no branch or tag v2, here or in the log")
+
+
 CHECKS = (
     bears_on_the_log,
     follows_no_vain_policy,
@@ -270,4 +289,5 @@ CHECKS = (
     judges_what_is_here,
     takes_no_empty_anchor,
     knows_what_a_word_names,
+    names_a_tag_that_is_gone,
 )

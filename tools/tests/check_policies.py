@@ -25,6 +25,8 @@ def edits_rules(repositories):
     want((found, b"is that of bob too" in said), (0, True), f"what is said of a key of two persons: {said}")
     clones.gittuf("alice", "policy", "person", "carol", "--remove")
     want("+ rule docs: file:docs/* by 1 of alice bob\n" in rule("docs", "--no-terminating"), True, "whether a later rule counts again")
+    part = "bob is wanted for main, docs: git gittuf policy rule main --persons .. names others first, and so for each"
+    clones.refused("alice", "policy", "person", "bob", "--remove", status=3, part=part)
     rule("docs", "--before", "main")
     clones.refused("alice", "policy", "rule", "docs", "--before", "none", status=3, part="there is no other rule none")
     clones.refused("alice", "policy", "rule", "x", "file:x", "--persons", "bob", "--file", "none", status=3, part="there is no rule none")

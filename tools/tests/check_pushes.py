@@ -157,10 +157,83 @@ def records_anew_after_a_race(repositories):
     want(clones.gittuf("bob", "sync"), b"", "what sync prints where there is nothing to do")
 
 
+def asks_nobody_for_what_is_recorded(repositories):
+    """who records once more what is recorded is told the entry that has it, and nobody is asked to approve that"""
+    clones = another(repositories, "recorded already")
+    clones.gittuf("alice", "policy", "rule", "main", "--persons", "alice,bob", "--threshold", "2")
+    clones.sign("alice")
+    clones.gittuf("alice", "policy", "apply")
+    clones.refused("alice", "record", "main", status=3, part="nothing is recorded, as entry 2 has main where it stands already")
+    tip = clones.commit("alice")
+    clones.refused("alice", "record", "main", status=3, part=f"missing is bob, who approves it by git gittuf approve main {tip}")
+    clones.gittuf("alice", "record", "main", "--anyway")
+    clones.refused("alice", "record", "main", status=3, part="main stands in violation since entry 4, and this would not end it")
+
+
+def takes_tags_along(repositories):
+    """push moves and takes away the tags that entries put elsewhere or away, where a server has them as its log has, and else no tag"""
+    clones = another(repositories, "moved tags")
+    clones.gittuf("server.git", "setup")
+    clones.gittuf("server.git", "hook", "install", "--server")
+    for name in ("v1", "v2", "v3"):
+        clones.git("tag", name, who="alice")
+        clones.gittuf("alice", "record", name)
+    clones.gittuf("alice", "push")
+    old = clones.tip("alice")
+    clones.commit("alice")
+    clones.gittuf("alice", "record", "main")
+    clones.git("tag", "--delete", "v1", who="alice")
+    clones.git("tag", "--force", "v2", who="alice")
+    for name in ("v1", "v2"):
+        clones.gittuf("alice", "record", name)
+    tip, zeros = clones.tip("alice"), "0" * 64
+    pushed = f"pushed {MAIN} {tip}\npushed refs/tags/v1 {zeros}\npushed refs/tags/v2 {tip}\n"
+    want(clones.gittuf("alice", "push").decode(), pushed, "what push takes along")
+    there = clones.git("for-each-ref", "--format=%(refname) %(objectname)", "refs/tags/", who="server.git").decode()
+    want(there, f"refs/tags/v2 {tip}\nrefs/tags/v3 {old}\n", "the tags of the server")
+    # What somebody put elsewhere on the disk of the server is not taken away with what is recorded.
+    clones.git("update-ref", "refs/tags/v3", tip, who="server.git")
+    clones.git("tag", "--delete", "v3", who="alice")
+    clones.gittuf("alice", "record", "v3")
+    part = "says that v3 is gone, and by this push it would stand at"
+    clones.refused_after("alice", "push", status=3, part=part)
+    want(clones.tip("server.git", "refs/tags/v3"), tip, "where the server has the tag of somebody else")
+    # Where the log went without its tag that goes by its name.
+    clones.git("update-ref", "refs/tags/v3", old, who="server.git")
+    clones.gittuf("server.git", "hook", "--remove")
+    clones.git("tag", "--force", "v3", "v2", who="alice")
+    clones.gittuf("alice", "record", "v3")
+    clones.git("push", "--quiet", "origin", "refs/gittuf/*:refs/gittuf/*", who="alice")
+    want(clones.gittuf("alice", "push", "v3").decode(), f"pushed refs/tags/v3 {tip}\n", "what push prints of a tag that is named")
+    want(clones.tip("server.git", "refs/tags/v3"), tip, "where the server has it then")
+
+
+def gives_up_no_entry_for_an_edit(repositories):
+    """of two who edit the policy at once the second goes on from the first one's edit by doctor's line, and keeps what was recorded"""
+    clones = another(repositories, "two edits")
+    clones.gittuf("bob", "verify", "main")
+    clones.gittuf("alice", "policy", "rule", "of-alice", "refs/heads/a", "--persons", "alice")
+    clones.gittuf("alice", "push")
+    clones.gittuf("bob", "policy", "rule", "of-bob", "refs/heads/b", "--persons", "bob")
+    clones.gittuf("bob", "note", "1", "-m", "seen")
+    noted = clones.tip("bob", LOG)
+    clones.refused_after("bob", "push", status=3, part="refs/gittuf/policy-staging; git gittuf doctor says more")
+    clones.copied("bob", clones.advised("bob", "refs/gittuf/policy-staging here and that of origin went apart"))
+    want(clones.tip("bob", LOG), noted, "where the log stands once the other edit is taken")
+    clones.gittuf("bob", "policy", "rule", "of-bob", "refs/heads/b", "--persons", "bob")
+    clones.gittuf("bob", "push")
+    want(clones.tip("server.git", LOG), noted, "where the log of the server stands")
+    edited = clones.gittuf("bob", "policy", "show").decode()
+    want([it in edited for it in ("+ rule of-alice:", "+ rule of-bob:")], [True, True], f"what is edited then: {edited}")
+
+
 CHECKS = (
     pushes_all_or_nothing,
     pushes_the_log_alone,
     takes_no_branch_back,
     pulls_nothing_that_was_skipped,
     records_anew_after_a_race,
+    asks_nobody_for_what_is_recorded,
+    takes_tags_along,
+    gives_up_no_entry_for_an_edit,
 )

@@ -2,6 +2,7 @@
 
 import json
 import os
+import re
 
 from checking import at_terminal, want
 from git_gittuf import sentences
@@ -106,6 +107,33 @@ def tells_what_is_checked_out(repositories):
     with open(grafts, "w", encoding="utf-8") as file:
         file.write(f"{tip}\n")
     want("Git shows another history here by grafts" in said(clones, "bob", "verify", "main"), True, "what is said of grafts")
+
+
+def tells_what_is_to_be_gone(repositories):
+    """of a tag and a branch that the log says are gone, and that stand here or at a remote, verify names the entry, and a line that lets them go"""
+    clones = another(repositories, "to be gone")
+    for kind in ("tag", "branch"):
+        clones.git(kind, f"a-{kind}", who="alice")
+        clones.gittuf("alice", "record", f"a-{kind}")
+    clones.gittuf("alice", "push")
+    clones.git("fetch", "--quiet", "--tags", who="bob")
+    clones.git("branch", "--quiet", "--no-track", "a-branch", "origin/a-branch", who="bob")
+    for kind in ("tag", "branch"):
+        clones.git(kind, "-d", f"a-{kind}", who="alice")
+        clones.gittuf("alice", "record", f"a-{kind}")
+    clones.git("push", "--quiet", "origin", "refs/gittuf/*:refs/gittuf/*", who="alice")
+    clones.git("fetch", "--quiet", who="bob")
+    tip = clones.tip("bob")
+    part = f"Entry 6 says that a-branch is gone, and a-branch of origin stands at {tip[:12]}: git fetch --prune origin, or ask who"
+    want(part in clones.refused_after("bob", "verify", "--remote", "origin", status=1, part=part), True, "what is said of a remote's")
+    told = clones.refused_after("bob", "verify", status=1, part="Entry 5 says that a-tag is gone, and a-tag stands at")
+    for number, name in ((5, "refs/tags/a-tag"), (6, "refs/heads/a-branch")):
+        way = re.search(rf"Entry {number} says .* stands at {tip[:12]}: (git .*) lets it go here too. .* git gittuf record {name}\.", told)
+        want(way is not None, True, f"what bob is told of {name}: {told}")
+        clones.copied("bob", f"{way[1]} > /dev/null")
+    clones.git("push", "--quiet", "origin", "--delete", "a-branch", "a-tag", who="alice")
+    clones.copied("bob", "git fetch --quiet --prune origin")
+    want(clones.gittuf("bob", "verify").decode().count("accepted "), 4, "how many are lawful once that is done")
 
 
 def tells_what_no_rule_protects(repositories):
@@ -215,6 +243,7 @@ CHECKS = (
     judges_what_remotes_have,
     demands_an_entry,
     tells_what_is_checked_out,
+    tells_what_is_to_be_gone,
     tells_what_no_rule_protects,
     tells_what_a_rule_reaches,
     takes_no_tag_for_an_id,

@@ -13,6 +13,15 @@ SETTING = "gittuf.mostSeconds"
 SECONDS = re.compile("[1-9][0-9]{0,5}")
 
 
+def wrong_limit(repository):
+    """What is wrong with the limit that is set, and the line that sets another, or nothing."""
+    found = repository.config(SETTING)
+    if not found or SECONDS.fullmatch(found[-1]):
+        return None
+    said = f"{SETTING} is {plain(found[-1])!r}, and no number of seconds from 1 to 999999"
+    return said, "git gittuf hook install --server --most-seconds N"
+
+
 class Budget:
     """What may be spent, in seconds, or without end. A hook of others that was called first has spent its own."""
 
@@ -24,10 +33,9 @@ class Budget:
 
     def begin(self, repository):
         found = repository.config(SETTING)
-        if found and not SECONDS.fullmatch(found[-1]):
+        if wrong := wrong_limit(repository):
             # Whoever meant to set a limit is not to go on without.
-            said = f"{SETTING} is {plain(found[-1])!r}, and no number of seconds from 1 to 999999"
-            raise Stopped(f"{said}: git gittuf hook install --server --most-seconds N sets it", 2)
+            raise Stopped(f"{': '.join(wrong)} sets it", 2)
         self.most, self.before = int(found[-1]) if found else None, self.used()
 
     def hold(self, process):

@@ -137,7 +137,7 @@ def brought(work, name):
 
 def record(work, words):
     repository = work.repository
-    name = names.own_name(repository, words.branch)
+    name = names.own_name(repository, words.branch, lambda: history.brought_names(work))
     expect_own(name)
     value = brought(work, name)
     if value is None and history.last_recorded(looking.entries_of(work), name)[1] is None:
@@ -220,7 +220,7 @@ def what_is_approved(work, name, target):
 
 def approve(work, words):
     repository = work.repository
-    name = os.fsdecode(names.own_name(repository, words.branch))
+    name = os.fsdecode(names.own_name(repository, words.branch, lambda: history.brought_names(work)))
     expect_own(os.fsencode(name))
     if words.delete and words.commit:
         raise Stopped("--delete approves that a branch goes, and takes no commit", 2)

@@ -60,7 +60,8 @@ def moved(repository, remote, found):
         place = place_of(remote, name)
         if place is not None:
             wanted[place] = value
-        elif not name.startswith(TARGETS) and here.get(name) != value:
+        # What stands at a desk of remotes is what the clone knew of them whose stream was brought into it.
+        elif not name.startswith((TARGETS, remotes.REMOTES, remotes.BESIDE)) and here.get(name) != value:
             stands = "stays where it is" if name in here else "is not made here"
             way = f"git update-ref {quoted(os.fsdecode(name))} {value.decode()}"
             tell(f"{plain(os.fsdecode(name))} {stands}, as tags and others are not taken: {way} puts it where the desk has it")

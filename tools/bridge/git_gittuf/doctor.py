@@ -5,7 +5,7 @@ import os
 import stat
 
 import stream_format
-from git_gittuf import following, history, hook_calls, keys, leaves, names, otherwise, remotes, seen, signers, stores, verifying, withheld
+from git_gittuf import budgets, following, history, hook_calls, keys, leaves, names, otherwise, remotes, seen, signers, stores, verifying, withheld
 from git_gittuf.remotes import beside
 from git_gittuf.repository import ATTESTATIONS, LOG, POLICY, STAGED, ZEROS, Stopped
 from git_gittuf.shown import plain, quoted
@@ -39,6 +39,13 @@ def of_key(repository):
 def set_back(remote, name, value):
     """The line that puts at a remote what is here, where it still has there what was fetched from it."""
     return f"git push --force-with-lease={name}:{value.decode() if value else ''} {quoted(remote)} {name}"
+
+
+def taken(remote, name, value):
+    """The line that gives up what is here for what a remote has: of what is edited no more than that, and no entry with it."""
+    if name == LOG:
+        return f"git gittuf doctor --take {quoted(remote)}"
+    return f"git update-ref {name.decode()} {value.decode() if value else ''}"
 
 
 def entries_after(work, tip):
@@ -89,7 +96,7 @@ def of_remotes(work, is_whole):
     unfit = {(remote, name): how for remote, name, how in work.unfit}
     for remote, name, own, value, how in remotes.standing(repository, repository.references()):
         shown, how = name.decode(), unfit.get((remote, name), how)
-        take, back = f"git gittuf doctor --take {quoted(remote)}", set_back(remote, shown, value)
+        take, back = taken(remote, name, value), set_back(remote, shown, value)
         desk = remotes.port_of(repository, remote)
         if how in ("same", "ahead") and name == LOG and value and not desk:
             how = "dropped" if remotes.asked_log(repository, remote) == (True, None) else how
@@ -106,7 +113,8 @@ def of_remotes(work, is_whole):
             way = anew if not desk and is_own(work, here) else take
             yield f"{shown} here and that of {remote} went apart: here is {signed_by(work, here)}", way
         elif how == "apart":
-            yield f"{shown} here and that of {remote} went apart", take
+            again = "" if name == LOG else ", and once that of the remote is taken what is edited here is to be edited again"
+            yield f"{shown} here and that of {remote} went apart{again}", take
         elif how == "broken":
             whole, _ = following.last_whole(work, value)
             has_all = whole is None or own is not None and (own == whole or remotes.is_before(repository, whole, own))
@@ -130,6 +138,8 @@ def of_unrecorded(work, entries):
 def of_settings(repository):
     if repository.config(hook_calls.ANYWAY, "--type=bool")[-1:] == ["true"]:
         yield f"{hook_calls.ANYWAY} is set, so the hook of this clone refuses no push", f"git config --unset-all {hook_calls.ANYWAY}"
+    if wrong := budgets.wrong_limit(repository):
+        yield f"{wrong[0]}, so the hook of a server refuses each push", wrong[1]
 
 
 def of_names(repository):

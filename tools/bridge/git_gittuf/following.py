@@ -137,6 +137,8 @@ def to_take(work, remote, anyway=False):
     tip = references.get(beside(remote, LOG) if remote else LOG)
     if tip is None and remote:
         desk = remotes.port_of(repository, remote)
+        if not desk and remote not in repository.remotes():
+            raise Stopped(f"there is no remote {plain(remote)}: git remote -v lists them, and git gittuf fetch --desk PORT makes one of a desk", 3)
         setup = f"git gittuf fetch --desk {desk}" if desk else f"git gittuf setup {quoted(remote)}, git fetch {quoted(remote)}"
         raise Stopped(f"no log was fetched from {plain(remote)}: {setup}", 3)
     whole, printed = last_whole(work, tip) if tip else (None, b"")

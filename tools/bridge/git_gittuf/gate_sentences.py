@@ -23,7 +23,8 @@ def of_tip(line, numbers):
     way = f"git gittuf push {name.word} takes it with the log that records it"
     if numbers:
         says = f"stands at {recorded[:12]}" if int(recorded, 16) else "is gone"
-        return f"entry {numbers[-1]} says that {name.shown} {says}, and by this push it would {stands}: git gittuf push takes along what is recorded"
+        goes = f"git gittuf push takes that along where it {says} in the clone too, as git gittuf verify {name.word} tells"
+        return f"entry {numbers[-1]} says that {name.shown} {says}, and by this push it would {stands}: {goes}"
     records = f"git gittuf record {name.word} records that, and {way}; who may not change {name.shown} shows it by git push origin HEAD:refs/heads/idea, say"
     if not int(recorded, 16):
         return f"{name.shown} would {stands}, a rule protects it, and no entry says that it does: {records}"

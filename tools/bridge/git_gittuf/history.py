@@ -86,3 +86,9 @@ def recorded_names(work):
     """The references that the log speaks of, in the order of their first entries."""
     listed = entries(work.asked("log")) if LOG in work.repository.references() else []
     return list(dict.fromkeys(rest[0] for _, _, kind, rest in listed if kind == b"ref"))
+
+
+def brought_names(work):
+    """The same names once the store is what Git is."""
+    work.bring()
+    return recorded_names(work)

@@ -251,9 +251,27 @@ def expect_told_lawful(work, name, value, key, listed):
     return True
 
 
+def recorded_already(work, name, value, listed):
+    """The number of the last entry of a lawful reference, where that counts and has it at this value, or nothing."""
+    last = next((it for it in reversed(listed) if it[2] == b"ref" and it[3][0] == name), None)
+    if last is None or last[3][1] != (value or ZEROS) or last[1] in skipping.skips(work, listed):
+        return None
+    return last[0] if verdict(work, name).startswith("accepted ") else None
+
+
 def expect_lawful(work, name, value, key):
-    """Refuses what no signature by this key makes lawful, before a leaf of it is used."""
+    """Refuses what no signature by this key makes lawful, before a leaf of it is used, and asks nobody for what is recorded already."""
     listed = entries_of(work)
+    try:
+        expect_lawful_after(work, name, value, key, listed)
+    except Stopped:
+        if number := recorded_already(work, name, value, listed):
+            raise Stopped(f"nothing is recorded, as entry {number} has {plain(short(name))} where it stands already", 3) from None
+        raise
+
+
+def expect_lawful_after(work, name, value, key, listed):
+    """The same after these entries, whatever was recorded already."""
     if is_alone_asked(work, listed, name, key) or expect_told_lawful(work, name, value, key, listed):
         return
     number, line, listed = unsigned(work, name, value)

@@ -60,8 +60,11 @@ def in_place_of(repository, references, name):
     return places_at_remotes(repository, references).get(name, [])
 
 
-def own_name(repository, word):
-    """The reference here that a word names: a branch before a tag, HEAD for its branch, or a name below refs/."""
+def own_name(repository, word, recorded=tuple):
+    """The reference here that a word names: a branch before a tag, HEAD for its branch, or a name below refs/.
+
+    Where no branch or tag here has the word, nor a branch of a remote, it names what the log speaks of, as `recorded` tells that.
+    """
     if word == "HEAD":
         name = repository.head()
         if not name:
@@ -70,7 +73,11 @@ def own_name(repository, word):
     text, there = os.fsencode(word), repository.references()
     if word.startswith("refs/"):
         return text
-    return next((it for it in (HEADS + text, TAGS + text, b"refs/" + text) if it in there), HEADS + text)
+    found = next((it for it in (HEADS + text, TAGS + text, b"refs/" + text) if it in there), None)
+    if found is None and not in_place_of(repository, there, HEADS + text):
+        spoken_of = recorded()
+        found = next((it for it in (HEADS + text, TAGS + text) if it in spoken_of), None)
+    return found or HEADS + text
 
 
 def no_such(repository, word, recorded):

@@ -119,10 +119,10 @@ def remove_person(says, name):
     if not any(policies.has_person(it, name) for it in says.values()):
         raise Stopped(f"there is no person {name}: git gittuf policy show lists them", 3)
     rules = {it["name"]: it for file in says.values() for it in file.get("rules", [])}
-    for where, it in {**says["root"]["roles"], **rules}.items():
-        if name in it["persons"]:
-            named = f"git gittuf policy rule {quoted(where)} --persons .. names others first"
-            raise Stopped(f"{name} is wanted for {plain(where)}: {named}", 3)
+    wanted = [where for where, it in {**says["root"]["roles"], **rules}.items() if name in it["persons"]]
+    if wanted:
+        named = f"git gittuf policy rule {quoted(wanted[0])} --persons .. names others first{', and so for each' if len(wanted) > 1 else ''}"
+        raise Stopped(f"{name} is wanted for {', '.join(map(plain, wanted))}: {named}", 3)
     for it in says.values():
         policies.drop_person(it, name)
 

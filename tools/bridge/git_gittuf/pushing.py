@@ -5,7 +5,7 @@ import re
 import sys
 
 from git_gittuf import desk_pushing, following, history, names, remotes, seen, skipping, syncing, verifying, withheld
-from git_gittuf.hook_calls import ANYWAY
+from git_gittuf.hook_calls import ANYWAY, asked_where
 from git_gittuf.remotes import is_before
 from git_gittuf.repository import ATTESTATIONS, LOG, POLICY, STAGED, TARGETS, ZEROS, Stopped
 from git_gittuf.shown import plain, plain_lines, quoted
@@ -16,6 +16,8 @@ from stream_format import Git
 TRIES = 8
 # How the lines begin that hooks of git gittuf say, here and at the remote.
 HOOKS_SAY = ("git-gittuf: ", "remote: git-gittuf: ")
+# How those lines of Git begin that say why a remote refuses what it was sent.
+REMOTES_SAY = ("remote: ", "error: remote unpack failed: ")
 OWN_NAMES = (LOG, POLICY, ATTESTATIONS, STAGED)
 # What Git says of a file by which it holds a reference while it moves it, and which stands there already.
 LOCKED = re.compile(r"Unable to create '(.*\.lock)': File exists")
@@ -47,7 +49,7 @@ def named(work, words):
         return {name: repository.references()[name]} if name else {}
     references, found = repository.references(), {}
     for word in words.branches:
-        name = names.own_name(repository, word)
+        name = names.own_name(repository, word, lambda: history.recorded_names(work))
         found[name] = references.get(name)
         if found[name] is None and name not in history.recorded_names(work):
             raise names.no_such(repository, word, history.recorded_names(work))
@@ -78,14 +80,25 @@ def names_in(listed):
     return dict.fromkeys(rest[0] for _, _, kind, rest in listed if kind == b"ref")
 
 
-def recorded_since(work, remote):
-    """What entries record that a remote's log lacks, where it stands here as the log has it: it goes with them."""
+def moved_tags(work, remote, found):
+    """Where a remote has the tags that its log put there, and that stand elsewhere or are gone by what is to go: no fetch tells, so it is asked."""
+    listed, count = entries_there(work, remote)
+    had = {(rest[0], rest[1]) for _, _, kind, rest in listed[:count] if kind == b"ref"}
+    known = {name for name, _ in had}
+    asked = [it for it in {**found, **names_in(listed[count:])} if it.startswith(names.TAGS) and it in known]
+    there = asked_where(work.repository, remote, asked) if asked else {}
+    return {name: value for name, value in there.items() if (name, value) in had and value != work.repository.references().get(name)}
+
+
+def recorded_since(work, remote, tags):
+    """What entries record that a remote's log lacks, where it stands here as the log has it: it goes with them, as do these tags."""
     repository, references = work.repository, work.repository.references()
     listed, count = entries_there(work, remote)
     known, found = set(names_in(listed[:count])), {}
     for name in names_in(listed[count:]):
         value = references.get(name)
-        if (value or ZEROS) == skipping.last_of(work, listed, name) and goes_on_there(repository, remote, name, value, known):
+        goes = name in tags or goes_on_there(repository, remote, name, value, known)
+        if (value or ZEROS) == skipping.last_of(work, listed, name) and goes:
             found[name] = value
     return found
 
@@ -135,44 +148,55 @@ def expect_recorded(work, remote, found):
         raise Stopped(f"{said}, and {alone}; --anyway pushes it all the same", 3)
 
 
-def specs(work, remote, found, anyway):
-    """What git push is given: each branch, forced only over what was seen there, and the own references."""
+def specs(work, remote, found, anyway, tags):
+    """What git push is given: each branch, forced only over what was seen there, as these tags are, and the own references."""
     references, words = work.repository.references(), []
     for name, value in found.items():
         whole = os.fsdecode(name)
         # What was looked at goes, also where another moves it meanwhile.
         words.append(f":{whole}" if value is None else f"{value.decode()}:{whole}")
         seen_there = references.get(names.remote_branch(name, remote)) if name.startswith(names.HEADS) else None
-        if anyway and seen_there:
-            words.insert(0, f"--force-with-lease={whole}:{seen_there.decode()}")
+        over = tags.get(name) or anyway and seen_there
+        if over:
+            words.insert(0, f"--force-with-lease={whole}:{over.decode()}")
     own = [name for name in references if name in OWN_NAMES or name.startswith(TARGETS)]
     words += [f"{references[name].decode()}:{os.fsdecode(name)}" for name in own if references.get(remotes.beside(remote, name)) != references[name]]
     return [it for it in words if it.startswith("--")], [it for it in words if not it.startswith("--")]
 
 
-def pushed(work, remote, found, anyway):
-    """Pushes at once, or nothing; returns whether that was done, and what git said of why not."""
-    options, words = specs(work, remote, found, anyway)
+def show_lines(lines):
+    """Shows what git said, a line each, to whoever called."""
+    print(plain_lines(os.fsencode("".join(f"{it}\n" for it in lines))), end="", file=sys.stderr, flush=True)
+
+
+def pushed(work, remote, found, anyway, tags):
+    """Pushes at once, or nothing; returns whether that was done, what git said of why not, and the lines of who refused it."""
+    options, words = specs(work, remote, found, anyway, tags)
     if not words:
         # Without a word Git would push what its settings name.
-        return True, ""
+        return True, "", []
     settings = ("-c", f"{ANYWAY}=true") if anyway else ()
     with work.unlocked():
         with Git(*work.repository.where, *settings, "push", "--porcelain", "--atomic", *options, "--", remote, *words) as ran:
             output = ran.output.read()
             status, said = ran.end()
     if not status:
-        return True, ""
+        return True, "", []
     refused = [os.fsdecode(it) for it in output.splitlines() if it.startswith(b"!")]
     judged = [it.strip() for it in ran.lines if it.startswith(HOOKS_SAY)]
     if not refused and not judged:
+        # A hook of others here refuses it, or the remote is not reached.
+        show_lines(it for it in ran.lines if it.strip() and not it.endswith(said))
         raise Stopped(f"git does not push to {plain(remote)}: {plain(said)}")
     if locks := LOCKED.findall("\n".join(ran.lines)):
-        return False, f"{locks[0]} stands there"
+        return False, f"{locks[0]} stands there", []
+    if judged:
+        return False, "", judged
     # The others are refused for these alone.
     refused = [it for it in refused if "(atomic push failed)" not in it] or refused
     why = "; ".join(it.rpartition("\t")[2] + " " + it.split("\t")[1].rpartition(":")[2] for it in refused)
-    return False, why if not judged else "\n".join([*judged, ""])
+    is_sent = any("[remote rejected]" in it for it in refused)
+    return False, why, [it.strip() for it in ran.lines if is_sent and it.startswith(REMOTES_SAY)]
 
 
 def taken_back(work, remote, found):
@@ -216,8 +240,9 @@ def push(work, words):
         if not anyway:
             found = without_behind(work, remote, found, words.branches)
             expect_recorded(work, remote, found)
-        found = {**found, **recorded_since(work, remote)}
-        done, why = pushed(work, remote, found, anyway)
+        tags = moved_tags(work, remote, found)
+        found = {**found, **recorded_since(work, remote, tags)}
+        done, why, lines = pushed(work, remote, found, anyway, tags)
         if done:
             seen.pushed(work.repository, remote)
             for name, value in found.items():
@@ -227,9 +252,10 @@ def push(work, words):
         if not syncing.sync(work, remote, anyway):
             raise Stopped("nothing is pushed: what is said above comes first", 3)
         if before == work.repository.own_references():
-            if why.startswith(HOOKS_SAY):
-                print(plain_lines(os.fsencode(why)), end="", file=sys.stderr, flush=True)
-                raise Stopped(f"{plain(remote)} gets nothing of it, for what is said above", 3)
+            show_lines(lines)
+            if lines:
+                and_why = f": {plain(why)}" if why else ""
+                raise Stopped(f"{plain(remote)} gets nothing of it, for what is said above{and_why}", 3)
             raise Stopped(f"{plain(remote)} does not take it: {plain(why)}; {way_on(work, remote, found, why)}", 3)
         say("Another was faster: what is here was recorded anew after that, and is pushed again.")
     raise Stopped(f"others were faster {TRIES} times: git gittuf push tries again", 3)

@@ -90,13 +90,15 @@ def who_lacks(work, name, wanted, key):
 
 def recover(work, words):
     withheld.bring(work)
-    repository, name = work.repository, names.own_name(work.repository, words.branch)
+    repository = work.repository
+    name = names.own_name(repository, words.branch, lambda: history.recorded_names(work))
     shown = plain(names.short(name))
     if name not in repository.references() and name not in history.recorded_names(work):
         raise names.no_such(repository, words.branch, history.recorded_names(work))
     number, fault, line = violation_of(work, name)
     if number is None:
-        raise Stopped(f"nothing is to be recovered of {shown}: {plain(line) or 'no verdict is to be had'}", 3)
+        way = f": git gittuf verify {quoted(names.short(name))} says what leads on" if line.startswith("tip-differs ") else ""
+        raise Stopped(f"nothing is to be recovered of {shown}: {plain(line) or 'no verdict is to be had'}{way}", 3)
     if fault == "no-policy":
         raise Stopped(f"entry {number} was recorded before a policy was in force, and no recovery takes that in", 3)
     path = leaves.signing_key(repository)

@@ -71,8 +71,7 @@ def picture(count, epochs):
 
 def said_of(work, it, line, account):
     """The sentences on a verdict, and on the way out of a violation."""
-    is_checked_out = verifying.is_checked_out(work.repository, it)
-    said, found = [sentences.of_line(line, it.remote, is_checked_out)], looking.FAULT.fullmatch(line)
+    said, found = [verifying.of_line(work, it, line)], looking.FAULT.fullmatch(line)
     if line.startswith("accepted ") and not line.endswith(" 0 entries"):
         said[0] += verifying.of_unprotected(work, it.name)
     if found and found[3] in ("ref-rule", "path-rule"):

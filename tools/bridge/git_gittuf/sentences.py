@@ -62,6 +62,19 @@ def of_tip(name, words):
     )
 
 
+def of_gone(words, number, remote=None, is_checked_out=False):
+    """Of a reference that stands here, or at a remote, and of which the last entry that counts says that it is gone."""
+    name, kept = Name(words[1], remote), words[3]
+    said = f"Entry {number} says that {name.shown} is gone, and {name.place} stands at {kept[:12]}"
+    if remote:
+        return f"{said}: git fetch --prune {quoted(remote)}, or ask who may write there."
+    # A fetch brings a tag that the remote still has.
+    gone = f"git branch -D {name.word}" if name.is_branch and name.word != name.whole else f"git update-ref -d {name.whole} {kept}"
+    # Git takes no branch away whose files are there to be worked on.
+    gone = f"git switch --detach && {gone}" if is_checked_out else gone
+    return f"{said}: {gone} lets it go here too. If it is to be there again, git gittuf record {name.whole}."
+
+
 def of_violation(name, words):
     """What an entry did that is not lawful, and what leads out of that."""
     way = f" Who may change {name.shown} calls git gittuf recover {name.word}, which leads back to the files that it had before."

@@ -4,10 +4,10 @@ import functools
 import json
 import os
 
-from git_gittuf import accounts, asking, consents, copying, damage, history, names, otherwise, remotes, sentences, signers, trust, withheld
+from git_gittuf import accounts, asking, consents, copying, damage, history, names, otherwise, remotes, sentences, signers, skipping, trust, withheld
 from git_gittuf.global_verdicts import GlobalVerdicts
 from git_gittuf.remotes import is_before
-from git_gittuf.repository import LOG, OWN, Stopped
+from git_gittuf.repository import LOG, OWN, ZEROS, Stopped
 from git_gittuf.settings import SEEN, key_ids
 from git_gittuf.shown import plain, plain_name
 from git_gittuf.telling import is_heard, say, show, tell
@@ -92,6 +92,27 @@ def unspeakable(work):
     return found
 
 
+def gone_by(work, name):
+    """The number of the last entry of a reference that counts, where it says that this is gone, or nothing."""
+    listed = history.entries(work.asked("log"))
+    skipped = skipping.skips(work, listed)
+    counts = ((number, rest[1]) for number, it, kind, rest in reversed(listed) if kind == b"ref" and rest[0] == name and it not in skipped)
+    number, target = next(counts, (None, None))
+    return number if target == ZEROS else None
+
+
+def of_line(work, meant, line):
+    """The sentence for a line on a reference, and what the log says of one that is to be gone."""
+    number = gone_by(work, meant.name) if sentences.is_unrecorded(line) and LOG in work.repository.references() else None
+    here = meant.remote, is_checked_out(work.repository, meant)
+    return sentences.of_gone(line.split(" "), number, *here) if number else sentences.of_line(line, *here)
+
+
+def is_checked_out(repository, meant):
+    """Whether a branch is the one whose files are there to be worked on."""
+    return repository.top is not None and not meant.remote and repository.head() == meant.name
+
+
 def said_of(work, meant, line, source):
     """The sentence on a verdict."""
     repository, words = work.repository, line.split(" ")
@@ -104,13 +125,7 @@ def said_of(work, meant, line, source):
     found = damage.object_in(line.encode(errors="surrogateescape") + b"\n") if words[0] == "violation" else None
     if found and repository.there([found]):
         return sentences.of_limit(words)
-    said = sentences.of_line(line, meant.remote, is_checked_out(repository, meant))
-    return said + (of_accepted(work, meant, source) if words[0] == "accepted" and words[2] != "0" else "")
-
-
-def is_checked_out(repository, meant):
-    """Whether a branch is the one whose files are there to be worked on."""
-    return repository.top is not None and not meant.remote and repository.head() == meant.name
+    return of_line(work, meant, line) + (of_accepted(work, meant, source) if words[0] == "accepted" and words[2] != "0" else "")
 
 
 def of_accepted(work, meant, source):
