@@ -220,6 +220,38 @@ def judges_on_where_none_was(repositories):
     want(clones.gittuf("alice", "verify", "main").decode(), f"accepted {MAIN} 1 entries\n", "the verdict once alice has skipped it")
 
 
+def judges_nothing_that_each_clone_has(repositories):
+    """entries of a stranger that name what each clone has for itself, as where a remote's branch stands, change nothing that verify and doctor say"""
+    clones = another(repositories, "of each clone")
+    clones.gittuf("bob", "verify", "main")
+    before = clones.gittuf("bob", "verify")
+    tip, number = clones.tip("bob", LOG).encode(), 3
+    kept = clones.git("for-each-ref", "--format=%(refname)", "refs/gittuf/targets/", who="bob").decode().split()
+    for name in ("refs/remotes/origin/main", "refs/gittuf-remotes/origin/reference-state-log", kept[0]):
+        tip, body = epochs.entry(number, tip, b"0" * 64, name.encode())
+        clones.git("hash-object", "-w", "-t", "commit", "--stdin", who="bob", input=body)
+        number += 1
+    clones.git("push", "--quiet", "origin", f"{tip.decode()}:{LOG}", who="bob")
+    clones.git("fetch", "--quiet", who="alice")
+    for words in (("verify",), ("verify", "--remote", "origin")):
+        want(clones.asked("alice", *words), (0, before, b""), f"what {words} says")
+    want(clones.gittuf("alice", "log").count(b"\n"), number - 1, "how many entries are followed")
+    want(clones.gittuf("alice", "doctor"), b"all is well\n", "what doctor says")
+
+
+def tells_that_nothing_is_judged(repositories):
+    """a log that speaks of nothing but what each clone has for itself is judged nowhere, and verify says so"""
+    clones = another(repositories, "nothing of all")
+    entry, body = epochs.entry(1, None, b"0" * 64, b"refs/remotes/origin/main")
+    clones.git("hash-object", "-w", "-t", "commit", "--stdin", who="alice", input=body)
+    for name in (LOG, POLICY):
+        clones.git("update-ref", "-d", name, who="server.git")
+    clones.git("push", "--quiet", "origin", f"{entry.decode()}:{LOG}", who="alice")
+    clones.clone("newcomer", key=False)
+    for words in (("verify",), ("verify", "--remote", "origin"), ("report",)):
+        clones.refused_after("newcomer", *words, status=3, part="no entry of the log speaks of a branch or tag")
+
+
 CHECKS = (
     tells_a_rollback,
     tells_a_dropped_log,
@@ -230,4 +262,6 @@ CHECKS = (
     takes_no_branch_for_a_log,
     judges_by_no_older_policy,
     judges_on_where_none_was,
+    judges_nothing_that_each_clone_has,
+    tells_that_nothing_is_judged,
 )

@@ -5,7 +5,7 @@ import os
 import stat
 
 import stream_format
-from git_gittuf import following, history, hook_calls, keys, leaves, names, otherwise, remotes, seen, signers, stores, verifying, withheld
+from git_gittuf import copying, following, history, hook_calls, keys, leaves, names, otherwise, remotes, seen, signers, stores, verifying, withheld
 from git_gittuf.remotes import beside
 from git_gittuf.repository import ATTESTATIONS, LOG, POLICY, ZEROS, Stopped
 from git_gittuf.shown import plain, quoted
@@ -153,7 +153,8 @@ def of_log(work, status, printed):
     entries = history.entries(printed)
     yield from (withheld.sentence(number, target) for number, _, target in withheld.lacking(work))
     yield from of_unrecorded(work, entries)
-    last, there = {rest[0]: rest[1] for _, _, kind, rest in entries if kind == b"ref"}, names.places_at_remotes(repository, references)
+    last = {rest[0]: rest[1] for _, _, kind, rest in entries if kind == b"ref" and copying.is_own(rest[0])}
+    there = names.places_at_remotes(repository, references)
     for name, target in last.items():
         stand = [references[name]] if name in references else [it.value for it in there.get(name, [])]
         if target not in (stand or [ZEROS]):

@@ -61,10 +61,16 @@ def meant_by(work, words):
         # Nothing judged is not to look like all is well.
         raise Stopped(sentences.NO_LOG, 3)
     protected = functools.partial(protected_of, work)
+    # Where each clone has something of its own no entry says where it stands.
+    shared = [it for it in recorded() if copying.is_own(it)]
     if remote is not None:
-        return names.all_at_remote(repository, remote, recorded(), protected)
-    found = names.all_of(repository, recorded(), protected)
-    return [*found, *elsewhere(work, found)]
+        found = names.all_at_remote(repository, remote, shared, protected)
+    else:
+        found = names.all_of(repository, shared, protected)
+        found += elsewhere(work, found)
+    if not found:
+        raise Stopped("no entry of the log speaks of a branch or tag, and no rule protects one: nothing is judged", 3)
+    return found
 
 
 def asked_for(work, meant, root):
