@@ -94,6 +94,22 @@ def tells_a_fork(repositories):
     want(said.count("went apart"), 1, f"how often sync tells that it goes over to no log: {said}")
 
 
+def leads_out_of_what_is_no_log(repositories):
+    """where a server put what is no entry onto the log, and something was recorded here since, the line of doctor leads out all the same"""
+    clones = another(repositories, "no entry on top")
+    tree = clones.git("mktree", who="server.git").decode().strip()
+    made = clones.git("commit-tree", "-p", LOG, "-m", "no entry", tree, who="server.git").decode().strip()
+    clones.git("update-ref", LOG, made, who="server.git")
+    clones.commit("alice")
+    clones.gittuf("alice", "record", "main")
+    clones.git("fetch", "--quiet", who="alice")
+    status, _, errors = clones.asked("alice", "verify", "main")
+    want((status, f"{LOG} of origin is no log".encode() in errors), (3, True), f"what verify says: {errors}")
+    clones.copied("alice", clones.advised("alice", f"{LOG} of origin is no log after its last whole entry, and is not followed"))
+    clones.gittuf("alice", "push")
+    want(clones.gittuf("alice", "doctor"), b"all is well\n", "what doctor says then")
+
+
 def signs_nothing_of_others(repositories):
     """sync goes over to no log that lacks what the server had, and signs nothing anew that only names the own key"""
     clones = another(repositories, "rewritten")
@@ -257,6 +273,7 @@ CHECKS = (
     tells_a_dropped_log,
     accuses_no_server_that_is_not_fetched,
     tells_a_fork,
+    leads_out_of_what_is_no_log,
     signs_nothing_of_others,
     follows_nothing_invented,
     takes_no_branch_for_a_log,
