@@ -88,10 +88,16 @@ def tells_a_fork(repositories):
     clones.git("fetch", "--quiet", who="alice")
     told(clones, "alice", "went apart, and neither is taken back")
     found = clones.gittuf("alice", "doctor", status=1).decode()
-    want("went apart: here is entry 3, signed by bob: git gittuf doctor --take origin" in found, True, f"what doctor says: {found}")
+    line = f"git push --force-with-lease={LOG}:{clones.tip('server.git', LOG)} origin {LOG}"
+    ways = f"ask who may write to origin; {line} puts it back, and git gittuf doctor --take origin gives it up\n"
+    want(f"went apart: here is entry 3, signed by bob: {ways}" in found, True, f"what doctor says: {found}")
     clones.refused_after("alice", "doctor", "--take", "origin", status=3, part="not of your key but of bob")
     said = clones.refused_after("alice", "sync", status=3, part=f"{LOG} here and that of origin went apart, and neither is taken back")
     want(said.count("went apart"), 1, f"how often sync tells that it goes over to no log: {said}")
+    clones.copied("alice", line)
+    want(clones.tip("server.git", LOG), clones.tip("alice", LOG), "where the log of the server stands once it is put back")
+    clones.gittuf("alice", "push", "--anyway")
+    want(clones.gittuf("alice", "doctor"), b"all is well\n", "what doctor says then")
 
 
 def leads_out_of_what_is_no_log(repositories):
