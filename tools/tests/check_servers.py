@@ -224,7 +224,7 @@ def judges_by_no_older_policy(repositories):
 
 
 def judges_on_where_none_was(repositories):
-    """an entry of a stranger for a policy that never was keeps verdicts away until who signs policies skips it"""
+    """an entry of a stranger for a policy that never was keeps verdicts and signatures away until who signs policies skips it"""
     clones = another(repositories, "never was")
     clones.gittuf("bob", "verify", "main")
     tip, target = clones.tip("bob", LOG).encode(), b"5" * 64
@@ -234,12 +234,14 @@ def judges_on_where_none_was(repositories):
     clones.git("push", "--quiet", "origin", f"{entry.decode()}:{LOG}", who="bob")
     clones.git("fetch", "--quiet", who="alice")
     part = f"entry 3 recorded a policy that is not here, {target.decode()[:12]}"
-    clones.refused("alice", "verify", "main", status=3, part=part)
+    for word in ("verify", "record", "approve", "recover"):
+        clones.refused("alice", word, "main", status=3, part=part)
     clones.git("update-ref", LOG, entry.decode(), who="bob")
     clones.gittuf("bob", "skip", "3")
     clones.refused("bob", "verify", "main", status=3, part=part)
     clones.gittuf("alice", "skip", "3")
     want(clones.gittuf("alice", "verify", "main").decode(), f"accepted {MAIN} 1 entries\n", "the verdict once alice has skipped it")
+    clones.gittuf("alice", "record", "main")
 
 
 def judges_nothing_that_each_clone_has(repositories):

@@ -4,7 +4,7 @@ import os
 
 from git_gittuf import commands, consents, history, inspecting, leaves, looking, names, policies, settings, signers, skipping, withheld
 from git_gittuf.remotes import beside, of_git
-from git_gittuf.repository import LOG, ZEROS, Stopped
+from git_gittuf.repository import LOG, POLICY, ZEROS, Stopped
 from git_gittuf.shown import plain, quoted
 from git_gittuf.telling import show, tell
 
@@ -92,6 +92,8 @@ def recover(work, words):
     withheld.bring(work)
     repository, name = work.repository, names.own_name(work.repository, words.branch)
     shown = plain(names.short(name))
+    if name != POLICY and not words.anyway:
+        withheld.expect_here(work)
     number, fault, line = violation_of(work, name)
     if number is None:
         raise Stopped(f"nothing is to be recovered of {shown}: {plain(line) or 'no verdict is to be had'}", 3)
