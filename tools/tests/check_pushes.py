@@ -139,9 +139,20 @@ def records_anew_after_a_race(repositories):
     want(clones.gittuf("bob", "sync"), b"", "what sync prints where there is nothing to do")
 
 
+def says_why_git_does_not_push(repositories):
+    """where git itself refuses to push, push says why, as where a stranger's branch lets the name of another mean two things there"""
+    clones = another(repositories, "two meanings")
+    clones.git("update-ref", f"refs/heads/{MAIN}", clones.tip("server.git"), who="server.git")
+    clones.commit("alice")
+    clones.gittuf("alice", "record", "main")
+    part = f"git does not push to origin: dst refspec {MAIN} matches more than one"
+    clones.refused("alice", "push", status=4, part=part)
+
+
 CHECKS = (
     pushes_all_or_nothing,
     pushes_the_log_alone,
     takes_no_branch_back,
     records_anew_after_a_race,
+    says_why_git_does_not_push,
 )

@@ -166,7 +166,9 @@ def pushed(work, remote, found, anyway):
     refused = [os.fsdecode(it) for it in output.splitlines() if it.startswith(b"!")]
     judged = [it.strip() for it in ran.lines if it.startswith(HOOKS_SAY)]
     if not refused and not judged:
-        raise Stopped(f"git does not push to {plain(remote)}: {plain(said)}")
+        # The last line tells that it failed, and one before it why.
+        whys = [it.removeprefix("error: ") for it in ran.lines if it.startswith("error: ")]
+        raise Stopped(f"git does not push to {plain(remote)}: {plain(said if len(whys) < 2 else whys[0])}")
     if locks := LOCKED.findall("\n".join(ran.lines)):
         return False, f"{locks[0]} stands there"
     # The others are refused for these alone.
