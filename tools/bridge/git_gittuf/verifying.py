@@ -88,11 +88,19 @@ def verdict(work, meant, root):
     return work.read(*asked, at=at)
 
 
+def is_text(name):
+    """Whether a name is UTF-8, without which it is no word of the program."""
+    try:
+        return bool(name.decode())
+    except UnicodeDecodeError:
+        return False
+
+
 def unspeakable(work):
     """The branches and tags, here or at remotes, whose names no log can have, and that no policy leaves unprotected."""
     found = []
     for name in names.odd_names(work.repository):
-        status, printed = work.read("explain", f"git:{os.fsdecode(name)}")
+        status, printed = work.read("explain", f"git:{os.fsdecode(name)}") if is_text(name) else (2, b"")
         if status or printed.startswith(b"rule "):
             found.append(name)
     return found
