@@ -149,10 +149,30 @@ def says_why_git_does_not_push(repositories):
     clones.refused("alice", "push", status=4, part=part)
 
 
+def puts_back_what_was_recovered(repositories):
+    """where a branch is recovered here and the server has it as the stranger recorded it, push brings nothing of that here, and names the line that puts it back"""
+    clones = another(repositories, "put back")
+    before = clones.tip("alice")
+    clones.clone("mallory")
+    clones.commit("mallory")
+    clones.gittuf("mallory", "record", "main", "--anyway")
+    clones.gittuf("mallory", "push")
+    clones.git("fetch", "--quiet", who="alice")
+    clones.gittuf("alice", "recover", "main")
+    line = "git gittuf push --remote origin --anyway main"
+    part = f"main stands there where an earlier entry had it, and {line} puts it where the log has it"
+    clones.refused("alice", "push", status=3, part=part)
+    clones.copied("alice", line)
+    want(clones.tip("server.git"), before, "where the server has main then")
+    clones.git("fetch", "--quiet", who="bob")
+    clones.verdict("bob", f"accepted {MAIN} 3 entries")
+
+
 CHECKS = (
     pushes_all_or_nothing,
     pushes_the_log_alone,
     takes_no_branch_back,
     records_anew_after_a_race,
     says_why_git_does_not_push,
+    puts_back_what_was_recovered,
 )

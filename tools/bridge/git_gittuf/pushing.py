@@ -177,6 +177,28 @@ def pushed(work, remote, found, anyway):
     return False, why if not judged else "\n".join([*judged, ""])
 
 
+def left_behind(work, remote, found):
+    """Those branches that a remote has where an earlier entry had them, and that stand here where the log has them now."""
+    listed, references = history.entries(work.asked("log")) if LOG in work.repository.references() else [], work.repository.references()
+    last, had = skipping.targets_of(work, listed), {(rest[0], rest[1]) for _, _, kind, rest in listed if kind == b"ref"}
+    there = {name: references.get(names.remote_branch(name, remote)) for name in found if name.startswith(names.HEADS)}
+    return [name for name, value in there.items() if value != found[name] == last.get(name) and (name, value) in had]
+
+
+def way_on(work, remote, found, why):
+    """What leads on where a remote does not take a push, of which git says why."""
+    behind = left_behind(work, remote, found)
+    if why.endswith(" stands there"):
+        return HELD
+    if "refs/gittuf/" in why:
+        return "git gittuf doctor says more"
+    if not behind:
+        return "git pull brings what is there"
+    word = ' '.join(quoted(names.short(it)) for it in behind)
+    way = f"git gittuf push --remote {quoted(remote)} --anyway {word} puts it where the log has it"
+    return f"{plain(names.short(behind[0]))} stands there where an earlier entry had it, and {way}"
+
+
 def push(work, words):
     if words.desk is not None:
         return desk_pushing.push(work, words)
@@ -205,8 +227,7 @@ def push(work, words):
             if why.startswith(HOOKS_SAY):
                 print(plain_lines(os.fsencode(why)), end="", file=sys.stderr, flush=True)
                 raise Stopped(f"{plain(remote)} gets nothing of it, for what is said above", 3)
-            way = HELD if why.endswith(" stands there") else "git gittuf doctor says more" if "refs/gittuf/" in why else "git pull brings what is there"
-            raise Stopped(f"{plain(remote)} does not take it: {plain(why)}; {way}", 3)
+            raise Stopped(f"{plain(remote)} does not take it: {plain(why)}; {way_on(work, remote, found, why)}", 3)
         say("Another was faster: what is here was recorded anew after that, and is pushed again.")
     raise Stopped(f"others were faster {TRIES} times: git gittuf push tries again", 3)
 
