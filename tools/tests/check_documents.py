@@ -5,7 +5,7 @@ import os
 import re
 
 import twin_files
-from checking import TOP, Failure
+from checking import TOP, Failure, want
 
 README_BYTES = 10_000
 # Where crates stand whose sources have one more ending.
@@ -181,6 +181,13 @@ def undefined_in(page, text):
                 yield f"{page}: {it} of {path}"
 
 
+def formats_lists_its_headings(repositories):
+    """the line of links in front of docs/FORMATS.md leads to each part of it, in their order"""
+    text = text_of("docs/FORMATS.md")
+    listed = re.findall(r"\[([^\]]+)\]\(#", text.partition("\n## ")[0])
+    want(listed, re.findall(r"^## (.*)$", text, re.MULTILINE), "the parts that are listed")
+
+
 def definitions_exist(repositories):
     """each definition, law, call, test and edit that THE-VERDICT, RULES and FORMATS name is there"""
     found = []
@@ -245,6 +252,7 @@ CHECKS = (
     lists_each_crate,
     crates_have_pages,
     links_lead_somewhere,
+    formats_lists_its_headings,
     definitions_exist,
     rows_exist,
     twins_can_be_tried,

@@ -2,6 +2,7 @@
 
 import base64
 import json
+import os
 
 from checking import at_terminal, run, want
 from guarded_clones import MAIN, another
@@ -203,6 +204,10 @@ def judges_what_is_here(repositories):
     clones.git("fetch", "--quiet", who="auditor")
     clones.refused_after("auditor", "verify", status=1, part=f"no log can speak of {LONG}, which a rule may protect")
     clones.git("update-ref", "-d", LONG, who="server.git")
+    clones.git("fetch", "--quiet", "--prune", who="auditor")
+    clones.git("tag", os.fsdecode(b"v\xff"), who="auditor")
+    said = b"git-gittuf: no log can speak of refs/tags/v\\xff, which a rule may protect\n"
+    want(clones.asked("auditor", "verify")[::2], (1, said), "what is said of a name that is no UTF-8")
     clones.git("update-ref", LOG, clones.tip("alice", f"{LOG}~4"), who="server.git")
     clones.git("update-ref", POLICY, clones.tip("alice", f"{POLICY}~1"), who="server.git")
     clones.clone("deceived", key=False)

@@ -100,24 +100,6 @@ def takes_no_branch_back(repositories):
     clones.verdict("alice", f"accepted {MAIN} 3 entries")
 
 
-def pulls_nothing_that_was_skipped(repositories):
-    """who takes back what was never merged here is led to a push that takes it back on the server, and to no pull of it"""
-    clones = another(repositories, "taken back unmerged")
-    tip = clones.tip("alice")
-    clones.clone("mallory")
-    clones.commit("mallory", "evil")
-    clones.gittuf("mallory", "record", "main", "--anyway")
-    clones.git("push", "--quiet", who="mallory")
-    clones.git("fetch", "--quiet", who="alice")
-    clones.gittuf("alice", "recover", "main")
-    way = "git gittuf push --remote origin --anyway main"
-    part = f"what it has there was skipped, and {way} takes it back there"
-    clones.refused("alice", "push", status=3, part=part)
-    clones.copied("alice", way)
-    want([clones.tip("server.git"), clones.tip("alice")], [tip, tip], "where main stands on the server, and here")
-    clones.verdict("alice", f"accepted {MAIN} 3 entries")
-
-
 def records_anew_after_a_race(repositories):
     """of two who record at once the second records anew after the first by push or sync, as far as that is lawful, and an approval too"""
     clones = another(repositories, "raced")
@@ -227,13 +209,43 @@ def gives_up_no_entry_for_an_edit(repositories):
     want([it in edited for it in ("+ rule of-alice:", "+ rule of-bob:")], [True, True], f"what is edited then: {edited}")
 
 
+def says_why_git_does_not_push(repositories):
+    """where git itself refuses to push, push says why, as where a stranger's branch lets the name of another mean two things there"""
+    clones = another(repositories, "two meanings")
+    clones.git("update-ref", f"refs/heads/{MAIN}", clones.tip("server.git"), who="server.git")
+    clones.commit("alice")
+    clones.gittuf("alice", "record", "main")
+    part = f"git does not push to origin: dst refspec {MAIN} matches more than one"
+    clones.refused("alice", "push", status=4, part=part)
+
+
+def puts_back_what_was_recovered(repositories):
+    """where a branch is recovered here and the server has it as the stranger recorded it, push brings nothing of that here, and names the line that puts it back"""
+    clones = another(repositories, "put back")
+    before = clones.tip("alice")
+    clones.clone("mallory")
+    clones.commit("mallory")
+    clones.gittuf("mallory", "record", "main", "--anyway")
+    clones.gittuf("mallory", "push")
+    clones.git("fetch", "--quiet", who="alice")
+    clones.gittuf("alice", "recover", "main")
+    line = "git gittuf push --remote origin --anyway main"
+    part = f"main stands there where an earlier entry had it, and {line} puts it where the log has it"
+    clones.refused("alice", "push", status=3, part=part)
+    clones.copied("alice", line)
+    want(clones.tip("server.git"), before, "where the server has main then")
+    clones.git("fetch", "--quiet", who="bob")
+    clones.verdict("bob", f"accepted {MAIN} 3 entries")
+
+
 CHECKS = (
     pushes_all_or_nothing,
     pushes_the_log_alone,
     takes_no_branch_back,
-    pulls_nothing_that_was_skipped,
     records_anew_after_a_race,
     asks_nobody_for_what_is_recorded,
     takes_tags_along,
     gives_up_no_entry_for_an_edit,
+    says_why_git_does_not_push,
+    puts_back_what_was_recovered,
 )

@@ -6,6 +6,7 @@ import os
 import re
 import shutil
 
+import check_global
 from checking import Skip, run, want
 from guarded_clones import MAIN, another
 
@@ -126,4 +127,21 @@ def tells_what_does_not_fit(repositories):
         want(part in text.partition("<h2>")[0], True, f"whether it says {part}: {text[:3000]}")
 
 
-CHECKS = (tells_all, tells_what_does_not_fit, is_read_by_a_browser)
+def tells_global_verdicts(repositories):
+    """the report has the verdict by global rules behind the other, its entry is marked, and one that is broken ends it with 1 as it ends verify"""
+    clones = another(repositories, "report of global rules")
+    check_global.put_in_force(clones, check_global.KEEP)
+    clones.commit("alice")
+    clones.gittuf("alice", "record", "main")
+    kept = {it[3]: it[1:3] for it in Page(clones.gittuf("alice", "report").decode()).tables["verdicts"][1:]}
+    want(kept.get(f"global-kept {MAIN} 2 entries", [""])[0], "global-kept", f"the verdict of a branch that goes on: {kept}")
+    clones.git("reset", "--quiet", "--hard", "HEAD~1", who="alice")
+    clones.gittuf("alice", "record", "main", "--anyway")
+    text = clones.gittuf("alice", "report", status=1).decode()
+    rows = [it[1:] for it in Page(text).tables["verdicts"][1:] if it[0] == "main"]
+    want([it[2] for it in rows], [f"accepted {MAIN} 3 entries", f"global-violation {MAIN} 5 rewound keep"], "the lines of one that goes back")
+    want("global rule keep lets it only go on" in rows[1][1], True, f"whether it says which rule: {rows[1]}")
+    want(re.findall(r'<i style="left:[0-9.]+%">(\d+)</i>', text), ["5"], "what is marked below the policies")
+
+
+CHECKS = (tells_all, tells_what_does_not_fit, tells_global_verdicts, is_read_by_a_browser)

@@ -103,10 +103,32 @@ def tells_a_fork(repositories):
     clones.git("fetch", "--quiet", who="alice")
     told(clones, "alice", "went apart, and neither is taken back")
     found = clones.gittuf("alice", "doctor", status=1).decode()
-    want("went apart: here is entry 3, signed by bob: git gittuf doctor --take origin" in found, True, f"what doctor says: {found}")
+    line = f"git push --force-with-lease={LOG}:{clones.tip('server.git', LOG)} origin {LOG}"
+    ways = f"ask who may write to origin; {line} puts it back, and git gittuf doctor --take origin gives it up\n"
+    want(f"went apart: here is entry 3, signed by bob: {ways}" in found, True, f"what doctor says: {found}")
     clones.refused_after("alice", "doctor", "--take", "origin", status=3, part="not of your key but of bob")
     said = clones.refused_after("alice", "sync", status=3, part=f"{LOG} here and that of origin went apart, and neither is taken back")
     want(said.count("went apart"), 1, f"how often sync tells that it goes over to no log: {said}")
+    clones.copied("alice", line)
+    want(clones.tip("server.git", LOG), clones.tip("alice", LOG), "where the log of the server stands once it is put back")
+    clones.gittuf("alice", "push", "--anyway")
+    want(clones.gittuf("alice", "doctor"), b"all is well\n", "what doctor says then")
+
+
+def leads_out_of_what_is_no_log(repositories):
+    """where a server put what is no entry onto the log, and something was recorded here since, the line of doctor leads out all the same"""
+    clones = another(repositories, "no entry on top")
+    tree = clones.git("mktree", who="server.git").decode().strip()
+    made = clones.git("commit-tree", "-p", LOG, "-m", "no entry", tree, who="server.git").decode().strip()
+    clones.git("update-ref", LOG, made, who="server.git")
+    clones.commit("alice")
+    clones.gittuf("alice", "record", "main")
+    clones.git("fetch", "--quiet", who="alice")
+    status, _, errors = clones.asked("alice", "verify", "main")
+    want((status, f"{LOG} of origin is no log".encode() in errors), (3, True), f"what verify says: {errors}")
+    clones.copied("alice", clones.advised("alice", f"{LOG} of origin is no log after its last whole entry, and is not followed"))
+    clones.gittuf("alice", "push")
+    want(clones.gittuf("alice", "doctor"), b"all is well\n", "what doctor says then")
 
 
 def signs_nothing_of_others(repositories):
@@ -217,7 +239,7 @@ def judges_by_no_older_policy(repositories):
 
 
 def judges_on_where_none_was(repositories):
-    """an entry of a stranger for a policy that never was keeps verdicts away until who signs policies skips it"""
+    """an entry of a stranger for a policy that never was keeps verdicts and signatures away until who signs policies skips it"""
     clones = another(repositories, "never was")
     clones.gittuf("bob", "verify", "main")
     tip, target = clones.tip("bob", LOG).encode(), b"5" * 64
@@ -227,12 +249,46 @@ def judges_on_where_none_was(repositories):
     clones.git("push", "--quiet", "origin", f"{entry.decode()}:{LOG}", who="bob")
     clones.git("fetch", "--quiet", who="alice")
     part = f"entry 3 recorded a policy that is not here, {target.decode()[:12]}"
-    clones.refused("alice", "verify", "main", status=3, part=part)
+    for word in ("verify", "record", "approve", "recover"):
+        clones.refused("alice", word, "main", status=3, part=part)
     clones.git("update-ref", LOG, entry.decode(), who="bob")
     clones.gittuf("bob", "skip", "3")
     clones.refused("bob", "verify", "main", status=3, part=part)
     clones.gittuf("alice", "skip", "3")
     want(clones.gittuf("alice", "verify", "main").decode(), f"accepted {MAIN} 1 entries\n", "the verdict once alice has skipped it")
+    clones.gittuf("alice", "record", "main")
+
+
+def judges_nothing_that_each_clone_has(repositories):
+    """entries of a stranger that name what each clone has for itself, as where a remote's branch stands, change nothing that verify and doctor say"""
+    clones = another(repositories, "of each clone")
+    clones.gittuf("bob", "verify", "main")
+    before = clones.gittuf("bob", "verify")
+    tip, number = clones.tip("bob", LOG).encode(), 3
+    kept = clones.git("for-each-ref", "--format=%(refname)", "refs/gittuf/targets/", who="bob").decode().split()
+    for name in ("refs/remotes/origin/main", "refs/gittuf-remotes/origin/reference-state-log", kept[0]):
+        tip, body = epochs.entry(number, tip, b"0" * 64, name.encode())
+        clones.git("hash-object", "-w", "-t", "commit", "--stdin", who="bob", input=body)
+        number += 1
+    clones.git("push", "--quiet", "origin", f"{tip.decode()}:{LOG}", who="bob")
+    clones.git("fetch", "--quiet", who="alice")
+    for words in (("verify",), ("verify", "--remote", "origin")):
+        want(clones.asked("alice", *words), (0, before, b""), f"what {words} says")
+    want(clones.gittuf("alice", "log").count(b"\n"), number - 1, "how many entries are followed")
+    want(clones.gittuf("alice", "doctor"), b"all is well\n", "what doctor says")
+
+
+def tells_that_nothing_is_judged(repositories):
+    """a log that speaks of nothing but what each clone has for itself is judged nowhere, and verify says so"""
+    clones = another(repositories, "nothing of all")
+    entry, body = epochs.entry(1, None, b"0" * 64, b"refs/remotes/origin/main")
+    clones.git("hash-object", "-w", "-t", "commit", "--stdin", who="alice", input=body)
+    for name in (LOG, POLICY):
+        clones.git("update-ref", "-d", name, who="server.git")
+    clones.git("push", "--quiet", "origin", f"{entry.decode()}:{LOG}", who="alice")
+    clones.clone("newcomer", key=False)
+    for words in (("verify",), ("verify", "--remote", "origin"), ("report",)):
+        clones.refused_after("newcomer", *words, status=3, part="no entry of the log speaks of a branch or tag")
 
 
 CHECKS = (
@@ -241,9 +297,12 @@ CHECKS = (
     tells_a_dropped_log,
     accuses_no_server_that_is_not_fetched,
     tells_a_fork,
+    leads_out_of_what_is_no_log,
     signs_nothing_of_others,
     follows_nothing_invented,
     takes_no_branch_for_a_log,
     judges_by_no_older_policy,
     judges_on_where_none_was,
+    judges_nothing_that_each_clone_has,
+    tells_that_nothing_is_judged,
 )

@@ -163,6 +163,9 @@ def begins_no_second_log(repositories):
         clones.refused("plain", *words, status=3, part="and origin has one, beside which none is begun: git gittuf setup origin && git fetch origin")
     status, said = at_terminal("git gittuf verify main", clones.path("plain"))
     want((status, "git gittuf setup && git fetch brings the remote's" in said), (1, True), f"what is told: {said}")
+    for words, wanted in (("log", 0), ("explain main", 0), ("policy show", 3)):
+        status, said = at_terminal(f"git gittuf {words}", clones.path("plain"))
+        want((status, "here is no log here" in said, "git gittuf setup" in said), (wanted, True, True), f"what a person is told by {words}: {said}")
     clones.git("remote", "set-url", "origin", "../nowhere.git", who="plain")
     clones.refused("plain", "record", "main", status=3, part="origin does not answer whether it has one")
     clones.gittuf("plain", "record", "main", "--anyway")

@@ -145,6 +145,7 @@ def record(work, words):
     path = leaves.signing_key(repository)
     expect_one_log(work, words.anyway)
     if not words.anyway:
+        withheld.expect_here(work)
         expect_no_step_back(work, name, value)
     printed = recorded_as_brought(work, name, value, path, words.anyway)
     show(printed)
@@ -229,6 +230,7 @@ def approve(work, words):
     path = leaves.signing_key(repository)
     expect_one_log(work, words.anyway)
     if not words.anyway:
+        withheld.expect_here(work)
         consents.expect_wanted(work, os.fsencode(name), None if words.delete else target, looking.key_id(path))
     say(what_is_approved(work, os.fsencode(name), target))
     show(approved_by(work, name, target, path))

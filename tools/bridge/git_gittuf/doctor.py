@@ -5,8 +5,8 @@ import os
 import stat
 
 import stream_format
-from git_gittuf import budgets, following, history, hook_calls, keys, leaves, names, otherwise, remotes, seen, signers, stores, verifying, withheld
-from git_gittuf.remotes import beside
+from git_gittuf import budgets, copying, following, history, hook_calls, keys, leaves, names, otherwise, remotes, seen, signers, stores, verifying, withheld
+from git_gittuf.remotes import beside, is_before
 from git_gittuf.repository import ATTESTATIONS, LOG, POLICY, STAGED, ZEROS, Stopped
 from git_gittuf.shown import plain, quoted
 from git_gittuf.telling import say
@@ -70,6 +70,22 @@ def is_own(work, entries):
     return own is not None and set(signers.in_force(work).keys_of(work.repository, entries).values()) == {own}
 
 
+def is_rewritten(repository, remote, value):
+    """Whether a remote's log lacks entries that it was seen to have, so that nobody was only faster."""
+    last = seen.read(repository).get(remote)
+    return last is not None and repository.there([last]) and not is_before(repository, last, value)
+
+
+def way_of_apart(work, remote, value, here):
+    """How that goes on where a remote's log went apart from the own one behind these entries of it."""
+    desk, take = remotes.port_of(work.repository, remote), f"git gittuf doctor --take {quoted(remote)}"
+    if desk:
+        return take
+    if is_rewritten(work.repository, remote, value):
+        return f"ask who may write to {quoted(remote)}; {set_back(remote, LOG.decode(), value)} puts it back, and {take} gives it up"
+    return f"git gittuf sync --remote {quoted(remote)} records it anew after that, as far as it is lawful, and {take} gives it up" if is_own(work, here) else take
+
+
 def of_lost(work, remote, value, how):
     """What a remote's log lost that had gone further, and how that goes on."""
     last = seen.read(work.repository).get(remote) or value
@@ -109,15 +125,14 @@ def of_remotes(work, is_whole):
             yield f"{shown} goes on here from where {remote} has it", f"git gittuf push --remote {quoted(remote)}"
         elif how == "apart" and name == LOG and is_whole:
             here = entries_after(work, repository.git("merge-base", own.decode(), value.decode())[1].strip())
-            anew = f"git gittuf sync --remote {quoted(remote)} records it anew after that, as far as it is lawful, and {take} gives it up"
-            way = anew if not desk and is_own(work, here) else take
-            yield f"{shown} here and that of {remote} went apart: here is {signed_by(work, here)}", way
+            said = f"here {'is' if len(here) == 1 else 'are'} {signed_by(work, here)}"
+            yield f"{shown} here and that of {remote} went apart: {said}", way_of_apart(work, remote, value, here)
         elif how == "apart":
             again = "" if name == LOG else ", and once that of the remote is taken what is edited here is to be edited again"
             yield f"{shown} here and that of {remote} went apart{again}", take
         elif how == "broken":
             whole, _ = following.last_whole(work, value)
-            has_all = whole is None or own is not None and (own == whole or remotes.is_before(repository, whole, own))
+            has_all = whole is None or own is not None and (own == whole or is_before(repository, whole, own))
             yield f"{shown} of {remote} is no log after its last whole entry, and is not followed", back if has_all and own else take
         elif how == "odd":
             yield f"{shown} of {remote} stands at no commit, and is not followed", back if own else f"ask who may write to {quoted(remote)}"
@@ -167,7 +182,8 @@ def of_log(work, status, printed):
     entries = history.entries(printed)
     yield from (withheld.sentence(number, target) for number, _, target in withheld.lacking(work))
     yield from of_unrecorded(work, entries)
-    last, there = {rest[0]: rest[1] for _, _, kind, rest in entries if kind == b"ref"}, names.places_at_remotes(repository, references)
+    last = {rest[0]: rest[1] for _, _, kind, rest in entries if kind == b"ref" and copying.is_own(rest[0])}
+    there = names.places_at_remotes(repository, references)
     for name, target in last.items():
         stand = [references[name]] if name in references else [it.value for it in there.get(name, [])]
         if target not in (stand or [ZEROS]):

@@ -3,8 +3,8 @@
 import json
 import os
 
-from git_gittuf import consents, history, keys, looking, names, policies, withheld
-from git_gittuf.repository import REMOTES, Stopped
+from git_gittuf import consents, history, keys, looking, names, policies, sentences, withheld
+from git_gittuf.repository import LOG, REMOTES, Stopped
 from git_gittuf.shown import plain
 from git_gittuf.telling import say, show, tell
 
@@ -84,4 +84,4 @@ def explain(work, words):
         show(f"{it['line']}\n".encode(errors="surrogateescape"))
         if words.verbose and it["kind"] == "rule":
             print(f"  asks {asked_by(it)}")
-    say(sentence(name, rows, policy))
+    say(sentences.of_no_log(True) if LOG not in work.repository.references() and work.repository.remotes() else sentence(name, rows, policy))

@@ -45,7 +45,7 @@ def followed_log(work, references):
         own = moves[name][1] if name in moves else references.get(name)
         if how == "behind" and own is not None and not is_before(work.repository, own, value):
             continue
-        if how == "behind" and name == LOG and work.log_at(value) is None:
+        if how in ("behind", "apart") and name == LOG and work.log_at(value) is None:
             how = "broken"
         if how == "behind":
             moves[name] = (references.get(name, ZEROS), value)

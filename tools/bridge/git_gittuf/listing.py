@@ -4,9 +4,10 @@ import json
 import re
 import time
 
-from git_gittuf import checked, epochs, history, inspecting, policies, signers
+from git_gittuf import checked, epochs, history, inspecting, policies, sentences, signers
+from git_gittuf.repository import LOG
 from git_gittuf.shown import plain
-from git_gittuf.telling import show
+from git_gittuf.telling import say, show
 
 TIME = re.compile(rb"\ncommitter [^\n]* (\d+) \+0000\n")
 
@@ -106,6 +107,8 @@ def in_words(told, line, people):
 def log(work, words):
     work.bring()
     status, printed = work.read("log")
+    if LOG not in work.repository.references():
+        say(sentences.of_no_log(bool(work.repository.remotes())))
     if status or not (words.verbose or words.json):
         show(printed)
         return status

@@ -64,7 +64,7 @@ def sentence(work, store, line):
         return f"{back}: the server went back, or shows an old state. The mirror stays as it was; ask who may write there."
     if kind == "forked":
         return of_forked(work, store, words[0], words[1:])
-    is_own = program.run(store, "-", "log")[0] == 3
+    is_own = program.told(store, "-", "log")[0] == 3
     where = "The mirror's own log" if is_own else "The log that is there"
     return f"{where} is damaged or was tampered with at {words[0][:12]}: nothing was taken."
 

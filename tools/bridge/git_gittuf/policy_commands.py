@@ -5,9 +5,9 @@ import os
 import sys
 import termios
 
-from git_gittuf import commands, keys, leaves, policies, policy_faults, policy_lines, policy_objects, program, trust, withheld
+from git_gittuf import commands, keys, leaves, policies, policy_faults, policy_lines, policy_objects, program, sentences, trust, withheld
 from git_gittuf.program import Ended
-from git_gittuf.repository import POLICY, STAGED, Stopped
+from git_gittuf.repository import LOG, POLICY, STAGED, Stopped
 from git_gittuf.shown import plain
 from git_gittuf.telling import say, tell
 
@@ -19,6 +19,9 @@ def draft_and_force(work):
     force = policies.in_force(work)
     policies.expect_recorded(work, force)
     draft = policies.staged(work, force)
+    if not draft.files and LOG not in work.repository.references() and work.repository.remotes():
+        # Theirs is not to be begun beside.
+        raise Stopped(sentences.NO_LOG, 3)
     if not draft.files:
         raise Stopped("there is no policy yet: git gittuf policy init <your name> begins one", 3)
     return draft, force

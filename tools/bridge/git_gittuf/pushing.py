@@ -185,9 +185,10 @@ def pushed(work, remote, found, anyway, tags):
     refused = [os.fsdecode(it) for it in output.splitlines() if it.startswith(b"!")]
     judged = [it.strip() for it in ran.lines if it.startswith(HOOKS_SAY)]
     if not refused and not judged:
-        # A hook of others here refuses it, or the remote is not reached.
+        # A hook of others here refuses it, or the remote is not reached. The last line may only tell that it failed, and one before it why.
         show_lines(it for it in ran.lines if it.strip() and not it.endswith(said))
-        raise Stopped(f"git does not push to {plain(remote)}: {plain(said)}")
+        whys = [it.removeprefix("error: ") for it in ran.lines if it.startswith("error: ")]
+        raise Stopped(f"git does not push to {plain(remote)}: {plain(said if len(whys) < 2 else whys[0])}")
     if locks := LOCKED.findall("\n".join(ran.lines)):
         return False, f"{locks[0]} stands there", []
     if judged:
@@ -199,31 +200,26 @@ def pushed(work, remote, found, anyway, tags):
     return False, why, [it.strip() for it in ran.lines if is_sent and it.startswith(REMOTES_SAY)]
 
 
-def taken_back(work, remote, found):
-    """Of branches that are to go the first that a remote has where the log recorded it, and each entry that did so is skipped."""
-    references = work.repository.references()
-    listed = history.entries(work.asked("log")) if LOG in references else []
-    gone = skipping.skips(work, listed) if listed else {}
-    for name in found:
-        there = references.get(names.remote_branch(name, remote)) if name.startswith(names.HEADS) else None
-        by = [entry for _, entry, kind, rest in listed if kind == b"ref" and rest == [name, there]]
-        if by and gone.keys() >= set(by):
-            return name
-    return None
+def left_behind(work, remote, found):
+    """Those branches that a remote has where an earlier entry had them, and that stand here where the log has them now."""
+    listed, references = history.entries(work.asked("log")) if LOG in work.repository.references() else [], work.repository.references()
+    last, had = skipping.targets_of(work, listed), {(rest[0], rest[1]) for _, _, kind, rest in listed if kind == b"ref"}
+    there = {name: references.get(names.remote_branch(name, remote)) for name in found if name.startswith(names.HEADS)}
+    return [name for name, value in there.items() if value != found[name] == last.get(name) and (name, value) in had]
 
 
 def way_on(work, remote, found, why):
-    """What leads on where a remote did not take a push, and git said this of why."""
+    """What leads on where a remote does not take a push, of which git says why."""
+    behind = left_behind(work, remote, found)
     if why.endswith(" stands there"):
         return HELD
     if "refs/gittuf/" in why:
         return "git gittuf doctor says more"
-    name = taken_back(work, remote, found)
-    if name is None:
+    if not behind:
         return "git pull brings what is there"
-    # A pull would bring what was taken back.
-    word = quoted(names.short(name))
-    return f"what it has there was skipped, and git gittuf push --remote {quoted(remote)} --anyway {word} takes it back there"
+    word = ' '.join(quoted(names.short(it)) for it in behind)
+    way = f"git gittuf push --remote {quoted(remote)} --anyway {word} puts it where the log has it"
+    return f"{plain(names.short(behind[0]))} stands there where an earlier entry had it, and {way}"
 
 
 def push(work, words):

@@ -4,7 +4,7 @@ import os
 
 from git_gittuf import commands, consents, history, inspecting, leaves, looking, names, policies, settings, signers, skipping, withheld
 from git_gittuf.remotes import beside, of_git
-from git_gittuf.repository import LOG, ZEROS, Stopped
+from git_gittuf.repository import LOG, POLICY, ZEROS, Stopped
 from git_gittuf.shown import plain, quoted
 from git_gittuf.telling import show, tell
 
@@ -95,6 +95,8 @@ def recover(work, words):
     shown = plain(names.short(name))
     if name not in repository.references() and name not in history.recorded_names(work):
         raise names.no_such(repository, words.branch, history.recorded_names(work))
+    if name != POLICY and not words.anyway:
+        withheld.expect_here(work)
     number, fault, line = violation_of(work, name)
     if number is None:
         way = f": git gittuf verify {quoted(names.short(name))} says what leads on" if line.startswith("tip-differs ") else ""

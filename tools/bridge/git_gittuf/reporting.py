@@ -7,6 +7,7 @@ import types
 
 from git_gittuf import accounts, asking, following, inspecting, listing, looking, names, otherwise, policies, policy_lines, program, sentences, trust, verifying
 from git_gittuf import withheld
+from git_gittuf.global_verdicts import GlobalVerdicts
 from git_gittuf.repository import LOG, ZEROS, Stopped
 from git_gittuf.shown import plain
 
@@ -89,20 +90,33 @@ def way_out_of(account, name, number):
     return f"To lead out of it, {skip} {f'the files of {wanted[:12]}' if int(wanted, 16) else 'that it is gone, as before it'}."
 
 
+def told_of(work, it, root, by_global_rules):
+    """The verdicts on a reference, by the rules and by those that hold whatever the rules delegate: the word, the status and the program's line."""
+    status, printed = verifying.verdict(work, it, root)
+    yield "verify-ref", status, os.fsdecode(printed).strip()
+    status, printed = by_global_rules.of(it.name) if status < 2 else (0, b"")
+    if status or printed:
+        yield "verify-global", status, os.fsdecode(printed).strip()
+
+
+def verdict_row(it, status, line, said):
+    """A verdict on a reference, as the cells of a row."""
+    kind = f'<span class="{"bad" if status else "good"}">{text(line.split(" ")[0] or "no verdict")}</span>'
+    shown = f"{names.short(it.name)}{f' of {it.remote}' if it.remote else ''}"
+    return [text(shown), kind, "<br>".join(map(text, said)), f"<code>{text(line)}</code>"]
+
+
 def verdicts(work, words, root, account):
-    """Each reference that is judged, with its verdict, as rows, the entries of violations, and the greatest status."""
+    """Each reference that is judged, with its verdicts, as rows, the entries of violations, and the greatest status."""
     asked, rows, bad, worst = types.SimpleNamespace(branches=[], remote=words.remote), [], [], 0
     meant = verifying.meant_by(work, asked)
     asking.ahead(work, [verifying.asked_for(work, it, root) for it in meant])
+    by_global_rules = GlobalVerdicts(work, root)
     for it in meant:
-        status, printed = verifying.verdict(work, it, root)
-        line = os.fsdecode(printed).strip()
-        said = said_of(work, it, line, account) if printed else [sentences.of_status("verify-ref", status)]
-        kind = f'<span class="{"bad" if status else "good"}">{text(line.split(" ")[0] or "no verdict")}</span>'
-        shown = f"{names.short(it.name)}{f' of {it.remote}' if it.remote else ''}"
-        rows.append([text(shown), kind, "<br>".join(map(text, said)), f"<code>{text(line)}</code>"])
-        bad += [int(line.split(" ")[2])] if line.startswith("violation ") else []
-        worst = max(worst, status)
+        for word, status, line in told_of(work, it, root, by_global_rules):
+            rows.append(verdict_row(it, status, line, said_of(work, it, line, account) if line else [sentences.of_status(word, status)]))
+            bad += [int(line.split(" ")[2])] if line.startswith(("violation ", "global-violation ")) else []
+            worst = max(worst, status)
     for it in verifying.unspeakable(work):
         rows.append([text(names.short(it)), '<span class="bad">no verdict</span>', "No log can speak of it, and a rule may protect it.", ""])
         worst = max(worst, 1)

@@ -4,11 +4,17 @@ import os
 import shlex
 
 
+def by_number(sign):
+    """A sign by its number, or by the byte that it stands for, where that is no UTF-8."""
+    number = ord(sign)
+    return f"\\x{number - 0xDC00 if 0xDC80 <= number <= 0xDCFF else number:02x}"
+
+
 def plain(text):
     """A text that may come from anybody, for a terminal: what is not printed as itself is escaped."""
     if text.isprintable():
         return text
-    return "".join(it if it.isprintable() else f"\\x{ord(it):02x}" for it in text)
+    return "".join(it if it.isprintable() else by_number(it) for it in text)
 
 
 def plain_name(name):

@@ -61,10 +61,16 @@ def meant_by(work, words):
         # Nothing judged is not to look like all is well.
         raise Stopped(sentences.NO_LOG, 3)
     protected = functools.partial(protected_of, work)
+    # Where each clone has something of its own no entry says where it stands.
+    shared = [it for it in recorded() if copying.is_own(it)]
     if remote is not None:
-        return names.all_at_remote(repository, remote, recorded(), protected)
-    found = names.all_of(repository, recorded(), protected)
-    return [*found, *elsewhere(work, found)]
+        found = names.all_at_remote(repository, remote, shared, protected)
+    else:
+        found = names.all_of(repository, shared, protected)
+        found += elsewhere(work, found)
+    if not found:
+        raise Stopped("no entry of the log speaks of a branch or tag, and no rule protects one: nothing is judged", 3)
+    return found
 
 
 def asked_for(work, meant, root):
@@ -82,11 +88,19 @@ def verdict(work, meant, root):
     return work.read(*asked, at=at)
 
 
+def is_text(name):
+    """Whether a name is UTF-8, without which it is no word of the program."""
+    try:
+        return bool(name.decode())
+    except UnicodeDecodeError:
+        return False
+
+
 def unspeakable(work):
     """The branches and tags, here or at remotes, whose names no log can have, and that no policy leaves unprotected."""
     found = []
     for name in names.odd_names(work.repository):
-        status, printed = work.read("explain", f"git:{os.fsdecode(name)}")
+        status, printed = work.read("explain", f"git:{os.fsdecode(name)}") if is_text(name) else (2, b"")
         if status or printed.startswith(b"rule "):
             found.append(name)
     return found

@@ -133,6 +133,12 @@ def expect_none(work):
         work.renew()
 
 
+def expect_here(work):
+    """The same of what is to be signed, where Git is asked only if the store by itself is not whole."""
+    if not is_whole(work.kept, {it[2] for it in policies_of(listed(work))}):
+        expect_none(work)
+
+
 def bring(work, extra=(), maybe=()):
     """Makes the store what Git is, and anew where it lacks a policy: what is signed and pushed is judged over it."""
     count = work.bring(extra, maybe)
