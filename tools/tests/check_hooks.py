@@ -112,8 +112,27 @@ def tells_why_others_refuse(repositories):
         os.remove(path)
 
 
+def tells_who_lets_it_write(repositories):
+    """a hook that may not write on the server says who mends that, and not to whoever pushes that the repository is to be cloned"""
+    clones = another(repositories, "not to be written")
+    clones.gittuf("server.git", "setup")
+    clones.gittuf("server.git", "hook", "install", "--server")
+    place = os.path.join(clones.path("server.git"), "gittuf")
+    os.rename(place, clones.path("kept elsewhere"))
+    # Nobody makes a file there, and nor does root.
+    os.symlink("/sys", place)
+    status, _, errors = run("git", "-C", clones.path("alice"), "push", "--quiet", "origin", "main:idea")
+    part = b"cannot be written: who keeps the server lets the user as whom Git runs there write it"
+    want((status != 0, part in errors), (True, True), f"what a push is told: {errors}")
+    clones.refused("server.git", "verify", status=4, part="cannot be written: git clone it, and verify it there")
+    os.remove(place)
+    os.rename(clones.path("kept elsewhere"), place)
+    clones.git("push", "--quiet", "origin", "main:idea", who="alice")
+
+
 CHECKS = (
     keeps_hooks_of_others,
     stops_before_it_leaves,
     tells_why_others_refuse,
+    tells_who_lets_it_write,
 )

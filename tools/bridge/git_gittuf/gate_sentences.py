@@ -9,6 +9,12 @@ from git_gittuf.shown import plain, quoted
 GIVE_UP = "git gittuf doctor --take and the name of the remote gives up what was recorded here and is not there yet"
 
 
+def way_to_write():
+    """What leads on where nothing can be written: for whoever asks there, and where Git calls the hook of a server for a push."""
+    is_push = "GIT_QUARANTINE_PATH" in os.environ
+    return "who keeps the server lets the user as whom Git runs there write it" if is_push else "git clone it, and verify it there"
+
+
 def of_broken(printed):
     """The line and the sentence of a log that is none."""
     line = os.fsdecode(printed).strip()

@@ -4,7 +4,7 @@ import contextlib
 import errno
 import os
 
-from git_gittuf import copying, damage, following, giving, history, program, remotes, stores, targets
+from git_gittuf import copying, damage, following, gate_sentences, giving, history, program, remotes, stores, targets
 from git_gittuf.answers import LASTING, Answers
 from git_gittuf.locking import ALONE, BESIDE, Lock, seconds_to_wait
 from git_gittuf.program import Ended
@@ -30,7 +30,7 @@ class Work:
         except OSError as error:
             if error.errno not in READ_ONLY:
                 raise
-            raise Stopped(f"{error.filename} cannot be written: git clone it, and verify it there") from None
+            raise Stopped(f"{error.filename} cannot be written: {gate_sentences.way_to_write()}") from None
         self.journal = giving.Journal(self.repository.folder)
         # Whether the store has something that Git has not, and is not made again.
         self.is_ahead = False
