@@ -173,11 +173,11 @@ def of_log(work, status, printed):
     for name, target in last.items():
         stand = [references[name]] if name in references else [it.value for it in there.get(name, [])]
         if target not in (stand or [ZEROS]):
-            word = names.short(name)
+            word = names.word_here(repository, name)
             yield f"{word} stands elsewhere than it was recorded last", f"git gittuf verify {quoted(word)}"
     found = names.all_of(repository, list(last), lambda them: verifying.protected_of(work, them))
     for name in dict.fromkeys(it.name for it in found if it.name not in last):
-        word = names.short(name)
+        word = names.word_here(repository, name)
         yield f"a rule protects {word}, and no entry records where it stands", f"git gittuf verify {quoted(word)}"
     for it in verifying.elsewhere(work, found):
         word = os.fsdecode(names.remote_branch(it.name, it.remote)[len(names.REMOTES) :])

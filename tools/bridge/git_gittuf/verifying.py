@@ -118,7 +118,8 @@ def said_of(work, meant, line, source):
     found = damage.object_in(line.encode(errors="surrogateescape") + b"\n") if words[0] == "violation" else None
     if found and repository.there([found]):
         return sentences.of_limit(words)
-    return sentences.of_line(line, meant.remote) + (of_accepted(work, meant, source) if words[0] == "accepted" and words[2] != "0" else "")
+    said = sentences.of_line(line, meant.remote, names.word_here(repository, meant.name))
+    return said + (of_accepted(work, meant, source) if words[0] == "accepted" and words[2] != "0" else "")
 
 
 def of_accepted(work, meant, source):
@@ -132,7 +133,8 @@ def of_unprotected(work, name):
     if name.startswith(OWN) or is_told_protected(work, name):
         return ""
     policy = signers.in_force(work).policy
-    return sentences.of_unprotected(name, [it["name"] for it in consents.asked_by_paths(policy)] if policy else [])
+    word = names.word_here(work.repository, name)
+    return sentences.of_unprotected(word, [it["name"] for it in consents.asked_by_paths(policy)] if policy else [])
 
 
 def json_of(work, line, meant, source, told):
@@ -169,7 +171,8 @@ def show_global(work, words, meant, source, verdicts):
     line = os.fsdecode(printed).rstrip("\n")
     show(json_of(work, line, meant, source, None) if words.json and printed else printed)
     if is_heard():
-        say(sentences.of_line(line, meant.remote) if printed else sentences.of_status("verify-global", status))
+        word = names.word_here(work.repository, meant.name)
+        say(sentences.of_line(line, meant.remote, word) if printed else sentences.of_status("verify-global", status))
     return status
 
 
