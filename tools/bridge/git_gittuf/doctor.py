@@ -6,8 +6,8 @@ import stat
 
 import stream_format
 from git_gittuf import copying, following, history, hook_calls, keys, leaves, names, otherwise, remotes, seen, signers, stores, verifying, withheld
-from git_gittuf.remotes import beside, is_before
-from git_gittuf.repository import ATTESTATIONS, LOG, POLICY, ZEROS, Stopped
+from git_gittuf.remotes import BESIDE, beside, is_before
+from git_gittuf.repository import ATTESTATIONS, LOG, POLICY, REMOTES, ZEROS, Stopped
 from git_gittuf.shown import plain, quoted
 from git_gittuf.telling import say
 
@@ -146,10 +146,23 @@ def of_settings(repository):
         yield f"{hook_calls.ANYWAY} is set, so the hook of this clone refuses no push", f"git config --unset-all {hook_calls.ANYWAY}"
 
 
+def other_name_for(repository, name):
+    """The line that gives a branch or tag another name, or whom to ask for that."""
+    for remote in repository.remotes():
+        if name.startswith(tuple(it + os.fsencode(remote) + b"/" for it in (REMOTES, BESIDE))):
+            return f"ask who may write to {quoted(remote)}"
+    word = quoted(os.fsdecode(name.removeprefix(names.HEADS).removeprefix(names.TAGS)))
+    if name.startswith(names.HEADS):
+        return f"git branch -m {word} <another name>"
+    if name.startswith(names.TAGS):
+        return f"git tag <another name> {word} && git tag -d {word}"
+    return f"git update-ref <another name> {word} && git update-ref -d {word}"
+
+
 def of_names(repository):
     for name in repository.all_references():
         if not stream_format.is_reference_name(name):
-            yield f"no log can speak of {stream_format.readable(name)}, which is too long or has other signs", "git branch -m"
+            yield f"no log can speak of {stream_format.readable(name)}, which is too long or has other signs", other_name_for(repository, name)
 
 
 def of_log(work, status, printed):
