@@ -229,6 +229,23 @@ def leads_back_by_whole_names(repositories):
         os.remove(os.path.join(clones.path("alice"), "draft"))
 
 
+def names_a_tag_that_has_a_branchs_name(repositories):
+    """a tag that a server has under a branch's name is named as a whole, so that what is said of it, and the line to copy, is not of the branch"""
+    clones = another(repositories, "tag like a branch")
+    clones.gittuf("alice", "policy", "rule", "main", MAIN, "refs/tags/*", "--persons", "alice,bob")
+    clones.sign("alice")
+    clones.gittuf("alice", "policy", "apply")
+    clones.gittuf("alice", "push")
+    clones.git("update-ref", "refs/tags/main", clones.tip("server.git"), who="server.git")
+    clones.git("fetch", "--quiet", "--tags", who="bob")
+    status, said = at_terminal("git gittuf verify; git gittuf doctor", clones.path("bob"))
+    parts = "where refs/tags/main stands. If it is new here, git gittuf record refs/tags/main;", "a rule protects refs/tags/main, and no entry"
+    want((status, [it in said for it in parts]), (1, [True, True]), f"what bob is told: {said}")
+    want(">refs/tags/main</td>" in clones.gittuf("bob", "report", status=1).decode(), True, "how the report names the tag")
+    clones.gittuf("bob", "record", "refs/tags/main")
+    clones.gittuf("bob", "verify")
+
+
 def pins_before_it_is_edited(repositories):
     """who edits or shows a policy before the first verify is told whose the first policy is, and that is kept"""
     clones = another(repositories, "pinned first")
@@ -248,5 +265,6 @@ CHECKS = (
     tells_what_a_rule_reaches,
     takes_no_tag_for_an_id,
     leads_back_by_whole_names,
+    names_a_tag_that_has_a_branchs_name,
     pins_before_it_is_edited,
 )

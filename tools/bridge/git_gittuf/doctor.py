@@ -6,8 +6,8 @@ import stat
 
 import stream_format
 from git_gittuf import budgets, copying, following, history, hook_calls, keys, leaves, names, otherwise, remotes, seen, signers, stores, verifying, withheld
-from git_gittuf.remotes import beside, is_before
-from git_gittuf.repository import ATTESTATIONS, LOG, POLICY, STAGED, ZEROS, Stopped
+from git_gittuf.remotes import BESIDE, beside, is_before
+from git_gittuf.repository import ATTESTATIONS, LOG, POLICY, REMOTES, STAGED, ZEROS, Stopped
 from git_gittuf.shown import plain, quoted
 from git_gittuf.telling import say
 
@@ -157,10 +157,23 @@ def of_settings(repository):
         yield f"{wrong[0]}, so the hook of a server refuses each push", wrong[1]
 
 
+def other_name_for(repository, name):
+    """The line that gives a branch or tag another name, or whom to ask for that."""
+    for remote in repository.remotes():
+        if name.startswith(tuple(it + os.fsencode(remote) + b"/" for it in (REMOTES, BESIDE))):
+            return f"ask who may write to {quoted(remote)}"
+    word = quoted(os.fsdecode(name.removeprefix(names.HEADS).removeprefix(names.TAGS)))
+    if name.startswith(names.HEADS):
+        return f"git branch -m {word} <another name>"
+    if name.startswith(names.TAGS):
+        return f"git tag <another name> {word} && git tag -d {word}"
+    return f"git update-ref <another name> {word} && git update-ref -d {word}"
+
+
 def of_names(repository):
     for name in repository.all_references():
         if not stream_format.is_reference_name(name):
-            yield f"no log can speak of {stream_format.readable(name)}, which is too long or has other signs", "git branch -m"
+            yield f"no log can speak of {stream_format.readable(name)}, which is too long or has other signs", other_name_for(repository, name)
 
 
 def of_log(work, status, printed):
@@ -187,11 +200,11 @@ def of_log(work, status, printed):
     for name, target in last.items():
         stand = [references[name]] if name in references else [it.value for it in there.get(name, [])]
         if target not in (stand or [ZEROS]):
-            word = names.short(name)
+            word = names.word_here(repository, name)
             yield f"{word} stands elsewhere than it was recorded last", f"git gittuf verify {quoted(word)}"
     found = names.all_of(repository, list(last), lambda them: verifying.protected_of(work, them))
     for name in dict.fromkeys(it.name for it in found if it.name not in last):
-        word = names.short(name)
+        word = names.word_here(repository, name)
         yield f"a rule protects {word}, and no entry records where it stands", f"git gittuf verify {quoted(word)}"
     for it in verifying.elsewhere(work, found):
         word = os.fsdecode(names.remote_branch(it.name, it.remote)[len(names.REMOTES) :])

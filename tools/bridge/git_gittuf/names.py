@@ -26,6 +26,14 @@ def short(name):
     return os.fsdecode(name)
 
 
+def word_here(repository, name):
+    """The same in a repository: of a tag its whole name too, where a branch here or at a remote has the shorter one."""
+    rest, references = name.removeprefix(TAGS), repository.references()
+    fronts = (HEADS, *(REMOTES + os.fsencode(it) + b"/" for it in remotes.remotes(repository)))
+    is_taken = rest != name and any(it + rest in references for it in fronts)
+    return os.fsdecode(name) if is_taken else short(name)
+
+
 def of_remotes(repository, references):
     """The branches of remotes, as the branch here, the remote and where it stands."""
     for remote in remotes.remotes(repository):

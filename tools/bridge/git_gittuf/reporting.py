@@ -99,10 +99,10 @@ def told_of(work, it, root, by_global_rules):
         yield "verify-global", status, os.fsdecode(printed).strip()
 
 
-def verdict_row(it, status, line, said):
+def verdict_row(work, it, status, line, said):
     """A verdict on a reference, as the cells of a row."""
     kind = f'<span class="{"bad" if status else "good"}">{text(line.split(" ")[0] or "no verdict")}</span>'
-    shown = f"{names.short(it.name)}{f' of {it.remote}' if it.remote else ''}"
+    shown = f"{names.word_here(work.repository, it.name)}{f' of {it.remote}' if it.remote else ''}"
     return [text(shown), kind, "<br>".join(map(text, said)), f"<code>{text(line)}</code>"]
 
 
@@ -114,7 +114,7 @@ def verdicts(work, words, root, account):
     by_global_rules = GlobalVerdicts(work, root)
     for it in meant:
         for word, status, line in told_of(work, it, root, by_global_rules):
-            rows.append(verdict_row(it, status, line, said_of(work, it, line, account) if line else [sentences.of_status(word, status)]))
+            rows.append(verdict_row(work, it, status, line, said_of(work, it, line, account) if line else [sentences.of_status(word, status)]))
             bad += [int(line.split(" ")[2])] if line.startswith(("violation ", "global-violation ")) else []
             worst = max(worst, status)
     for it in verifying.unspeakable(work):

@@ -11,10 +11,10 @@ from git_gittuf.shown import plain, quoted
 class Name:
     """A reference of a line: how a sentence names it, and the word for it in a line that is to be copied."""
 
-    def __init__(self, whole, remote=None, is_checked_out=False):
+    def __init__(self, whole, remote=None, word=None, is_checked_out=False):
         self.is_checked_out = is_checked_out
-        self.word = quoted(short(os.fsencode(whole)))
-        self.shown = plain(short(os.fsencode(whole)))
+        word = word or short(os.fsencode(whole))
+        self.word, self.shown = quoted(word), plain(word)
         self.whole, self.is_branch = quoted(whole), whole.startswith("refs/heads/")
         self.place = f"{self.shown} of {plain(remote)}" if remote else self.shown
         self.it = self.place if remote else "it"
@@ -62,9 +62,9 @@ def of_tip(name, words):
     )
 
 
-def of_gone(words, number, remote=None, is_checked_out=False):
+def of_gone(words, number, remote=None, word=None, is_checked_out=False):
     """Of a reference that stands here, or at a remote, and of which the last entry that counts says that it is gone."""
-    name, kept = Name(words[1], remote), words[3]
+    name, kept = Name(words[1], remote, word), words[3]
     said = f"Entry {number} says that {name.shown} is gone, and {name.place} stands at {kept[:12]}"
     if remote:
         return f"{said}: git fetch --prune {quoted(remote)}, or ask who may write there."
@@ -144,10 +144,10 @@ def of_elsewhere(meant):
     return f"{plain(word)} stands where no entry has it, and is not judged here: git gittuf verify {quoted(word)}"
 
 
-def of_unprotected(name, rules):
+def of_unprotected(word, rules):
     """What is added where no rule says who may change a reference, but these for paths."""
     but = f", but for the paths of {', '.join(map(plain, rules))}" if rules else ""
-    return f" No rule protects {plain(short(name))}, so anybody may change it{but}."
+    return f" No rule protects {plain(word)}, so anybody may change it{but}."
 
 
 # What is added where nobody said whose the first policy is.
@@ -197,14 +197,14 @@ def is_unrecorded(line):
     return words[0] == "tip-differs" and not int(words[5], 16)
 
 
-def of_line(line, remote=None, is_checked_out=False):
-    """The sentence for a line that verify-ref or verify-global printed, of a branch here or of a remote's in its place."""
+def of_line(line, remote=None, word=None, is_checked_out=False):
+    """The sentence for a line that verify-ref or verify-global printed, of a branch here or of a remote's in its place, named by a word."""
     words = line.split(" ")
     if words[0] == "log-broken":
         return f"The log is damaged or was tampered with at {words[1][:12]}: nothing is judged. git gittuf doctor says more."
     kinds = {"accepted": of_accepted, "tip-differs": of_tip, "violation": of_violation}
     kinds.update({"global-kept": of_global_kept, "global-violation": of_global_violation})
-    return kinds[words[0]](Name(words[1], remote, is_checked_out), words)
+    return kinds[words[0]](Name(words[1], remote, word, is_checked_out), words)
 
 
 # What a status of the program says beyond its own line, by the command's name.

@@ -118,7 +118,7 @@ def gone_by(work, name):
 def of_line(work, meant, line):
     """The sentence for a line on a reference, and what the log says of one that is to be gone."""
     number = gone_by(work, meant.name) if sentences.is_unrecorded(line) and LOG in work.repository.references() else None
-    here = meant.remote, is_checked_out(work.repository, meant)
+    here = meant.remote, names.word_here(work.repository, meant.name), is_checked_out(work.repository, meant)
     return sentences.of_gone(line.split(" "), number, *here) if number else sentences.of_line(line, *here)
 
 
@@ -153,7 +153,8 @@ def of_unprotected(work, name):
     if name.startswith(OWN) or is_told_protected(work, name):
         return ""
     policy = signers.in_force(work).policy
-    return sentences.of_unprotected(name, [it["name"] for it in consents.asked_by_paths(policy)] if policy else [])
+    word = names.word_here(work.repository, name)
+    return sentences.of_unprotected(word, [it["name"] for it in consents.asked_by_paths(policy)] if policy else [])
 
 
 def json_of(work, line, meant, source, told):
@@ -190,7 +191,8 @@ def show_global(work, words, meant, source, verdicts):
     line = os.fsdecode(printed).rstrip("\n")
     show(json_of(work, line, meant, source, None) if words.json and printed else printed)
     if is_heard():
-        say(sentences.of_line(line, meant.remote) if printed else sentences.of_status("verify-global", status))
+        word = names.word_here(work.repository, meant.name)
+        say(sentences.of_line(line, meant.remote, word) if printed else sentences.of_status("verify-global", status))
     return status
 
 
