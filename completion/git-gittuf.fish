@@ -47,7 +47,8 @@ for it in git git-gittuf
     complete -c $it -n '__git_gittuf_is hook' -f -a install -l server -l most-seconds -l remove
     complete -c $it -n '__git_gittuf_is skip note' -s m
     complete -c $it -n '__git_gittuf_is policy' -f -a "$steps"
-    complete -c $it -n '__git_gittuf_step rule' -l persons -l threshold -l terminating -l no-terminating -l before -l file
+    complete -c $it -n '__git_gittuf_step rule' -l persons -l threshold -l terminating -l no-terminating
+    complete -c $it -n '__git_gittuf_step rule' -l before -l file
     complete -c $it -n '__git_gittuf_step rule person global' -l remove
     complete -c $it -n '__git_gittuf_step global' -f -a 'threshold no-rewind'
     complete -c $it -n '__git_gittuf_step sign' -l id

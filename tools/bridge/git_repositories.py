@@ -18,7 +18,7 @@ def expect_sha256(name, *where):
 
 
 def way_over(branch):
-    """The line that makes one of SHA-256 beside a repository, with the files of the branch that is checked out, if any is."""
+    """The line that makes one of SHA-256 beside a repository, with the files of the branch that is checked out."""
     # Git leaves the files out, and this writes over none that is there.
     files = " && git -C ../new read-tree -m -u HEAD" if branch else ""
     makes = f"git init -b {branch or 'main'} --object-format=sha256 ../new"

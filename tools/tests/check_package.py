@@ -165,8 +165,9 @@ def completes(repositories):
             want(run("zsh", "-n", os.path.join(TOP, "completion", it)), (0, b"", b""), f"what zsh says of {it}")
     if shutil.which("fish"):
         place = os.path.join(TOP, "completion", "git-gittuf.fish")
-        for line, wanted in (("git gittuf ver", "verify"), ("git gittuf policy sign --", "--id"), ("git gittuf policy apply --", "--anyway")):
-            status, output, errors = run("fish", "--no-config", "-c", 'source $argv[1]; complete -C $argv[2]', place, line)
+        script = "source $argv[1]; complete -C $argv[2]"
+        for line, wanted in (("ver", "verify"), ("policy sign --", "--id"), ("policy apply --", "--anyway")):
+            status, output, errors = run("fish", "--no-config", "-c", script, place, f"git gittuf {line}")
             want((status, output.decode().split(), errors), (0, [wanted], b""), f"what fish has behind {line!r}")
 
 
@@ -187,6 +188,14 @@ def tells_its_use(repositories):
     }
     for it, said in slips.items():
         want(run(TOOL, *it, folder=where), (2, b"", f"git-gittuf: {said}: git gittuf -h says which words are taken\n".encode()), f"what {it} is told")
+    # What the program takes of a key's words is said before it is asked.
+    file = ("--file", repositories.path("no.key"))
+    slips = {("--height", "3"): "5, 10, 15", ("--width", "3"): "1, 2, 4, 8", ("--bottom", "10"): "none is 15 and one is 5"}
+    for it, said in slips.items():
+        status, output, errors = run(TOOL, "key", *file, *it, folder=where)
+        # Versions of Python differ in whether they quote each.
+        is_told = said in errors.decode().replace("'", "")
+        want((status, output, is_told, os.path.exists(file[1])), (2, b"", True, False), f"what key {it} is told: {errors}")
 
 
 CHECKS = (

@@ -41,6 +41,19 @@ def pushes_all_or_nothing(repositories):
     clones.refused_after("alice", "push", status=3, part=part)
 
 
+def pushes_nothing_past_a_log(repositories):
+    """who has no log yet where the server has one pushes nothing, and is led to the log, by which the push is refused"""
+    clones = another(repositories, "past a log")
+    tip = clones.tip("server.git")
+    clones.git("clone", "--quiet", "server.git", "late", who="")
+    clones.commit("late")
+    way = "git gittuf setup origin && git fetch origin"
+    clones.refused("late", "push", status=3, part=f"there is no log here, and origin has one, beside which none is begun: {way}")
+    clones.copied("late", way)
+    clones.refused("late", "push", status=3, part="main stands where no entry of the log has it: git gittuf record main comes first")
+    want(clones.tip("server.git"), tip, "where main of the server stands")
+
+
 def pushes_the_log_alone(repositories):
     """a policy, a note and an approval reach others while a branch waits for its signatures, and where no branch is checked out"""
     clones = another(repositories, "log alone")
@@ -240,6 +253,7 @@ def puts_back_what_was_recovered(repositories):
 
 CHECKS = (
     pushes_all_or_nothing,
+    pushes_nothing_past_a_log,
     pushes_the_log_alone,
     takes_no_branch_back,
     records_anew_after_a_race,

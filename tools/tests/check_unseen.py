@@ -207,7 +207,7 @@ def takes_no_tag_for_an_id(repositories):
 
 
 def leads_back_by_whole_names(repositories):
-    """the line that takes a moved branch back does, checked out or not, and names it where a shorter word means another one"""
+    """the line that takes a moved branch back does, checked out or not, and names it whole where it has to"""
     before, now = "ab" * 32, "cd" * 32
     for name, way in (("main", "git branch --force main"), ("-x", "git update-ref refs/heads/-x"), ("refs/heads/x", "git update-ref refs/heads/refs/heads/x")):
         line = f"tip-differs refs/heads/{name} kept {now} recorded {before}"

@@ -180,7 +180,8 @@ def of_log(work, status, printed):
     repository = work.repository
     references = repository.references()
     if LOG not in references and STAGED in references:
-        yield "there is no log here, and a policy that is edited begins one", "git gittuf policy sign and git gittuf policy apply"
+        way = "git gittuf policy sign and git gittuf policy apply"
+        yield "there is no log here, and a policy that is edited begins one", way
         return
     if LOG not in references:
         yield "there is no log here", "git gittuf setup && git fetch, or git gittuf policy init <your name> begins one"

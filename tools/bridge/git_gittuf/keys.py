@@ -43,6 +43,8 @@ def expect_outside(repository, path):
 def make(repository, path, height, width, bottom=None):
     """Makes a key, first beside its place, so that its public part is known wherever it stands."""
     expect_outside(repository, path)
+    if bottom and (height == "15" or "5" not in (height, bottom)):
+        raise Stopped("of the heights of a key with --bottom none is 15 and one is 5: --height 10 --bottom 5, say", 2)
     beside = f"{path}.new"
     os.makedirs(os.path.dirname(path), mode=0o700, exist_ok=True)
     with open(f"{path}.lock", "wb") as lock:

@@ -4,7 +4,7 @@ import os
 import re
 import sys
 
-from git_gittuf import desk_pushing, following, history, names, remotes, seen, skipping, syncing, verifying, withheld
+from git_gittuf import commands, desk_pushing, following, history, names, remotes, seen, skipping, syncing, verifying, withheld
 from git_gittuf.hook_calls import ANYWAY, asked_where
 from git_gittuf.remotes import is_before
 from git_gittuf.repository import ATTESTATIONS, LOG, POLICY, STAGED, TARGETS, ZEROS, Stopped
@@ -228,6 +228,8 @@ def push(work, words):
     remote, anyway = remote_of(work, words), words.anyway
     work.mended = syncing.to_mend(remote)
     withheld.bring(work)
+    # Without a log nothing would be looked at that goes there.
+    commands.expect_one_log(work, anyway)
     how = syncing.how_log_stands(work, remote)
     if how in ("broken", "odd") or how in ("back", "dropped") and not anyway:
         raise Stopped(f"the log of {plain(remote)} does not fit, and nothing is pushed: git gittuf doctor says more", 3)

@@ -117,9 +117,9 @@ def entry_id(text):
 
 def key_words(it):
     it.add_argument("--file")
-    it.add_argument("--bottom")
-    it.add_argument("--height", default="10")
-    it.add_argument("--width", default="4")
+    it.add_argument("--bottom", choices=("5", "10"))
+    it.add_argument("--height", default="10", choices=("5", "10", "15"))
+    it.add_argument("--width", default="4", choices=("1", "2", "4", "8"))
     one = it.add_mutually_exclusive_group()
     one.add_argument("--id", action="store_true")
     one.add_argument("--public", action="store_true")
