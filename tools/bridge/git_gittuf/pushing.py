@@ -186,9 +186,10 @@ def pushed(work, remote, found, anyway, tags):
     judged = [it.strip() for it in ran.lines if it.startswith(HOOKS_SAY)]
     if not refused and not judged:
         # A hook of others here refuses it, or the remote is not reached. The last line may only tell that it failed, and one before it why.
-        show_lines(it for it in ran.lines if it.strip() and not it.endswith(said))
         whys = [it.removeprefix("error: ") for it in ran.lines if it.startswith("error: ")]
-        raise Stopped(f"git does not push to {plain(remote)}: {plain(said if len(whys) < 2 else whys[0])}")
+        why = said if len(whys) < 2 else whys[0]
+        show_lines(it for it in ran.lines if it.strip() and not it.endswith((said, why)))
+        raise Stopped(f"git does not push to {plain(remote)}: {plain(why)}")
     if locks := LOCKED.findall("\n".join(ran.lines)):
         return False, f"{locks[0]} stands there", []
     if judged:
