@@ -233,7 +233,7 @@ def says_why_git_does_not_push(repositories):
 
 
 def puts_back_what_was_recovered(repositories):
-    """where a branch is recovered here and the server has it as the stranger recorded it, push brings nothing of that here, and names the line that puts it back"""
+    """where a branch is recovered here and the server has it as the stranger recorded it, push names the line that puts it back there"""
     clones = another(repositories, "put back")
     before = clones.tip("alice")
     clones.clone("mallory")

@@ -83,7 +83,8 @@ def way_of_apart(work, remote, value, here):
         return take
     if is_rewritten(work.repository, remote, value):
         return f"ask who may write to {quoted(remote)}; {set_back(remote, LOG.decode(), value)} puts it back, and {take} gives it up"
-    return f"git gittuf sync --remote {quoted(remote)} records it anew after that, as far as it is lawful, and {take} gives it up" if is_own(work, here) else take
+    anew = f"git gittuf sync --remote {quoted(remote)} records it anew after that, as far as it is lawful, and {take} gives it up"
+    return anew if is_own(work, here) else take
 
 
 def of_lost(work, remote, value, how):
