@@ -10,6 +10,16 @@ import time
 TOOLS = os.path.dirname(os.path.dirname(os.path.realpath(__file__)))
 sys.path[1:1] = [os.path.join(TOOLS, it) for it in ("tests", "bridge", "build")]
 
+
+def processor():
+    """The processor that the program is built for on this machine."""
+    ran = subprocess.run([os.path.join(TOOLS, "build", "cpu")], stdout=subprocess.PIPE, check=True)
+    return ran.stdout.decode().strip()
+
+
+# The gate builds the program for every processor of the kind, and what is measured is the one for this machine's.
+os.environ.setdefault("GITTUF_CPU", processor())
+
 import unproved
 from checking import EMPTY_STREAM, LAUNCHER, VERIFY
 from figures import Bounds, Failed
@@ -74,12 +84,6 @@ def measure(runs=RUNS, **cases):
 def most_memory(*words):
     """The most bytes that a program had resident."""
     return Case(*words, apart=True).measure().memory
-
-
-def processor():
-    """The processor that the program is built for on this machine."""
-    ran = subprocess.run([os.path.join(TOOLS, "build", "cpu")], stdout=subprocess.PIPE, check=True)
-    return ran.stdout.decode().strip()
 
 
 def build_crate(name, cpu, *words):

@@ -7,6 +7,8 @@ import sys
 
 sys.dont_write_bytecode = True
 
+import kits
+
 TOP = os.path.dirname(os.path.dirname(os.path.dirname(os.path.realpath(__file__))))
 FOLDER = os.path.join(TOP, "unproved")
 LINES = "crates.txt"
@@ -57,12 +59,37 @@ def texts():
         yield from sources(crate, FOLDER, END)
 
 
+def is_as_built(crate):
+    """Whether a library was built here, and no source of it is younger."""
+    made = os.path.join(TOP, "crates", crate, "out", "rlib", f"{crate}.rlib")
+    if not os.path.exists(made):
+        return False
+    paths = (os.path.join(TOP, it) for it, _ in sources(crate, os.path.join(TOP, "crates")))
+    return all(os.stat(it).st_mtime_ns <= os.stat(made).st_mtime_ns for it in paths)
+
+
 def built_below(folder):
-    """Gives the workspace the libraries that are built in the checkout."""
+    """Gives the workspace the libraries that are built in the checkout, each over those below it."""
+    new = []
     for crate in names_in(os.path.join(TOP, LINES)):
         made, to = (os.path.join(it, "crates", crate, "out", "rlib") for it in (TOP, folder))
-        if os.path.exists(os.path.join(made, "stamp")) and not os.path.exists(to):
+        if is_as_built(crate) and not os.path.exists(to):
             shutil.copytree(made, to, copy_function=os.link if os.stat(made).st_dev == os.stat(folder).st_dev else shutil.copy2)
+            new += [] if os.path.exists(os.path.join(to, "stamp")) else [crate]
+    if new:
+        stamp(folder, new)
+
+
+def stamp(folder, crates):
+    """Lets rt take the libraries of these crates, which rt ci leaves without a stamp, as those of the sources that the workspace has."""
+    rt, before = kits.gate(), os.getcwd()
+    os.chdir(folder)
+    for it in kits.begin(rt, folder):
+        has_all = all(os.path.exists(os.path.join(below.folder, "out", "rlib", "stamp")) for below in it.below())
+        if it.name in crates and has_all:
+            with open(os.path.join(it.folder, "out", "rlib", "stamp"), "w", encoding="utf-8") as file:
+                file.write(it.stamp())
+    os.chdir(before)
 
 
 def lay(folder):
