@@ -4,18 +4,18 @@ use Rattle.std.specs.Prelude.{IfOk, Result, option_and_then}
 use Rattle.std.proofs.lemmas.Result.{IfOk-weaker}
 use Rattle.serde_json.specs.Data.{Data, Members}
 use Rattle.serde_json.specs.Written.{has_float, members_have_float}
-use Rattle.json_lines.specs.Values.{hex_data, line_text, number_data, text_data}
-use Rattle.json_lines.proofs.Floatless.{list_floatless, option_floatless, text_floatless}
+use Rattle.json_fields.specs.Values.{hex_data, line_text, number_data, text_data}
+use Rattle.json_fields.proofs.Floatless.{list_floatless, option_floatless, text_floatless}
 use Rattle.rsl_chain.specs.declared.entries.Entry.{Entry}
-use Rattle.entry_authors.specs.Authors.{author_of}
-use Rattle.entry_authors.specs.Times.{time_of}
+use Rattle.account_lines.specs.Authors.{author_of}
+use Rattle.account_lines.specs.Times.{time_of}
 use Rattle.rsl_chain.specs.declared.entries.EntryBody.{EntryBody}
 use Rattle.rsl_chain.specs.declared.entries.EntryBody.TheVariants.{Reference, Annotation}
 use Rattle.judging.specs.declared.verdicts.EntryVerdict.{EntryVerdict}
 use Rattle.judging.specs.declared.verdicts.EntryVerdict.TheVariants.{Authorised, Refused, Noted}
 use Rattle.judging.specs.declared.verdicts.Verdict.{Verdict}
 use Rattle.judging.specs.declared.verdicts.Verdict.TheVariants.{Accepted, TipDiffers, Violation}
-use Rattle.mends.specs.declared.mend.Mend.{Mend}
+use Rattle.judged_logs.specs.declared.mend.Mend.{Mend}
 use Rattle.policy_changes.specs.declared.changes.Difference.{Difference}
 use Rattle.policy_changes.specs.declared.changes.PolicyChange.{PolicyChange}
 use Rattle.policy_epochs.specs.Telling.{fault_text}

@@ -1,1 +1,5 @@
 mod Floatless
+pub mod Reading
+mod Words
+mod Types
+mod Greatest

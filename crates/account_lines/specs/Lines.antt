@@ -1,17 +1,17 @@
 -- The lines that tell an entry and a verdict: objects of JSON, with the fields in the order of their names' bytes.
 use Rattle.std.specs.Prelude.{ℕ, Bool, true, false, List, Option, Some, None, codes, option_and_then}
-use Rattle.json_lines.specs.Values.{hex_data, line_text, list_data, number_data, option_data, text_data}
+use Rattle.json_fields.specs.Values.{hex_data, line_text, list_data, number_data, option_data, text_data}
 use Rattle.serde_json.specs.Data.{Data, Members, boolean, member, no_members, null, object, string}
 use Rattle.rsl_chain.specs.declared.entries.Entry.{Entry}
 use Rattle.rsl_chain.specs.declared.entries.EntryBody.{EntryBody}
 use Rattle.rsl_chain.specs.declared.entries.EntryBody.TheVariants.{Reference, Annotation}
-use Rattle.entry_authors.specs.Authors.{author_of}
-use Rattle.entry_authors.specs.Times.{time_of}
+use Rattle.account_lines.specs.Authors.{author_of}
+use Rattle.account_lines.specs.Times.{time_of}
 use Rattle.judging.specs.declared.verdicts.EntryVerdict.{EntryVerdict}
 use Rattle.judging.specs.declared.verdicts.EntryVerdict.TheVariants.{Authorised, Refused, Noted}
 use Rattle.judging.specs.declared.verdicts.Verdict.{Verdict}
 use Rattle.judging.specs.declared.verdicts.Verdict.TheVariants.{Accepted, TipDiffers, Violation}
-use Rattle.mends.specs.declared.mend.Mend.{Mend}
+use Rattle.judged_logs.specs.declared.mend.Mend.{Mend}
 use Rattle.policy_changes.specs.declared.changes.Difference.{Difference}
 use Rattle.policy_changes.specs.declared.changes.PolicyChange.{PolicyChange}
 use Rattle.policy_epochs.specs.Telling.{fault_text}

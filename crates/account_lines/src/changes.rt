@@ -2,10 +2,10 @@
 
 ghost use Rattle.std.specs.Prelude.{◌≡◌, codes, IfOk, OnOk};
 ghost use Rattle.serde_json.specs.View.{view};
-ghost use Rattle.json_lines.specs.Writing.{Follows};
+ghost use Rattle.json_fields.specs.Writing.{Follows};
 ghost use Rattle.account_lines.specs.Lines.{change_data, changed_members, difference_data};
 
-use json_lines::{list_json, next_name, write_value};
+use json_fields::{list_json, next_name, write_value};
 use octets::{Memory, Octets};
 use policy_changes::{Difference, PolicyChange};
 use serde_json::{Map, Value, put};

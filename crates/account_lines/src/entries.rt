@@ -3,7 +3,7 @@
 ghost use Rattle.std.specs.Prelude.{◌≡◌, ◌++◌, codes, IfOk, OnOk};
 ghost use Rattle.serde_json.specs.Data.{member};
 ghost use Rattle.serde_json.specs.Written.{compact_text};
-ghost use Rattle.json_lines.specs.Writing.{Follows, Opens};
+ghost use Rattle.json_fields.specs.Writing.{Follows, Opens};
 ghost use Rattle.account_lines.specs.Lines.{annotation_data, annotation_word, body_data, entry_line, judged_members};
 ghost use Rattle.account_lines.specs.Lines.{listing_members, noting_members, placed_members, reference_data};
 ghost use Rattle.account_lines.specs.Lines.{refusal_data, signed_members, verdict_word};
@@ -14,7 +14,7 @@ use crate::made::{open_with_author, time_of};
 use crate::{EntryRow, Later};
 use entry_rules::Fault;
 use git_object::{Ids, ObjectId, RefName};
-use json_lines::{next_field, next_name, next_word, write_null};
+use json_fields::{next_field, next_name, next_word, write_null};
 use judging::EntryVerdict;
 use octets::{Memory, Octets};
 use rsl_chain::{Entry, EntryBody};

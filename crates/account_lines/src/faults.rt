@@ -4,11 +4,11 @@ ghost use Rattle.std.specs.Prelude.{◌≡◌, ◌++◌, codes, IfOk, OnOk};
 ghost use Rattle.serde_json.specs.Data.{member, no_members, object, string};
 ghost use Rattle.serde_json.specs.View.{members_view, view};
 ghost use Rattle.serde_json.specs.Written.{compact_text};
-ghost use Rattle.json_lines.specs.Values.{number_data, text_data};
+ghost use Rattle.json_fields.specs.Values.{number_data, text_data};
 ghost use Rattle.account_lines.specs.Lines.{fault_data};
 
 use entry_rules::Fault;
-use json_lines::{hex_json, number_json, text_json, word_json, write_value};
+use json_fields::{hex_json, number_json, text_json, word_json, write_value};
 use octets::{Memory, Octets};
 use serde_json::{Map, Value, put};
 use std::alloc::Global;

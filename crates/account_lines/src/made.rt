@@ -3,13 +3,13 @@
 ghost use Rattle.std.specs.Prelude.{◌≡◌, ◌++◌, codes, OnOk, option_and_then};
 ghost use Rattle.serde_json.specs.Data.{member};
 ghost use Rattle.serde_json.specs.Written.{compact_text};
-ghost use Rattle.json_lines.specs.Writing.{Opens};
-ghost use Rattle.entry_authors.specs.Authors.{author_of};
-ghost use Rattle.entry_authors.specs.Times.{time_of};
+ghost use Rattle.json_fields.specs.Writing.{Opens};
+ghost use Rattle.account_lines.specs.Authors.{author_of};
+ghost use Rattle.account_lines.specs.Times.{time_of};
 ghost use Rattle.account_lines.specs.Lines.{author_data};
 
-use entry_authors::{author, time};
-use json_lines::{first_name, write_null, write_text};
+use crate::{author, time};
+use json_fields::{first_name, write_null, write_text};
 use octets::{Memory, Octets};
 use rsl_chain::Entry;
 

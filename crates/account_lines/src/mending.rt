@@ -7,8 +7,8 @@ ghost use Rattle.account_lines.specs.Lines.{mend_data, violation_data, violation
 use crate::faults::fault_json;
 use entry_rules::Fault;
 use git_object::RefName;
-use json_lines::{line, list_json, number_json, option_json, text_json, word_json};
-use mends::Mend;
+use json_fields::{line, list_json, number_json, option_json, text_json, word_json};
+use judged_logs::Mend;
 use octets::{Memory, Octets};
 use serde_json::{Map, Value, put};
 use std::alloc::Global;

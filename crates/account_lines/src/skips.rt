@@ -3,11 +3,11 @@
 ghost use Rattle.std.specs.Prelude.{◌≡◌, IfOk};
 ghost use Rattle.std.specs.Option.{option_copied};
 ghost use Rattle.serde_json.specs.View.{view};
-ghost use Rattle.json_lines.specs.Values.{option_data, text_data};
+ghost use Rattle.json_fields.specs.Values.{option_data, text_data};
 ghost use Rattle.account_lines.specs.Lines.{skip_data, skip_line};
 
 use git_object::{ObjectId, RefName};
-use json_lines::{hex_json, line, option_json, text_json};
+use json_fields::{hex_json, line, option_json, text_json};
 use octets::{Memory, Octets};
 use serde_json::{Map, Value, put};
 use std::alloc::Global;

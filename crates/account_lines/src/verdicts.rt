@@ -8,7 +8,7 @@ ghost use Rattle.judging.specs.declared.verdicts.Verdict.TheVariants as verdict;
 use crate::faults::fault_json;
 use entry_rules::Fault;
 use git_object::{ObjectId, RefName};
-use json_lines::{hex_json, line, number_json, text_json, word_json};
+use json_fields::{hex_json, line, number_json, text_json, word_json};
 use judging::Verdict;
 use octets::{Memory, Octets};
 use serde_json::{Map, Value, put};

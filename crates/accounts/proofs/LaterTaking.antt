@@ -12,9 +12,9 @@ use Rattle.judging.specs.Rules.{Rules}
 use Rattle.judging.specs.declared.verdicts.EntryVerdict.{EntryVerdict}
 use Rattle.judging.proofs.Appends.{before_new, before_old, entry_new, entry_old}
 use Rattle.judging.proofs.Takes.{attested_push}
-use Rattle.by_whom.specs.Keeping.{Knows}
-use Rattle.later_rules.specs.LaterRules.{AreNumbered, rules_from}
-use Rattle.later_rules.proofs.Later.{own_fault}
+use Rattle.judged_logs.specs.Keeping.{Knows}
+use Rattle.judged_logs.specs.LaterRules.{AreNumbered, rules_from}
+use Rattle.judged_logs.proofs.Later.{own_fault}
 use Rattle.policy_epochs.specs.declared.policies.Policy.{Policy}
 use Rattle.entry_rules.specs.RealRules.{real_rules}
 use Rattle.entry_rules.specs.declared.faults.Fault.{Fault}

@@ -13,18 +13,18 @@ use Rattle.judging.specs.Rules.{Rules}
 use Rattle.judging.specs.Verdicts.{body_verdict, verdict_of}
 use Rattle.judging.specs.declared.verdicts.EntryVerdict.{EntryVerdict}
 use Rattle.judging.proofs.Takes.{attested_push, policy_push, signers_push}
-use Rattle.log_names.specs.Names.{with_body}
-use Rattle.log_names.proofs.Naming.{names_push}
+use Rattle.policy_changes.specs.Names.{with_body}
+use Rattle.policy_changes.proofs.LogNaming.{names_push}
 use Rattle.policy_epochs.specs.declared.policies.Policy.{Policy}
-use Rattle.signing_persons.specs.Persons.{persons_of}
-use Rattle.signing_persons.proofs.Naming.{nobody}
+use Rattle.policy_changes.specs.Persons.{persons_of}
+use Rattle.policy_changes.proofs.Naming.{nobody}
 use Rattle.entry_rules.specs.RealRules.{real_rules}
 use Rattle.entry_rules.specs.declared.faults.Fault.{Fault}
 use Rattle.verify_ref.specs.Following.{Follows, TakesOne}
 use Rattle.verify_ref.specs.declared.engine.Engine.{Engine}
 use Rattle.account_lines.specs.declared.rows.EntryRow.{EntryRow}
 use Rattle.accounts.specs.Judging.{StandsFor}
-use Rattle.by_whom.specs.Keeping.{Knows}
+use Rattle.judged_logs.specs.Keeping.{Knows}
 use Rattle.accounts.specs.Rows.{changed_of, counted_by, epoch_of, from_of, prior_of, row_of, rows_of, signer_in}
 use Rattle.accounts.specs.Steps.{attested_then, is_authorised}
 use Rattle.accounts.specs.declared.judged_log.JudgedLog.{JudgedLog}

@@ -16,8 +16,8 @@ use Rattle.judging.proofs.Readers.{skipped_reads}
 use Rattle.policy_epochs.specs.declared.policies.Policy.{Policy}
 use Rattle.entry_rules.specs.RealRules.{real_rules}
 use Rattle.entry_rules.specs.declared.faults.Fault.{Fault}
-use Rattle.mends.specs.Walking.{IsWalked}
-use Rattle.mends.proofs.Walks.{less_next, step}
+use Rattle.judged_logs.specs.Walking.{IsWalked}
+use Rattle.judged_logs.proofs.Walks.{less_next, step}
 use Rattle.account_lines.specs.declared.rows.EntryRow.{EntryRow}
 use Rattle.accounts.specs.Judging.{StandsFor}
 use Rattle.accounts.specs.Rows.{from_of, prior_of}

@@ -8,7 +8,7 @@ use Rattle.recovery.specs.Lanes.{first_of}
 use Rattle.judging.specs.Logs.{policy_after, prior, prior_target}
 use Rattle.judging.specs.Verdicts.{answer_of}
 use Rattle.policy_epochs.specs.declared.policies.Policy.{Policy}
-use Rattle.signing_persons.specs.Persons.{persons_of}
+use Rattle.policy_changes.specs.Persons.{persons_of}
 use Rattle.entry_rules.specs.RealRules.{real_rules}
 use Rattle.entry_rules.specs.declared.faults.Fault.{Fault}
 use Rattle.would_be.specs.Laws.{stood_at}

@@ -12,19 +12,19 @@ use Rattle.judging.specs.Rules.{Rules}
 use Rattle.judging.specs.Verdicts.{answer_of}
 use Rattle.judging.specs.declared.verdicts.Verdict.{Verdict}
 use Rattle.judging.specs.declared.verdicts.Verdict.TheVariants.{Accepted, TipDiffers, Violation}
-use Rattle.mends.specs.Mends.{mend_of}
+use Rattle.judged_logs.specs.Mends.{mend_of}
 use Rattle.policy_epochs.specs.declared.policies.Policy.{Policy}
 use Rattle.policy_changes.specs.declared.changes.PolicyChange.{PolicyChange}
 use Rattle.entry_rules.specs.RealRules.{real_rules}
 use Rattle.entry_rules.specs.declared.faults.Fault.{Fault}
 use Rattle.verify_ref.specs.Logs.{AreEntries}
 use Rattle.verify_ref.specs.Verdicts.{IsVerdict}
-use Rattle.by_whom.specs.Firsts.{rescuer_of, skipper_of}
+use Rattle.judged_logs.specs.Firsts.{rescuer_of, skipper_of}
 use Rattle.would_be.specs.Laws.{stood_at}
 use Rattle.would_be.specs.Would.{IsWould}
 use Rattle.would_be.specs.declared.proposals.Proposed.{Proposed}
 use Rattle.would_be.specs.declared.proposals.Would.{Would}
-use Rattle.signing_persons.specs.Persons.{persons_of}
+use Rattle.policy_changes.specs.Persons.{persons_of}
 use Rattle.account_lines.specs.Lines.{entry_line, unrecorded_line, verdict_line, violation_line}
 use Rattle.account_lines.specs.declared.rows.EntryRow.{EntryRow}
 use Rattle.account_lines.specs.declared.rows.Later.{Later}

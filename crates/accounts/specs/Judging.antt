@@ -9,8 +9,8 @@ use Rattle.entry_rules.specs.RealRules.{real_rules}
 use Rattle.judging.specs.Logs.{attested_after}
 use Rattle.verify_ref.specs.Following.{Follows}
 use Rattle.verify_ref.specs.Logs.{AreEntries}
-use Rattle.log_names.specs.Names.{names_of}
-use Rattle.by_whom.specs.Keeping.{Knows}
+use Rattle.policy_changes.specs.Names.{names_of}
+use Rattle.judged_logs.specs.Keeping.{Knows}
 use Rattle.accounts.specs.Rows.{epoch_of, rows_of}
 use Rattle.accounts.specs.declared.judged_log.JudgedLog.{JudgedLog}
 

@@ -8,8 +8,8 @@ use Rattle.judging.specs.Engines.{Stands}
 use Rattle.judging.specs.Logs.{attested_after, before, entry_at}
 use Rattle.entry_rules.specs.RealRules.{real_rules}
 use Rattle.verify_ref.specs.Logs.{AreEntries}
-use Rattle.by_whom.specs.Keeping.{Knows}
-use Rattle.later_rules.specs.LaterRules.{AreNumbered, rules_from}
+use Rattle.judged_logs.specs.Keeping.{Knows}
+use Rattle.judged_logs.specs.LaterRules.{AreNumbered, rules_from}
 use Rattle.account_lines.specs.declared.rows.EntryRow.{EntryRow}
 use Rattle.accounts.specs.Judging.{IsOwn}
 use Rattle.accounts.specs.Rows.{epoch_of, row_of}

@@ -7,7 +7,7 @@ use Rattle.tree_paths.specs.Listings.{walk_visits}
 use Rattle.tree_paths.specs.Repositories.{readings_of}
 use Rattle.judging.specs.declared.verdicts.Verdict.{Verdict}
 use Rattle.judging.specs.declared.verdicts.Verdict.TheVariants.{Accepted, TipDiffers, Violation}
-use Rattle.mends.specs.Mends.{back_to}
+use Rattle.judged_logs.specs.Mends.{back_to}
 use Rattle.entry_rules.specs.RealRules.{real_rules}
 use Rattle.entry_rules.specs.declared.faults.Fault.{Fault}
 use Rattle.verify_ref.specs.Verdicts.{IsVerdict}

@@ -18,7 +18,7 @@ use Rattle.policy_epochs.specs.declared.policies.Policy.{Policy}
 use Rattle.entry_rules.specs.RealRules.{real_rules}
 use Rattle.entry_rules.specs.Signing.{listed, signer_among}
 use Rattle.entry_rules.specs.declared.faults.Fault.{Fault}
-use Rattle.signing_persons.specs.Persons.{persons_of}
+use Rattle.policy_changes.specs.Persons.{persons_of}
 use Rattle.account_lines.specs.declared.rows.EntryRow.{EntryRow}
 
 -- the number of the last entry of an entry's reference before it that is not skipped

@@ -3,7 +3,7 @@ use Rattle.std.specs.Prelude.{◌&&◌, [], ℕ, Bool, false, not, List, Option,
 use Rattle.rsl_chain.specs.Entries.{Taken}
 use Rattle.judging.specs.Logs.{policy_after}
 use Rattle.judging.specs.Rules.{Rules}
-use Rattle.log_names.specs.Names.{has_name, names_of}
+use Rattle.policy_changes.specs.Names.{has_name, names_of}
 use Rattle.policy_epochs.specs.declared.policies.Policy.{Policy}
 use Rattle.entry_rules.specs.Meeting.{git_name, meets}
 use Rattle.entry_rules.specs.declared.faults.Fault.{Fault}

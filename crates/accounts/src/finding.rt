@@ -4,7 +4,7 @@ ghost use Rattle.std.specs.Prelude.{◌≡◌, is_some, IfOk, if◌then◌else�
 ghost use Rattle.std.specs.Option.{option_copied};
 ghost use Rattle.git_object.specs.References.{policy_name};
 ghost use Rattle.rsl_chain.specs.Entries.{is_of};
-ghost use Rattle.signing_persons.specs.Persons.{persons_of};
+ghost use Rattle.policy_changes.specs.Persons.{persons_of};
 ghost use Rattle.accounts.specs.Rows.{counted_by};
 ghost use Rattle.accounts.specs.Steps.{apart_signer, changed_then, is_apart, is_signed_among, said_before};
 

@@ -8,10 +8,10 @@ ghost use Rattle.entry_rules.specs.RealRules.{real_rules};
 ghost use Rattle.verify_ref.specs.Following.{Follows};
 
 use account_lines::EntryRow;
-use by_whom::ByWhom;
 use git_object::{ObjectId, RefName};
-use log_names::LogNames;
+use judged_logs::ByWhom;
 use octets::Items;
+use policy_changes::LogNames;
 use policy_epochs::Policy;
 use verify_ref::Engine;
 

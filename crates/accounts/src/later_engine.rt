@@ -17,13 +17,13 @@ ghost use Rattle.entry_rules.specs.RealRules.{real_rules};
 ghost use Rattle.entry_rules.specs.declared.faults.Fault.{Fault};
 ghost use Rattle.verify_ref.specs.Logs.{comes_next};
 ghost use Rattle.verify_ref.specs.Reading.{extending_reads, learning_reads};
-ghost use Rattle.later_rules.specs.LaterRules.{AreNumbered, rules_from};
+ghost use Rattle.judged_logs.specs.LaterRules.{AreNumbered, rules_from};
 
 use entry_rules::{EntryRules, Fault, KnowingRules};
 use git_object::RefName;
+use judged_logs::LaterRules;
 use judging::{EntryVerdict, JudgeFault};
 use keeper_api::{Keeper, KeeperFault};
-use later_rules::LaterRules;
 use policy_epochs::Policy;
 use root_metadata::KeyIds;
 use rsl_chain::{Entry, EntryBody};

@@ -4,8 +4,8 @@ ghost use Rattle.std.specs.Prelude.{◌≡◌, length};
 
 use crate::later_engine::LaterEngine;
 use account_lines::EntryRow;
-use by_whom::ByWhom;
 use git_object::ObjectId;
+use judged_logs::ByWhom;
 use octets::Items;
 
 /// A log of which the entries from a number on were judged, and those before it that are not the policy's taken

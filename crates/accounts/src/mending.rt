@@ -13,15 +13,15 @@ ghost use Rattle.entry_rules.specs.Signing.{tree_in};
 ghost use Rattle.tree_paths.specs.Listings.{walk_visits};
 ghost use Rattle.tree_paths.specs.Repositories.{readings_of};
 ghost use Rattle.tree_paths.specs.States.{walk_of};
-ghost use Rattle.mends.specs.Mends.{back_to, from_on, mend_of, way_back};
-ghost use Rattle.mends.specs.Walking.{HasEnded, IsWalked, some_number};
+ghost use Rattle.judged_logs.specs.Mends.{back_to, from_on, mend_of, way_back};
+ghost use Rattle.judged_logs.specs.Walking.{HasEnded, IsWalked, some_number};
 ghost use Rattle.accounts.specs.Judging.{StandsFor};
 ghost use Rattle.accounts.specs.MendReads.{mend_reads};
 
 use crate::JudgedLog;
 use git_object::{ObjectId, RefName};
+use judged_logs::Mend;
 use keeper_api::{Keeper, KeeperFault};
-use mends::Mend;
 use octets::{Items, Memory};
 use policy_reading::own_state;
 use std::alloc::Global;

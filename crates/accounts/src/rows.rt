@@ -10,7 +10,7 @@ ghost use Rattle.judging.specs.Engines.{Stands};
 ghost use Rattle.judging.specs.Rules.{Rules};
 ghost use Rattle.policy_epochs.specs.declared.policies.Policy.{Policy};
 ghost use Rattle.entry_rules.specs.declared.faults.Fault.{Fault};
-ghost use Rattle.signing_persons.specs.Persons.{persons_of};
+ghost use Rattle.policy_changes.specs.Persons.{persons_of};
 ghost use Rattle.accounts.specs.Rows.{counted_by, from_of, prior_of, signer_in};
 ghost use Rattle.accounts.specs.Steps.{apart_signer, attested_then, is_among, is_apart, is_authorised, is_signed_among};
 
@@ -18,9 +18,9 @@ use entry_rules::{Fault, signer_among};
 use git_object::{KeyId, ObjectId};
 use judging::{EntryVerdict, KeyIds};
 use octets::{Items, Memory, Octets};
+use policy_changes::persons_of;
 use policy_epochs::Policy;
 use rsl_chain::{Entry, EntryBody};
-use signing_persons::persons_of;
 use std::alloc::Global;
 use verify_ref::LogEngine;
 

@@ -22,10 +22,9 @@ use git_object::{ObjectId, RefName};
 use judging::{EntryVerdict, Verdict};
 use keeper_api::{Keeper, KeeperFault};
 use octets::{Copied, Items, Memory, Octets};
-use policy_changes::PolicyChange;
+use policy_changes::{PolicyChange, persons_of};
 use root_metadata::KeyIds;
 use rsl_chain::{Entry, EntryBody};
-use signing_persons::persons_of;
 use std::alloc::Global;
 use would_be::{Proposed, Stood, Would, would};
 

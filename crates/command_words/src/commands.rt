@@ -105,7 +105,8 @@ pub enum Command {
         connections: u32,
         gate: bool,
     },
-    /// To send the entry of this number, from 1 to 1,000,000, to the desk on this port of the machine, from 1 to 65,535.
+    /// To send the entry of this number, from 1 to 1,000,000, to the desk on this port of the machine, from 1 to
+    /// 65,535.
     Push {
         port: u16,
         number: u32,

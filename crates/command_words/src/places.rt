@@ -1,7 +1,8 @@
 //! The two words in front of a command's: the store and the key file.
 
 ghost use Rattle.std.specs.Prelude.{◌≡◌, ◌≢◌, ◌↔◌, map, string_bytes, IfSome, IfNone, IsTrue};
-ghost use Rattle.command_words.specs.Places.{AreNoPlaces, ArePlaces, IsDatabase, IsFolder, IsKey, IsStore, key_text, store_text};
+ghost use Rattle.command_words.specs.Places.{AreNoPlaces, ArePlaces, IsDatabase, IsFolder, IsKey, IsStore, key_text};
+ghost use Rattle.command_words.specs.Places.{store_text};
 
 use crate::first_words::{is_word, split_first};
 

@@ -7,7 +7,7 @@ use Rattle.keeper_api.specs.Undisturbed.{Undisturbed}
 use Rattle.keeper_api.specs.declared.keepers.Keeper as keeper
 use Rattle.edge_io.specs.Disk.{IsKept}
 use Rattle.edge_io.specs.declared.disks.Disk as disk
-use Rattle.hss_keys.specs.Secret.{Secret}
+use Rattle.lms_keys.specs.HssSecret.{Secret}
 use Rattle.leaf_journal.proofs.Steps.{signs_from, tears_from}
 use Rattle.keeper_api.proofs.Committed.{gains_from, may_gain_from}
 use Rattle.keeper_api.specs.Committing.{Gains, MayGain}

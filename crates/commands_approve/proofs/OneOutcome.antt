@@ -8,7 +8,7 @@ use Rattle.git_object.specs.Names.{log_name}
 use Rattle.git_object.specs.Repository.{Repository, value_of}
 use Rattle.rsl_chain.specs.Entries.{Taken}
 use Rattle.hex.specs.Hex.{IsBytes}
-use Rattle.hss_keys.specs.Secret.{Secret, signature_len}
+use Rattle.lms_keys.specs.HssSecret.{Secret, signature_len}
 use Rattle.leaf_journal.specs.KeyFile.{IsKeyFile}
 use Rattle.judging.specs.Logs.{from}
 use Rattle.tree_paths.specs.declared.states.State.{State}

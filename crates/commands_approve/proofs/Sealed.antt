@@ -2,7 +2,7 @@
 use Rattle.std.proofs.Common.{◌≡◌, ◌∙◌, ℕ, List, length, ap, subst}
 use Rattle.std.specs.Prelude.{Ok}
 use Rattle.hex.specs.Hex.{IsBytes}
-use Rattle.hss_keys.specs.Secret.{Secret, signature_len}
+use Rattle.lms_keys.specs.HssSecret.{Secret, signature_len}
 use Rattle.object_making.specs.Texts.{author_of}
 use Rattle.dsse_envelope.specs.Envelopes.{reading}
 use Rattle.dsse_envelope.specs.Sealing.{sealed}
@@ -10,7 +10,7 @@ use Rattle.dsse_envelope.specs.Written.{IsWritable, text_of}
 use Rattle.dsse_envelope.specs.declared.envelope.Envelope.{Envelope}
 use Rattle.approvals.specs.Attesting.{IsChange, approval_pair}
 use Rattle.approvals.specs.declared.attesting.Attested.{Attested}
-use Rattle.envelope_signing.specs.Seals.{signature_of}
+use Rattle.commands_keys.specs.Seals.{signature_of}
 use Rattle.commands_approve.specs.Storing.{Attests, sealed_by}
 use Rattle.commands_approve.specs.Wanted.{IsPrepared}
 use Rattle.commands_approve.specs.declared.preparing.Prepared.{Prepared}

@@ -4,11 +4,11 @@ use Rattle.std.specs.Prelude.{Option, Some, Result, Ok, Err}
 use Rattle.git_object.specs.Repository.{Repository}
 use Rattle.keeper_api.specs.declared.keepers.Keeper as keeper
 use Rattle.edge_io.specs.declared.disks.Disk as disk
-use Rattle.hss_keys.specs.Secret.{Secret}
+use Rattle.lms_keys.specs.HssSecret.{Secret}
 use Rattle.leaf_journal.specs.KeyFile.{IsKeyFile}
 use Rattle.leaf_journal.specs.Files.{IsLeastUnused, IsNoKeyFile, IsUsedUp}
 use Rattle.rsl_chain.specs.Logs.{IsBreakOf, IsLogOf}
-use Rattle.endings.specs.Endings.{IsStopped}
+use Rattle.worlds.specs.Endings.{IsStopped}
 use Rattle.log_appending.specs.declared.appending.AppendFault.{AppendFault}
 use Rattle.log_appending.specs.declared.appending.AppendFault.TheVariants as append
 use Rattle.log_appending.specs.declared.opening.ReadingFault.TheVariants as reading

@@ -1,7 +1,7 @@
 -- What an ending means where the objects that the command touches tell what they hold.
 use Rattle.std.proofs.Common.{ℕ, List}
 use Rattle.std.specs.Prelude.{Result}
-use Rattle.endings.proofs.Lifted.{told_ending}
+use Rattle.worlds.proofs.Lifted.{told_ending}
 use Rattle.worlds.specs.Telling.{TellsEnding}
 use Rattle.worlds.specs.Touching.{on_log}
 use Rattle.worlds.specs.Worlds.{Types, Ways}

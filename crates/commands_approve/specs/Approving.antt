@@ -4,7 +4,7 @@ use Rattle.octets.specs.Content.{GainsPart, Told, with_end}
 use Rattle.git_object.specs.Repository.{Repository}
 use Rattle.keeper_api.specs.declared.keepers.Keeper as keeper
 use Rattle.edge_io.specs.declared.disks.Disk as disk
-use Rattle.hss_keys.specs.Secret.{Secret}
+use Rattle.lms_keys.specs.HssSecret.{Secret}
 use Rattle.leaf_journal.specs.KeyFile.{IsKeyFile}
 use Rattle.rsl_chain.specs.Logs.{IsLogOf}
 use Rattle.dsse_envelope.specs.declared.envelope.Envelope.{Envelope}

@@ -3,14 +3,14 @@ use Rattle.std.specs.Prelude.{◌≡◌, ◌⊎◌, ℕ, List, Option, Some, Res
 use Rattle.git_object.specs.Repository.{Repository}
 use Rattle.keeper_api.specs.declared.keepers.Keeper as keeper
 use Rattle.edge_io.specs.declared.disks.Disk as disk
-use Rattle.hss_keys.specs.Secret.{Secret}
+use Rattle.lms_keys.specs.HssSecret.{Secret}
 use Rattle.leaf_journal.specs.KeyFile.{IsKeyFile}
 use Rattle.leaf_journal.specs.Files.{IsLeastUnused, IsNoKeyFile, IsUsedUp}
 use Rattle.rsl_chain.specs.Logs.{IsLogOf}
-use Rattle.endings.specs.Endings.{IsStopped}
-use Rattle.endings.specs.declared.ending.Ending.{Ending}
-use Rattle.endings.specs.declared.ending.Ending.TheVariants as ending
-use Rattle.endings.specs.declared.ending.Refusal.TheVariants as refusal
+use Rattle.worlds.specs.Endings.{IsStopped}
+use Rattle.worlds.specs.declared.ending.Ending.{Ending}
+use Rattle.worlds.specs.declared.ending.Ending.TheVariants as ending
+use Rattle.worlds.specs.declared.ending.Refusal.TheVariants as refusal
 use Rattle.log_appending.specs.Outcomes.{HasBreak, record_ending}
 use Rattle.log_appending.specs.declared.appending.AppendFault.{AppendFault}
 use Rattle.log_appending.specs.declared.appending.AppendFault.TheVariants as append

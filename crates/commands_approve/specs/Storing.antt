@@ -6,7 +6,7 @@ use Rattle.keeper_api.specs.Undisturbed.{Undisturbed}
 use Rattle.keeper_api.specs.declared.keepers.Keeper as keeper
 use Rattle.edge_io.specs.declared.disks.Disk as disk
 use Rattle.keeper_api.specs.Committing.{Gains, MayGain}
-use Rattle.hss_keys.specs.Secret.{Secret}
+use Rattle.lms_keys.specs.HssSecret.{Secret}
 use Rattle.leaf_journal.specs.Files.{IsUsedUp}
 use Rattle.leaf_journal.specs.Using.{FindsNone, MayTear, SignsWith}
 use Rattle.object_making.specs.Texts.{author_of}
@@ -19,7 +19,7 @@ use Rattle.git_object.specs.References.{attestations_name}
 use Rattle.approvals.specs.Sites.{IsSiteOf}
 use Rattle.approvals.specs.declared.attesting.Attested.{Attested}
 use Rattle.approvals.specs.declared.sites.Site.{Site}
-use Rattle.envelope_signing.specs.Seals.{signature_by, signed_text}
+use Rattle.commands_keys.specs.Seals.{signature_by, signed_text}
 use Rattle.log_appending.specs.Untouched.{Untouched}
 use Rattle.log_appending.specs.declared.appending.AppendFault.{AppendFault}
 use Rattle.log_appending.specs.declared.appending.AppendFault.TheVariants.{ClockFailed, Exhausted, DiskFailed}

@@ -1,7 +1,7 @@
 -- The approval that is to be signed, and why there is none.
 use Rattle.std.specs.Prelude.{◌≡◌, ◌⊎◌, ℕ, true, false, IsUtf8, List, [], Option, Some, None}
 use Rattle.git_object.specs.Repository.{Repository, value_of}
-use Rattle.hss_keys.specs.Secret.{Secret, signature_len}
+use Rattle.lms_keys.specs.HssSecret.{Secret, signature_len}
 use Rattle.rsl_chain.specs.Logs.{IsUnbroken}
 use Rattle.rsl_chain.specs.declared.log_faults.LogFault.TheVariants as log
 use Rattle.dsse_envelope.specs.Sealing.{has_room}
@@ -13,7 +13,7 @@ use Rattle.git_object.specs.References.{attestations_name}
 use Rattle.approvals.specs.Sites.{IsFitSite, IsInWayOf}
 use Rattle.approvals.specs.declared.attest_faults.AttestFault.{AttestFault}
 use Rattle.approvals.specs.declared.attest_faults.AttestFault.TheVariants as attest
-use Rattle.envelope_signing.specs.Seals.{Fits, FitsNot, IsSealable, id_text}
+use Rattle.commands_keys.specs.Seals.{Fits, FitsNot, IsSealable, id_text}
 use Rattle.commands_approve.specs.Ends.{ComesFrom, HasTree, IsBrokenAt}
 use Rattle.commands_approve.specs.declared.ends.Ends.{Ends}
 use Rattle.commands_approve.specs.declared.ends.NotWanted.{NotWanted}

@@ -6,10 +6,9 @@ ghost use Rattle.commands_approve.specs.Runs.{ApproveRuns};
 
 use crate::approving;
 use crate::outcomes::approve_ending;
-use endings::Ending;
 use git_object::{ObjectId, RefName};
 use std::alloc::Global;
-use worlds::{Kinds, Lent, Objects, Of};
+use worlds::{Ending, Kinds, Lent, Objects, Of};
 
 /// Adds the key's signature to the approval of a reference, from where it stands behind the log to the tree of a target
 /// (zeros are nothing), keeps it among the attestations, whose reference then stands at a new commit, and prints its

@@ -4,8 +4,8 @@ ghost use Rattle.std.specs.Prelude.{◌≡◌};
 ghost use Rattle.commands_approve.specs.Outcomes.{approve_ending, fault_ending};
 
 use crate::approving::ApproveFault;
-use endings::{Ending, Refusal};
 use log_appending::record_ending;
+use worlds::{Ending, Refusal};
 
 fn refused(refusal: Refusal) -> Ending
     ensures { result ≡ Ending.Refused refusal }

@@ -11,7 +11,7 @@ ghost use Rattle.approvals.specs.Approvals.{is_approval};
 ghost use Rattle.approvals.specs.Lookups.{approval_at};
 ghost use Rattle.git_object.specs.References.{attestations_name};
 ghost use Rattle.approvals.specs.Sites.{IsFitSite, IsSiteOf};
-ghost use Rattle.envelope_signing.specs.Seals.{IsSealable, id_text};
+ghost use Rattle.commands_keys.specs.Seals.{IsSealable, id_text};
 ghost use Rattle.commands_approve.specs.Ends.{ComesFrom, HasTree, not_failed};
 ghost use Rattle.commands_approve.specs.Reads.{ReadsEntries, state_reads};
 ghost use Rattle.commands_approve.specs.Wanted.{HasRoom, IsApprovalOf, IsPrepared, IsWanted, WhyNoPlace, WhyNoRoom};
@@ -19,8 +19,8 @@ ghost use Rattle.commands_approve.specs.Wanted.{WhyNotWanted, WhyUnprepared, app
 
 use crate::ends::{Ends, NotWanted, read_ends};
 use approvals::{AttestFault, Site, find_site, load_approval, payload_of};
+use commands_keys::{fits_with, has_place, id_text};
 use dsse_envelope::{Envelope, Signatures};
-use envelope_signing::{fits_with, has_place, id_text};
 use git_object::{ObjectId, RefName};
 use keeper_api::{Keeper, KeeperFault};
 use leaf_journal::OpenKey;

@@ -2,8 +2,8 @@
 use Rattle.std.proofs.Common.{◌⊎◌, inl, inr, ℕ, List, refl, subst}
 use Rattle.std.specs.Prelude.{Option, Some, Result, Ok, Err}
 use Rattle.git_object.specs.Repository.{Repository}
-use Rattle.endings.proofs.Lifted.{told_ending}
-use Rattle.endings.specs.Endings.{IsStopped}
+use Rattle.worlds.proofs.Lifted.{told_ending}
+use Rattle.worlds.specs.Endings.{IsStopped}
 use Rattle.worlds.proofs.StillHeld.{still_held}
 use Rattle.worlds.specs.Worlds.{Types, Ways}
 use Rattle.commands_desk.specs.Laws.{ServeComes}

@@ -6,11 +6,11 @@ use Rattle.git_object.specs.Repository.{Repository}
 use Rattle.rsl_chain.specs.Logs.{IsBreakOf, IsLogOf}
 use Rattle.rsl_chain.specs.declared.log_faults.LogFault.{LogFault}
 use Rattle.rsl_chain.specs.declared.log_faults.LogFault.TheVariants as log_
-use Rattle.endings.specs.Breaks.{break_line}
-use Rattle.endings.specs.declared.ending.Ending.{Ending}
-use Rattle.endings.specs.declared.ending.Ending.TheVariants.{Done, Broken, Refused}
-use Rattle.endings.specs.declared.ending.Part.TheVariants as part
-use Rattle.endings.specs.declared.ending.Refusal.TheVariants as refusal
+use Rattle.worlds.specs.Breaks.{break_line}
+use Rattle.worlds.specs.declared.ending.Ending.{Ending}
+use Rattle.worlds.specs.declared.ending.Ending.TheVariants.{Done, Broken, Refused}
+use Rattle.worlds.specs.declared.ending.Part.TheVariants as part
+use Rattle.worlds.specs.declared.ending.Refusal.TheVariants as refusal
 use Rattle.commands_desk.specs.declared.readying.ServeFault.{ServeFault}
 use Rattle.commands_desk.specs.declared.readying.ServeFault.TheVariants.{LogBroken, KeeperFailed, SinkFailed, Memory}
 

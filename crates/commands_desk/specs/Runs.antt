@@ -1,8 +1,8 @@
 -- What `serve` does to the objects outside before a desk is opened, and what it comes to over what they hold.
 use Rattle.std.specs.Prelude.{ℕ, Result}
 use Rattle.keeper_api.specs.Undisturbed.{Undisturbed}
-use Rattle.endings.specs.Counts.{Ended}
-use Rattle.endings.specs.declared.ending.Ending.{Ending}
+use Rattle.worlds.specs.Counts.{Ended}
+use Rattle.worlds.specs.declared.ending.Ending.{Ending}
 use Rattle.worlds.specs.Running.{Runs}
 use Rattle.worlds.specs.Telling.{Content, TellsEnding}
 use Rattle.worlds.specs.Touching.{on_store}

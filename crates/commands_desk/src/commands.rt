@@ -6,9 +6,8 @@ ghost use Rattle.commands_desk.specs.Runs.{ServeRuns};
 
 use crate::readying;
 use crate::readying::serve_ending;
-use endings::Ending;
 use std::alloc::Global;
-use worlds::{Kinds, Lent, Objects, Of};
+use worlds::{Ending, Kinds, Lent, Objects, Of};
 
 /// Loads the log of the store, and prints how many entries a desk over it begins with, or the line that names where the
 /// log breaks. The store is as before.

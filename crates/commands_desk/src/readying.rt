@@ -4,17 +4,18 @@ ghost use Rattle.std.specs.Prelude.{◌≡◌, ◌++◌, IfErr, IfOk, OnOk, code
 ghost use Rattle.octets.specs.Causes.{HasCause};
 ghost use Rattle.git_object.specs.Repository.{Repository};
 ghost use Rattle.keeper_api.specs.Undisturbed.{Undisturbed};
-ghost use Rattle.endings.specs.Counts.{Faults, IsCounted};
-ghost use Rattle.commands_desk.specs.Readying.{Loads, ServeEnds, Tells, fault_of, load_failed, ready_line, serve_ending, tell_failed};
+ghost use Rattle.worlds.specs.Counts.{Faults, IsCounted};
+ghost use Rattle.commands_desk.specs.Readying.{Loads, ServeEnds, Tells, fault_of, load_failed, ready_line};
+ghost use Rattle.commands_desk.specs.Readying.{serve_ending, tell_failed};
 
 use edge_io::{Failed, Sink, write_all};
-use endings::{Ending, Part, Refusal, print_break};
 use git_object::ObjectId;
 use itoa::Buffer;
 use keeper_api::Keeper;
 use octets::{Memory, Octets};
 use rsl_chain::{Log, LogFault};
 use std::alloc::Global;
+use worlds::{Ending, Part, Refusal, print_break};
 
 /// Why a desk is not ready.
 #[derive(Clone, Copy, Debug, PartialEq, Eq)]

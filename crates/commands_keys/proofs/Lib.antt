@@ -3,3 +3,6 @@ mod OneSeal
 mod ToldSeal
 mod SealedFrom
 mod ToldWorld
+pub mod Placed
+pub mod Plain
+pub mod Lengths

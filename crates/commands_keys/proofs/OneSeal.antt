@@ -6,11 +6,11 @@ use Rattle.dsse_envelope.specs.Envelopes.{reading}
 use Rattle.dsse_envelope.specs.Sealing.{has_room}
 use Rattle.dsse_envelope.specs.declared.envelope.Envelope.{Envelope}
 use Rattle.dsse_envelope.specs.declared.envelope.EnvelopeFault.{EnvelopeFault}
-use Rattle.hss_keys.specs.Secret.{Secret}
+use Rattle.lms_keys.specs.HssSecret.{Secret}
 use Rattle.leaf_journal.specs.declared.open_keys.OpenFault.TheVariants as open_fault
 use Rattle.leaf_journal.proofs.OneKeyFile.{not_both, not_spent, one_key}
 use Rattle.commands_keys.specs.Contents.{SealComes}
-use Rattle.envelope_signing.specs.Seals.{id_text}
+use Rattle.commands_keys.specs.Seals.{id_text}
 use Rattle.commands_keys.specs.Inputs.{IsGiven}
 use Rattle.commands_keys.specs.declared.signing_envelopes.SigningFault.TheVariants as signing
 use Rattle.commands_keys.specs.declared.inputs.InputFault.TheVariants as input

@@ -3,14 +3,14 @@ use Rattle.std.proofs.Common.{◌≡◌, ℕ, false, List, sym, subst}
 use Rattle.std.specs.Prelude.{Some}
 use Rattle.edge_io.specs.Disk.{IsKept}
 use Rattle.edge_io.specs.declared.disks.Disk as disk
-use Rattle.hss_keys.specs.Secret.{Secret}
+use Rattle.lms_keys.specs.HssSecret.{Secret}
 use Rattle.leaf_journal.proofs.Steps.{signs_from, tears_from}
 use Rattle.leaf_journal.specs.Files.{IsUsedUp}
 use Rattle.leaf_journal.specs.Using.{FindsNone}
 use Rattle.dsse_envelope.specs.Sealing.{has_room}
 use Rattle.dsse_envelope.specs.declared.envelope.Envelope.{Envelope}
 use Rattle.dsse_envelope.specs.declared.envelope.Signature.{Signature}
-use Rattle.envelope_signing.specs.Seals.{signed_text}
+use Rattle.commands_keys.specs.Seals.{signed_text}
 use Rattle.commands_keys.specs.EnvelopeSigning.{Holds, RefusesSigning, Seals, Signs}
 use Rattle.commands_keys.specs.declared.signing_envelopes.SigningFault.{SigningFault}
 use Rattle.commands_keys.specs.declared.signing_envelopes.SigningFault.TheVariants.{Unopened, Full, Exhausted, DiskFailed, Memory as NoMemory, MemoryAfter}

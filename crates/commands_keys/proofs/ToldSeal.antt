@@ -5,7 +5,7 @@ use Rattle.std.proofs.lemmas.List.{append-nil, length-append}
 use Rattle.octets.specs.Content.{with_front}
 use Rattle.edge_io.specs.declared.disks.Disk as disk
 use Rattle.edge_io.specs.Read.{IsAtEnd}
-use Rattle.endings.specs.Endings.{IsStopped}
+use Rattle.worlds.specs.Endings.{IsStopped}
 use Rattle.leaf_journal.specs.Files.{IsLeastUnused, IsNoKeyFile, IsUsedUp}
 use Rattle.leaf_journal.specs.declared.open_keys.OpenFault.TheVariants as open_fault
 use Rattle.leaf_journal.specs.KeyFile.{IsKeyFile}

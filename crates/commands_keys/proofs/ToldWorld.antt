@@ -3,7 +3,7 @@ use Rattle.std.proofs.Common.{ℕ, Bool, List, subst}
 use Rattle.std.specs.Prelude.{Option, Result}
 use Rattle.lmots.specs.declared.ots_type.OtsType.{OtsType}
 use Rattle.lms_keys.specs.declared.lms_type.LmsType.{LmsType}
-use Rattle.endings.proofs.Lifted.{told_ending}
+use Rattle.worlds.proofs.Lifted.{told_ending}
 use Rattle.worlds.specs.Telling.{TellsEnding}
 use Rattle.worlds.specs.Touching.{on_key, on_new_key}
 use Rattle.worlds.specs.Worlds.{Types, Ways}

@@ -1,13 +1,13 @@
 -- What each command comes to where source and disk tell what they hold: one outcome, faults and memory aside.
 use Rattle.std.specs.Prelude.{◌≡◌, ◌≢◌, ◌<◌, ◌≤◌, ℕ, Bool, true, false, List, [], length, Result, Ok, Err}
-use Rattle.hss_keys.specs.Secret.{Secret}
+use Rattle.lms_keys.specs.HssSecret.{Secret}
 use Rattle.leaf_journal.specs.KeyFile.{IsKeyFile}
 use Rattle.leaf_journal.specs.Files.{IsLeastUnused, IsNoKeyFile, IsUsedUp}
 use Rattle.leaf_journal.specs.declared.open_keys.OpenFault.TheVariants as open_fault
 use Rattle.dsse_envelope.specs.Envelopes.{reading}
 use Rattle.dsse_envelope.specs.Sealing.{has_room}
 use Rattle.dsse_envelope.specs.declared.envelope.Envelope.{Envelope}
-use Rattle.envelope_signing.specs.Seals.{id_text}
+use Rattle.commands_keys.specs.Seals.{id_text}
 use Rattle.commands_keys.specs.Inputs.{IsGiven}
 use Rattle.commands_keys.specs.declared.signing_envelopes.SigningFault.{SigningFault}
 use Rattle.commands_keys.specs.declared.signing_envelopes.SigningFault.TheVariants as signing

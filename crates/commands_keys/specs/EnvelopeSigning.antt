@@ -2,7 +2,7 @@
 use Rattle.std.specs.Prelude.{◌≡◌, ◌++◌, ℕ, Bool, true, false, List, Some, Result, Ok, Err, codes}
 use Rattle.edge_io.specs.Disk.{IsKept}
 use Rattle.edge_io.specs.declared.disks.Disk as disk
-use Rattle.hss_keys.specs.Secret.{Secret}
+use Rattle.lms_keys.specs.HssSecret.{Secret}
 use Rattle.leaf_journal.specs.KeyFile.{IsKeyFile}
 use Rattle.leaf_journal.specs.Files.{IsUsedUp}
 use Rattle.leaf_journal.specs.Opening.{WhyUnopened, open_failed}
@@ -11,7 +11,7 @@ use Rattle.dsse_envelope.specs.Envelopes.{reading}
 use Rattle.dsse_envelope.specs.Sealing.{has_room, sealed}
 use Rattle.dsse_envelope.specs.Written.{text_of}
 use Rattle.dsse_envelope.specs.declared.envelope.Envelope.{Envelope}
-use Rattle.envelope_signing.specs.Seals.{id_text, signature_by, signed_text}
+use Rattle.commands_keys.specs.Seals.{id_text, signature_by, signed_text}
 use Rattle.commands_keys.specs.declared.signing_envelopes.SigningFault.{SigningFault}
 use Rattle.commands_keys.specs.declared.signing_envelopes.SigningFault.TheVariants.{Unopened, Full, Exhausted}
 use Rattle.commands_keys.specs.declared.signing_envelopes.SigningFault.TheVariants.{DiskFailed, Memory, MemoryAfter}

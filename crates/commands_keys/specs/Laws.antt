@@ -1,7 +1,7 @@
 -- The laws of these commands: one outcome at most, and what is told is that one.
 use Rattle.std.specs.Prelude.{◌≡◌, ◌⊎◌, ℕ, Bool, List, Option, Some, Result}
 use Rattle.edge_io.specs.declared.disks.Disk as disk
-use Rattle.endings.specs.Endings.{IsStopped}
+use Rattle.worlds.specs.Endings.{IsStopped}
 use Rattle.lmots.specs.declared.ots_type.OtsType.{OtsType}
 use Rattle.lms_keys.specs.declared.lms_type.LmsType.{LmsType}
 use Rattle.commands_keys.specs.Contents.{KeyGenComes, SealComes}

@@ -14,3 +14,5 @@ pub mod EnvelopeSigning
 pub mod Sealing
 -- what each command does to the objects outside, and what it comes to over what they hold
 pub mod Runs
+-- a key's signature in an envelope
+pub mod Seals

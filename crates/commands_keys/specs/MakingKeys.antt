@@ -5,17 +5,17 @@ use Rattle.octets.specs.Content.{GainsPart, with_end, with_front}
 use Rattle.edge_io.specs.Disk.{IsKept}
 use Rattle.edge_io.specs.declared.disks.Disk as disk
 use Rattle.lmots.specs.declared.ots_type.OtsType.{OtsType}
-use Rattle.hss_keys.specs.Secret.{Secret, public_bytes}
+use Rattle.lms_keys.specs.HssSecret.{Secret, public_bytes}
 use Rattle.lms_keys.specs.LmsType.{height}
 use Rattle.lms_keys.specs.declared.lms_type.LmsType.{LmsType}
 use Rattle.leaf_journal.specs.KeyFile.{IsNewKeyFile}
 use Rattle.leaf_journal.specs.Making.{IsSpared, size_of}
 use Rattle.leaf_journal.specs.declared.faults.CreateFault.{CreateFault}
 use Rattle.leaf_journal.specs.declared.faults.CreateFault.TheVariants as create
-use Rattle.endings.specs.declared.ending.Ending.{Ending}
-use Rattle.endings.specs.declared.ending.Ending.TheVariants.{Done, Refused}
-use Rattle.endings.specs.declared.ending.Part.TheVariants as part
-use Rattle.endings.specs.declared.ending.Refusal.TheVariants as refusal
+use Rattle.worlds.specs.declared.ending.Ending.{Ending}
+use Rattle.worlds.specs.declared.ending.Ending.TheVariants.{Done, Refused}
+use Rattle.worlds.specs.declared.ending.Part.TheVariants as part
+use Rattle.worlds.specs.declared.ending.Refusal.TheVariants as refusal
 use Rattle.commands_keys.specs.KeyLines.{key_line}
 use Rattle.commands_keys.specs.declared.making_keys.KeyGenFault.{KeyGenFault}
 use Rattle.commands_keys.specs.declared.making_keys.KeyGenFault.TheVariants.{NotEmpty, EntropyFailed, DiskFailed}

@@ -2,8 +2,8 @@
 use Rattle.std.specs.Prelude.{Bool, Option, Result}
 use Rattle.lmots.specs.declared.ots_type.OtsType.{OtsType}
 use Rattle.lms_keys.specs.declared.lms_type.LmsType.{LmsType}
-use Rattle.endings.specs.Counts.{Ended}
-use Rattle.endings.specs.declared.ending.Ending.{Ending}
+use Rattle.worlds.specs.Counts.{Ended}
+use Rattle.worlds.specs.declared.ending.Ending.{Ending}
 use Rattle.worlds.specs.Running.{KeepsLeaves, Runs}
 use Rattle.worlds.specs.Telling.{Content, TellsEnding}
 use Rattle.worlds.specs.Touching.{on_key, on_new_key}

@@ -4,10 +4,10 @@ use Rattle.octets.specs.Content.{GainsPart, with_end}
 use Rattle.edge_io.specs.declared.disks.Disk as disk
 use Rattle.leaf_journal.specs.declared.open_keys.OpenFault.TheVariants as open_fault
 use Rattle.dsse_envelope.specs.declared.envelope.Envelope.{Envelope}
-use Rattle.endings.specs.declared.ending.Ending.{Ending}
-use Rattle.endings.specs.declared.ending.Ending.TheVariants.{Done, Refused}
-use Rattle.endings.specs.declared.ending.Part.TheVariants as part
-use Rattle.endings.specs.declared.ending.Refusal.TheVariants as refusal
+use Rattle.worlds.specs.declared.ending.Ending.{Ending}
+use Rattle.worlds.specs.declared.ending.Ending.TheVariants.{Done, Refused}
+use Rattle.worlds.specs.declared.ending.Part.TheVariants as part
+use Rattle.worlds.specs.declared.ending.Refusal.TheVariants as refusal
 use Rattle.commands_keys.specs.EnvelopeSigning as signing
 use Rattle.commands_keys.specs.EnvelopeSigning.{RefusesSigning, Seals}
 use Rattle.commands_keys.specs.Inputs as inputs

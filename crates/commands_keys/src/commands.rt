@@ -8,11 +8,10 @@ ghost use Rattle.commands_keys.specs.Runs.{KeyGenRuns, SealRuns};
 use crate::making_keys::key_gen_ending;
 use crate::sealing::seal_ending;
 use crate::{making_keys, sealing};
-use endings::Ending;
 use lmots::OtsType;
 use lms_keys::LmsType;
 use std::alloc::Global;
-use worlds::{Kinds, Lent, Objects, Of};
+use worlds::{Ending, Kinds, Lent, Objects, Of};
 
 /// Makes the key of these types, from an identifier and a seed that are drawn in this order, on a disk that holds
 /// nothing, and prints its id and its public key. With `bottom` the key has two levels, and that is the type of the

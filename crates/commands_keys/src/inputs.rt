@@ -2,7 +2,7 @@
 
 ghost use Rattle.std.specs.Prelude.{◌≡◌, IfOk, IfErr, true};
 ghost use Rattle.octets.specs.Causes.{HasCause};
-ghost use Rattle.envelope_signing.specs.Seals.{IsSealable};
+ghost use Rattle.commands_keys.specs.Seals.{IsSealable};
 ghost use Rattle.commands_keys.specs.Inputs.{InputEnds, IsGiven, WhyNotGiven, source_failed, unsigned};
 
 use dsse_envelope::{Envelope, EnvelopeFault, Signatures};

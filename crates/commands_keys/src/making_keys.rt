@@ -5,9 +5,9 @@ ghost use Rattle.std.specs.Vec.{vec_capacity};
 ghost use Rattle.octets.specs.Causes.{HasCause, each};
 ghost use Rattle.octets.specs.Content.{with_front};
 ghost use Rattle.edge_io.specs.Moments.{LeavesOnly};
-ghost use Rattle.endings.specs.Counts.{Faults, IsCounted};
+ghost use Rattle.worlds.specs.Counts.{Faults, IsCounted};
 ghost use Rattle.lms_keys.specs.LmsType.{height};
-ghost use Rattle.hss_keys.specs.Secret.{public_bytes};
+ghost use Rattle.lms_keys.specs.HssSecret.{public_bytes};
 ghost use Rattle.leaf_journal.specs.Faults.{create_failed};
 ghost use Rattle.leaf_journal.specs.KeyFile.{KeepsUsed};
 ghost use Rattle.commands_keys.specs.KeyLines.{key_line};
@@ -16,11 +16,11 @@ ghost use Rattle.commands_keys.specs.MakingKeys.{secret_of};
 
 use crate::key_lines::{KEY_LINE, write_key_line};
 use edge_io::{Disk, Entropy, Failed, Sink, write_all};
-use endings::{Ending, Part, Refusal};
 use leaf_journal::{CreateFault, create, create_two};
 use lmots::OtsType;
 use lms_keys::LmsType;
 use std::alloc::Global;
+use worlds::{Ending, Part, Refusal};
 
 /// Why no key was made, or none was told.
 #[derive(Clone, Copy, Debug, PartialEq, Eq)]

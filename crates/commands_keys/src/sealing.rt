@@ -4,17 +4,17 @@ ghost use Rattle.std.specs.Prelude.{◌≡◌};
 ghost use Rattle.octets.specs.Causes.{HasCause};
 ghost use Rattle.edge_io.specs.Moments.{LeavesOnly};
 ghost use Rattle.leaf_journal.specs.KeyFile.{KeepsUsed};
-ghost use Rattle.endings.specs.Counts.{Faults, IsCounted};
+ghost use Rattle.worlds.specs.Counts.{Faults, IsCounted};
 ghost use Rattle.commands_keys.specs.Sealing.{SealEnds, SealedEnds, disk_failed, input_ending, seal_ending};
 ghost use Rattle.commands_keys.specs.Sealing.{signing_ending, source_failed};
 
 use crate::inputs::{InputFault, take_envelope};
 use crate::signing_envelopes::{SigningFault, sign_envelope};
 use edge_io::{Disk, Failed, Sink, Source, write_all};
-use endings::{Ending, Part, Refusal};
 use leaf_journal::OpenFault;
 use octets::Octets;
 use std::alloc::Global;
+use worlds::{Ending, Part, Refusal};
 
 /// Why no signed envelope was printed.
 #[derive(Clone, Copy, Debug, PartialEq, Eq)]

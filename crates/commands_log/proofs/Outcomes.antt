@@ -6,10 +6,10 @@ use Rattle.git_object.specs.Repository.{Repository}
 use Rattle.rsl_chain.specs.Logs.{IsBrokenAs, IsLogOf}
 use Rattle.rsl_chain.specs.declared.log_faults.LogFault.{LogFault}
 use Rattle.rsl_chain.specs.declared.log_faults.LogFault.TheVariants as log
-use Rattle.endings.specs.Endings.{IsStopped}
+use Rattle.worlds.specs.Endings.{IsStopped}
 use Rattle.commands_log.specs.Faults.{fault_of_log}
 use Rattle.commands_log.specs.Laws.{LogComes}
-use Rattle.endings.specs.Breaks.{break_line}
+use Rattle.worlds.specs.Breaks.{break_line}
 use Rattle.commands_log.specs.Lines.{log_text}
 use Rattle.commands_log.specs.Logging.{FindsBreak, LogEnds, Prints, PrintsBreak, PrintsBreakPart, PrintsFront, PrintsLog, log_ending}
 use Rattle.commands_log.specs.Printing.{PrintsAll, PrintsAt, PrintsSome}

@@ -3,7 +3,7 @@ use Rattle.std.specs.Prelude.{◌≡◌, ◌⊎◌, ◌+◌, ◌++◌, ◌∷◌
 use Rattle.git_object.specs.Repository.{Repository}
 use Rattle.rsl_chain.specs.declared.entries.Entry.{Entry}
 use Rattle.rsl_chain.specs.Logs.{IsBreakOf}
-use Rattle.endings.specs.Endings.{IsStopped}
+use Rattle.worlds.specs.Endings.{IsStopped}
 use Rattle.rsl_chain.specs.Histories.{IsHistory}
 use Rattle.commands_log.specs.Logging.{LogEnds, log_ending}
 use Rattle.commands_log.specs.declared.faults.LogCommandFault.{LogCommandFault}

@@ -4,12 +4,12 @@ use Rattle.octets.specs.Content.{GainsPart, with_end}
 use Rattle.git_object.specs.Repository.{Repository}
 use Rattle.rsl_chain.specs.declared.entries.Entry.{Entry}
 use Rattle.rsl_chain.specs.Logs.{IsBreakOf}
-use Rattle.endings.specs.declared.ending.Ending.{Ending}
-use Rattle.endings.specs.declared.ending.Ending.TheVariants as ending
-use Rattle.endings.specs.declared.ending.Part.TheVariants as part
-use Rattle.endings.specs.declared.ending.Refusal.TheVariants as refusal
+use Rattle.worlds.specs.declared.ending.Ending.{Ending}
+use Rattle.worlds.specs.declared.ending.Ending.TheVariants as ending
+use Rattle.worlds.specs.declared.ending.Part.TheVariants as part
+use Rattle.worlds.specs.declared.ending.Refusal.TheVariants as refusal
 use Rattle.rsl_chain.specs.Histories.{BeginsHistory, IsHistory}
-use Rattle.endings.specs.Breaks.{break_line}
+use Rattle.worlds.specs.Breaks.{break_line}
 use Rattle.commands_log.specs.Lines.{log_text}
 use Rattle.commands_log.specs.declared.faults.LogCommandFault.{LogCommandFault}
 use Rattle.commands_log.specs.declared.faults.LogCommandFault.TheVariants.{Broken, KeeperFailed, SinkFailed, Memory}

@@ -7,12 +7,11 @@ ghost use Rattle.commands_log.specs.Runs.{AnnotateRuns, LogRuns, RecordRuns};
 
 use crate::logging::log_ending;
 use crate::{annotating, logging, recording};
-use endings::Ending;
 use git_object::{Ids, RefName};
 use log_appending::record_ending;
 use octets::Octets;
 use std::alloc::Global;
-use worlds::{Kinds, Lent, Objects, Of};
+use worlds::{Ending, Kinds, Lent, Objects, Of};
 
 /// Prints the log of the store: a line for each entry, in the order of their numbers, or the line that names its break.
 pub fn log<W: Objects>(alloc: Global, outside: &mut Lent<W>) -> Ending

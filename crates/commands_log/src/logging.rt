@@ -2,15 +2,15 @@
 
 ghost use Rattle.std.specs.Prelude.{◌≡◌, ◌≤◌, ◌+◌, ◌*◌, IfOk};
 ghost use Rattle.keeper_api.specs.Undisturbed.{Undisturbed};
-ghost use Rattle.endings.specs.Counts.{Faults, IsCounted};
+ghost use Rattle.worlds.specs.Counts.{Faults, IsCounted};
 ghost use Rattle.commands_log.specs.Logging.{LogEnds, log_ending};
 
 use crate::faults::LogCommandFault;
 use crate::printing::print_log;
 use edge_io::{Failed, Sink};
-use endings::{Ending, Part, Refusal, print_break};
 use keeper_api::Keeper;
 use std::alloc::Global;
+use worlds::{Ending, Part, Refusal, print_break};
 
 /// How the program ends.
 pub fn log_ending(outcome: &Result<usize, LogCommandFault>) -> Ending

@@ -6,10 +6,10 @@ use Rattle.octets.specs.Causes.{HasCause, one_more}
 use Rattle.clone_stream.specs.Taking.{IsOfInput}
 use Rattle.clone_stream.specs.declared.stream_faults.StreamFault.{StreamFault}
 use Rattle.clone_stream.specs.declared.stream_faults.StreamFault.TheVariants as stream
-use Rattle.endings.proofs.Counting.{after, sink_failed}
-use Rattle.endings.specs.Counts.{Faults, IsCounted, with_fault}
-use Rattle.endings.specs.Endings.{part_of}
-use Rattle.endings.specs.declared.ending.Ending.{Ending}
+use Rattle.worlds.proofs.Counting.{after, sink_failed}
+use Rattle.worlds.specs.Counts.{Faults, IsCounted, with_fault}
+use Rattle.worlds.specs.Endings.{part_of}
+use Rattle.worlds.specs.declared.ending.Ending.{Ending}
 use Rattle.mirror.specs.Faults.{mirror_keeper_failed, mirror_source_failed}
 use Rattle.mirror.specs.declared.mirror_faults.MirrorFault.{MirrorFault}
 use Rattle.mirror.specs.declared.mirror_faults.MirrorFault.TheVariants.{Stream, BrokenKept, BrokenOffered, Failed, Memory}

@@ -4,16 +4,16 @@ use Rattle.std.specs.Prelude.{Option, Some, None, Ok, Err}
 use Rattle.octets.specs.Causes.{HasCause}
 use Rattle.git_object.specs.Objects.{Pair}
 use Rattle.git_object.specs.Repository.{Repository}
-use Rattle.endings.proofs.Counting.{keeper_failed, keeper_quiet}
-use Rattle.endings.specs.Counts.{Faults, IsCounted, with_fault}
-use Rattle.endings.specs.Endings.{part_of}
-use Rattle.endings.specs.declared.ending.Ending.{Ending}
+use Rattle.worlds.proofs.Counting.{keeper_failed, keeper_quiet}
+use Rattle.worlds.specs.Counts.{Faults, IsCounted, with_fault}
+use Rattle.worlds.specs.Endings.{part_of}
+use Rattle.worlds.specs.declared.ending.Ending.{Ending}
 use Rattle.evidence.specs.declared.dossiers.Dossier.{Dossier}
 use Rattle.std.proofs.Math.Nat.{le_refl}
 use Rattle.octets.specs.Causes.{one_more}
-use Rattle.endings.specs.declared.ending.Ending.TheVariants.{Refused}
-use Rattle.endings.specs.declared.ending.Part.TheVariants as part
-use Rattle.endings.specs.declared.ending.Refusal.TheVariants as refusal
+use Rattle.worlds.specs.declared.ending.Ending.TheVariants.{Refused}
+use Rattle.worlds.specs.declared.ending.Part.TheVariants as part
+use Rattle.worlds.specs.declared.ending.Refusal.TheVariants as refusal
 use Rattle.commands_mirror.specs.Checking.{ReadEnds, check_ending, check_failed, found_ending}
 use Rattle.commands_mirror.specs.Making.{BodiesEnd, make_ending, make_failed}
 use Rattle.commands_mirror.specs.declared.checking_evidence.CheckFault.{CheckFault}

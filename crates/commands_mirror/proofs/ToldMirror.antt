@@ -12,7 +12,7 @@ use Rattle.clone_stream.specs.Taking.{IsDecided, IsOfInput}
 use Rattle.clone_stream.specs.Deciding.{Decides}
 use Rattle.clone_stream.specs.declared.stream_faults.StreamFault.{StreamFault}
 use Rattle.clone_stream.specs.declared.stream_faults.StreamFault.TheVariants as stream
-use Rattle.endings.specs.Endings.{IsStopped}
+use Rattle.worlds.specs.Endings.{IsStopped}
 use Rattle.evidence.specs.Breaks.{IsBreak}
 use Rattle.evidence.specs.Dossiers.{IsDossierText}
 use Rattle.evidence.specs.declared.findings.Finding.{Finding}

@@ -2,7 +2,7 @@
 use Rattle.std.proofs.Common.{ℕ, List, subst}
 use Rattle.std.specs.Prelude.{Option, Result}
 use Rattle.git_object.specs.Repository.{Repository}
-use Rattle.endings.proofs.Lifted.{told_ending}
+use Rattle.worlds.proofs.Lifted.{told_ending}
 use Rattle.evidence.specs.declared.findings.Finding.{Finding}
 use Rattle.mirror.specs.declared.offers.Offer.{Offer}
 use Rattle.worlds.proofs.StillHeld.{still_held}

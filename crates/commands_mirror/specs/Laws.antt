@@ -2,7 +2,7 @@
 use Rattle.std.specs.Prelude.{◌≡◌, ◌⊎◌, ℕ, List, Option, Some, Result}
 use Rattle.git_object.specs.Repository.{Repository}
 use Rattle.keeper_api.specs.declared.keepers.Keeper as keeper
-use Rattle.endings.specs.Endings.{IsStopped}
+use Rattle.worlds.specs.Endings.{IsStopped}
 use Rattle.evidence.specs.declared.findings.Finding.{Finding}
 use Rattle.mirror.specs.declared.offers.Offer.{Offer}
 use Rattle.commands_mirror.specs.Checking.{CheckEnds, check_ending}

@@ -3,10 +3,10 @@ use Rattle.std.specs.Prelude.{◌≡◌, ◌⊎◌, ℕ, Bool, true, false, List
 use Rattle.octets.specs.Content.{GainsPart, with_end}
 use Rattle.git_object.specs.Objects.{Pair}
 use Rattle.git_object.specs.Repository.{HasObject, IsObject, Repository}
-use Rattle.endings.specs.declared.ending.Ending.{Ending}
-use Rattle.endings.specs.declared.ending.Ending.TheVariants.{Done, Refused}
-use Rattle.endings.specs.declared.ending.Part.TheVariants as part
-use Rattle.endings.specs.declared.ending.Refusal.TheVariants as refusal
+use Rattle.worlds.specs.declared.ending.Ending.{Ending}
+use Rattle.worlds.specs.declared.ending.Ending.TheVariants.{Done, Refused}
+use Rattle.worlds.specs.declared.ending.Part.TheVariants as part
+use Rattle.worlds.specs.declared.ending.Refusal.TheVariants as refusal
 use Rattle.evidence.specs.Dossiers.{IsDossierText}
 use Rattle.evidence.specs.declared.dossiers.Dossier.{Dossier}
 use Rattle.commands_mirror.specs.declared.making_evidence.MakeFault.{MakeFault}

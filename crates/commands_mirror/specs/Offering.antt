@@ -5,11 +5,11 @@ use Rattle.keeper_api.specs.declared.keepers.Keeper as keeper
 use Rattle.clone_stream.specs.Faults.{fault_number}
 use Rattle.clone_stream.specs.declared.stream_faults.StreamFault.{StreamFault}
 use Rattle.clone_stream.specs.declared.stream_faults.StreamFault.TheVariants as stream
-use Rattle.endings.specs.Breaks.{break_line}
-use Rattle.endings.specs.declared.ending.Ending.{Ending}
-use Rattle.endings.specs.declared.ending.Ending.TheVariants as ending
-use Rattle.endings.specs.declared.ending.Part.TheVariants as part
-use Rattle.endings.specs.declared.ending.Refusal.TheVariants as refusal
+use Rattle.worlds.specs.Breaks.{break_line}
+use Rattle.worlds.specs.declared.ending.Ending.{Ending}
+use Rattle.worlds.specs.declared.ending.Ending.TheVariants as ending
+use Rattle.worlds.specs.declared.ending.Part.TheVariants as part
+use Rattle.worlds.specs.declared.ending.Refusal.TheVariants as refusal
 use Rattle.mirror.specs.Offers.{Mirrors, Refuses, RefusesInput}
 use Rattle.mirror.specs.declared.mirror_faults.MirrorFault.{MirrorFault}
 use Rattle.mirror.specs.declared.mirror_faults.MirrorFault.TheVariants.{Stream, BrokenKept, BrokenOffered}

@@ -1,8 +1,8 @@
 -- What each command does to the objects outside, and what it comes to over what they hold.
 use Rattle.std.specs.Prelude.{ℕ, true, List, Result}
 use Rattle.keeper_api.specs.Undisturbed.{Undisturbed}
-use Rattle.endings.specs.Counts.{Ended}
-use Rattle.endings.specs.declared.ending.Ending.{Ending}
+use Rattle.worlds.specs.Counts.{Ended}
+use Rattle.worlds.specs.declared.ending.Ending.{Ending}
 use Rattle.evidence.specs.declared.findings.Finding.{Finding}
 use Rattle.mirror.specs.declared.offers.Offer.{Offer}
 use Rattle.worlds.specs.Running.{Runs}

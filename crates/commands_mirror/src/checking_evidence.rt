@@ -2,16 +2,16 @@
 
 ghost use Rattle.std.specs.Prelude.{◌≡◌, ◌++◌, Some, None, codes, decimal, IfOk, OnOk};
 ghost use Rattle.octets.specs.Causes.{HasCause};
-ghost use Rattle.endings.specs.Counts.{Faults, IsCounted};
+ghost use Rattle.worlds.specs.Counts.{Faults, IsCounted};
 ghost use Rattle.commands_mirror.specs.Checking.{CheckEnds, ReadEnds, check_ending, check_failed, found_ending};
 ghost use Rattle.commands_mirror.specs.Lines.{finding_lines, found_reuse, lines_of};
 
 use edge_io::{Failed, ReadFault, Sink, Source, read_all, write_all};
-use endings::{Ending, Part, Refusal};
 use evidence::{Dossier, DossierFault, Finding, find};
 use git_object::{Memory, Octets};
 use itoa::Buffer;
 use std::alloc::Global;
+use worlds::{Ending, Part, Refusal};
 
 /// The most bytes of a dossier that is read: 64 MiB.
 pub const LARGEST_DOSSIER: usize = 1 << 26;

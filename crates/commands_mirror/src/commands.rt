@@ -9,10 +9,9 @@ use crate::checking_evidence::check_ending;
 use crate::making_evidence::make_ending;
 use crate::offering::mirror_ending;
 use crate::{checking_evidence, making_evidence, offering};
-use endings::Ending;
 use git_object::ObjectId;
 use std::alloc::Global;
-use worlds::{Kinds, Lent, Objects, Of};
+use worlds::{Ending, Kinds, Lent, Objects, Of};
 
 /// Offers the source's repository to the store, and prints what its log is to the kept one.
 pub fn mirror<W: Objects>(alloc: Global, outside: &mut Lent<W>) -> Ending

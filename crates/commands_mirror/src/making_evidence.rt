@@ -4,16 +4,16 @@ ghost use Rattle.std.specs.Prelude.{◌≡◌, ◌≤◌, length, IfOk};
 ghost use Rattle.octets.specs.Causes.{HasCause};
 ghost use Rattle.git_object.specs.Repository.{largest_body};
 ghost use Rattle.keeper_api.specs.Undisturbed.{Undisturbed};
-ghost use Rattle.endings.specs.Counts.{Faults, IsCounted};
+ghost use Rattle.worlds.specs.Counts.{Faults, IsCounted};
 ghost use Rattle.evidence.specs.Dossiers.{IsDossierText, IsPublic};
 ghost use Rattle.commands_mirror.specs.Making.{BodiesEnd, BodyEnds, MakeEnds, dossier_of, make_ending, make_failed};
 
 use edge_io::{Failed, Sink, write_all};
-use endings::{Ending, Part, Refusal};
 use evidence::Dossier;
 use git_object::{Memory, Object, ObjectId, Octets};
 use keeper_api::{Keeper, KeeperFault, load_object};
 use std::alloc::Global;
+use worlds::{Ending, Part, Refusal};
 
 /// Why no dossier was printed.
 #[derive(Clone, Copy, Debug, PartialEq, Eq)]

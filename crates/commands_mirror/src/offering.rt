@@ -2,18 +2,18 @@
 
 ghost use Rattle.std.specs.Prelude.{◌≡◌, Some};
 ghost use Rattle.octets.specs.Causes.{HasCause};
-ghost use Rattle.endings.specs.Counts.{Faults, IsCounted};
+ghost use Rattle.worlds.specs.Counts.{Faults, IsCounted};
 ghost use Rattle.commands_mirror.specs.Offering.{MirrorEnds, Tells, mirror_ending, refused_ending, stream_ending};
 ghost use Rattle.commands_mirror.specs.Offering.{break_of, outcome_of, sink_failed};
 
 use crate::offer_lines::print_offer;
 use clone_stream::StreamFault;
 use edge_io::{Failed, Sink, Source};
-use endings::{Ending, Part, Refusal, print_break};
 use git_object::ObjectId;
 use keeper_api::Keeper;
 use mirror::{MirrorFault, Offer, offer};
 use std::alloc::Global;
+use worlds::{Ending, Part, Refusal, print_break};
 
 /// Why an offer has no answer.
 #[derive(Clone, Copy, Debug, PartialEq, Eq)]

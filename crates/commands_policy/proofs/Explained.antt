@@ -8,7 +8,7 @@ use Rattle.rsl_chain.specs.Logs.{IsBrokenAs}
 use Rattle.rsl_chain.specs.declared.log_faults.LogFault.{LogFault}
 use Rattle.rsl_chain.specs.declared.log_faults.LogFault.TheVariants as log
 use Rattle.commands_log.specs.Faults.{fault_of_log}
-use Rattle.endings.specs.Breaks.{break_line}
+use Rattle.worlds.specs.Breaks.{break_line}
 use Rattle.commands_log.specs.declared.faults.LogCommandFault.{LogCommandFault}
 use Rattle.commands_log.specs.declared.faults.LogCommandFault.TheVariants.{SinkFailed}
 use Rattle.policy_epochs.specs.Epochs.{policy_after}

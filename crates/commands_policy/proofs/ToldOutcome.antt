@@ -6,7 +6,7 @@ use Rattle.keeper_api.specs.declared.keepers.Keeper as keeper
 use Rattle.edge_io.specs.declared.disks.Disk as disk
 use Rattle.git_object.specs.References.{policy_name}
 use Rattle.leaf_journal.specs.KeyFile.{IsKeyFile}
-use Rattle.endings.specs.Endings.{IsStopped}
+use Rattle.worlds.specs.Endings.{IsStopped}
 use Rattle.commands_log.specs.declared.faults.LogCommandFault.{LogCommandFault}
 use Rattle.commands_log.specs.declared.faults.LogCommandFault.TheVariants as log
 use Rattle.log_appending.proofs.ToldOutcome as recording

@@ -3,7 +3,7 @@ use Rattle.std.proofs.Common.{ℕ, List, subst}
 use Rattle.std.specs.Prelude.{Option, Result}
 use Rattle.git_object.specs.Repository.{Repository}
 use Rattle.ref_patterns.specs.declared.space.Space.{Space}
-use Rattle.endings.proofs.Lifted.{told_ending}
+use Rattle.worlds.proofs.Lifted.{told_ending}
 use Rattle.worlds.proofs.StillHeld.{still_held}
 use Rattle.worlds.specs.Telling.{TellsEnding}
 use Rattle.worlds.specs.Touching.{on_log, on_store}

@@ -4,13 +4,13 @@ use Rattle.git_object.specs.Repository.{Repository, value_of}
 use Rattle.keeper_api.specs.declared.keepers.Keeper as keeper
 use Rattle.edge_io.specs.declared.disks.Disk as disk
 use Rattle.git_object.specs.References.{policy_name}
-use Rattle.hss_keys.specs.Secret.{Secret}
+use Rattle.lms_keys.specs.HssSecret.{Secret}
 use Rattle.leaf_journal.specs.KeyFile.{IsKeyFile}
 use Rattle.rsl_chain.specs.Logs.{IsBreakOf, IsLogOf}
-use Rattle.endings.specs.Endings.{IsStopped}
-use Rattle.endings.specs.declared.ending.Ending.{Ending}
-use Rattle.endings.specs.declared.ending.Ending.TheVariants as ending
-use Rattle.endings.specs.declared.ending.Refusal.TheVariants as refusal
+use Rattle.worlds.specs.Endings.{IsStopped}
+use Rattle.worlds.specs.declared.ending.Ending.{Ending}
+use Rattle.worlds.specs.declared.ending.Ending.TheVariants as ending
+use Rattle.worlds.specs.declared.ending.Refusal.TheVariants as refusal
 use Rattle.commands_log.specs.declared.faults.LogCommandFault.{LogCommandFault}
 use Rattle.commands_log.specs.declared.faults.LogCommandFault.TheVariants as log
 use Rattle.log_appending.specs.Outcomes.{AppendComes, IsReady, ReadingComes, record_ending}

@@ -2,8 +2,8 @@
 use Rattle.std.specs.Prelude.{ℕ, List, Result}
 use Rattle.keeper_api.specs.Undisturbed.{Undisturbed}
 use Rattle.ref_patterns.specs.declared.space.Space.{Space}
-use Rattle.endings.specs.Counts.{Ended}
-use Rattle.endings.specs.declared.ending.Ending.{Ending}
+use Rattle.worlds.specs.Counts.{Ended}
+use Rattle.worlds.specs.declared.ending.Ending.{Ending}
 use Rattle.worlds.specs.Running.{KeepsLeaves, Runs}
 use Rattle.worlds.specs.Telling.{Content, TellsEnding}
 use Rattle.worlds.specs.Touching.{on_log, on_store}

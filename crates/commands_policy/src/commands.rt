@@ -7,10 +7,9 @@ ghost use Rattle.commands_policy.specs.Runs.{ApplyRuns, ExplainRuns};
 use crate::explaining::explain_ending;
 use crate::outcomes::apply_ending;
 use crate::{applying, explaining};
-use endings::Ending;
 use ref_patterns::Space;
 use std::alloc::Global;
-use worlds::{Kinds, Lent, Objects, Of};
+use worlds::{Ending, Kinds, Lent, Objects, Of};
 
 /// Adds an entry to the log that records the value of the policy's reference, and prints its line, where the entry is
 /// an epoch whatever keys the first root has.

@@ -5,7 +5,7 @@ ghost use Rattle.octets.specs.Causes.{HasCause};
 ghost use Rattle.git_object.specs.Repository.{Repository};
 ghost use Rattle.keeper_api.specs.Undisturbed.{Undisturbed};
 ghost use Rattle.rsl_chain.specs.Logs.{IsBrokenAs, log_failed};
-ghost use Rattle.endings.specs.Counts.{Faults, IsCounted};
+ghost use Rattle.worlds.specs.Counts.{Faults, IsCounted};
 ghost use Rattle.commands_log.specs.Faults.{of_keeper, of_sink};
 ghost use Rattle.policy_reading.specs.Reading.{ReadsLog};
 ghost use Rattle.commands_policy.specs.Explaining.{ExplainEnds, ExplainsLog, Prints, explain_ending};
@@ -13,13 +13,13 @@ ghost use Rattle.commands_policy.specs.Explaining.{ExplainEnds, ExplainsLog, Pri
 use crate::rule_lines::text_of;
 use commands_log::LogCommandFault;
 use edge_io::{Failed, Sink, write_all};
-use endings::{Ending, Part, Refusal, print_break};
 use keeper_api::Keeper;
 use octets::{Memory, Octets};
 use policy_reading::load_epochs;
 use ref_patterns::Space;
 use rsl_chain::LogFault;
 use std::alloc::Global;
+use worlds::{Ending, Part, Refusal, print_break};
 
 /// How the program ends.
 pub fn explain_ending(outcome: &Result<(), LogCommandFault>) -> Ending

@@ -4,8 +4,8 @@ ghost use Rattle.std.specs.Prelude.{◌≡◌};
 ghost use Rattle.commands_policy.specs.Outcomes.{apply_ending};
 
 use crate::applying::ApplyFault;
-use endings::{Ending, Refusal};
 use log_appending::record_ending;
+use worlds::{Ending, Refusal};
 
 /// How the program ends. The line of a refused policy is moved.
 pub fn apply_ending(outcome: Result<(), ApplyFault>) -> Ending

@@ -58,8 +58,8 @@ fn refused(alloc: Global, why: PolicyFault) -> NotApplied
     }
 }
 
-// The value of the policy's reference, where it is an epoch behind the entries at the ids of a log, or what keeps it from
-// being one.
+// The value of the policy's reference, where it is an epoch behind the entries at the ids of a log, or what keeps it
+// from being one.
 fn judge_value<R: Keeper>(
     alloc: Global,
     name: &RefName,

@@ -6,7 +6,7 @@ use Rattle.octets.specs.Content.{with_front}
 use Rattle.git_object.specs.Repository.{Repository}
 use Rattle.edge_io.specs.Read.{IsAtEnd}
 use Rattle.keeper_api.specs.declared.keepers.Keeper as keeper
-use Rattle.endings.specs.Endings.{IsStopped}
+use Rattle.worlds.specs.Endings.{IsStopped}
 use Rattle.commands_snapshot.specs.Contents.{HasMade, SnapshotComes}
 use Rattle.commands_snapshot.specs.Making.{Gives, MadeOf, Takes, TakesNone, WhyUnmade}
 use Rattle.commands_snapshot.specs.OutcomeLaws.{TellsOfTrees}

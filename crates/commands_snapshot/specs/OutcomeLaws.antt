@@ -2,7 +2,7 @@
 use Rattle.std.specs.Prelude.{◌≡◌, ◌⊎◌, ℕ, List, Option, Some, Result}
 use Rattle.git_object.specs.Repository.{Repository}
 use Rattle.keeper_api.specs.declared.keepers.Keeper as keeper
-use Rattle.endings.specs.Endings.{IsStopped}
+use Rattle.worlds.specs.Endings.{IsStopped}
 use Rattle.commands_snapshot.specs.Contents.{IsSettled, SnapshotComes}
 use Rattle.commands_snapshot.specs.Snapshots.{SnapshotEnds, snapshot_ending}
 use Rattle.commands_snapshot.specs.declared.snapshots.SnapshotFault.{SnapshotFault}

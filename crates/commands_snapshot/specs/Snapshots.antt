@@ -3,10 +3,10 @@ use Rattle.std.specs.Prelude.{◌≡◌, ◌++◌, ℕ, List, Option, Result, Ok
 use Rattle.hex.specs.Hex.{encode_lower}
 use Rattle.octets.specs.Content.{GainsPart, with_end}
 use Rattle.keeper_api.specs.declared.keepers.Keeper as keeper
-use Rattle.endings.specs.declared.ending.Ending.{Ending}
-use Rattle.endings.specs.declared.ending.Ending.TheVariants.{Done, Refused}
-use Rattle.endings.specs.declared.ending.Part.TheVariants as part
-use Rattle.endings.specs.declared.ending.Refusal.TheVariants as refusal
+use Rattle.worlds.specs.declared.ending.Ending.{Ending}
+use Rattle.worlds.specs.declared.ending.Ending.TheVariants.{Done, Refused}
+use Rattle.worlds.specs.declared.ending.Part.TheVariants as part
+use Rattle.worlds.specs.declared.ending.Refusal.TheVariants as refusal
 use Rattle.commands_snapshot.specs.Making.{RefusesInput, Takes}
 use Rattle.keeper_api.specs.Committing.{Gains}
 use Rattle.commands_snapshot.specs.Storing.{RefusesStoring, Stores}

@@ -6,10 +6,9 @@ ghost use Rattle.commands_snapshot.specs.Runs.{SnapshotRuns};
 
 use crate::outcomes::snapshot_ending;
 use crate::snapshots;
-use endings::Ending;
 use git_object::RefName;
 use std::alloc::Global;
-use worlds::{Kinds, Lent, Objects, Of};
+use worlds::{Ending, Kinds, Lent, Objects, Of};
 
 /// Makes a commit of the listing that the source gives, with the commit at which the reference stands as its only
 /// parent, if it is there, sets the reference to it, and prints its line.

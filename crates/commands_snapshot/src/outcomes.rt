@@ -6,7 +6,7 @@ ghost use Rattle.commands_snapshot.specs.Snapshots.{input_ending, snapshot_endin
 use crate::making::InputFault;
 use crate::snapshots::SnapshotFault;
 use crate::storing::StoringFault;
-use endings::{Ending, Part, Refusal};
+use worlds::{Ending, Part, Refusal};
 
 fn failed(part: Part) -> Ending
     ensures { result ≡ Ending.Refused (Refusal.Fault part) }

@@ -3,7 +3,7 @@
 ghost use Rattle.std.specs.Prelude.{◌≡◌, ◌≤◌, ◌+◌, ◌++◌, [], length};
 ghost use Rattle.std.specs.Vec.{vec_capacity};
 ghost use Rattle.octets.specs.Causes.{HasCause};
-ghost use Rattle.endings.specs.Counts.{Faults, IsCounted};
+ghost use Rattle.worlds.specs.Counts.{Faults, IsCounted};
 ghost use Rattle.commands_snapshot.specs.Snapshots.{SnapshotEnds, StoredEnds, commit_line, snapshot_ending};
 ghost use Rattle.commands_snapshot.specs.Causes.{clock_failed, keeper_failed, source_failed};
 

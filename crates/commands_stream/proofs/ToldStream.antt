@@ -10,7 +10,7 @@ use Rattle.clone_stream.specs.Streams.{IsStreamText}
 use Rattle.clone_stream.specs.Taking.{TakesInto, WasRead}
 use Rattle.clone_stream.specs.declared.export_faults.ExportFault.{ExportFault}
 use Rattle.clone_stream.specs.declared.export_faults.ExportFault.TheVariants as export
-use Rattle.endings.specs.Endings.{IsStop, IsStopped}
+use Rattle.worlds.specs.Endings.{IsStop, IsStopped}
 use Rattle.commands_stream.specs.Contents.{ExportComes, ImportComes, IsNotTaken, IsOpened, IsTaken, TakeComes}
 use Rattle.commands_stream.specs.Exporting.{ExportEnds, export_ending}
 use Rattle.commands_stream.specs.Importing.{ImportEnds, import_ending}

@@ -3,7 +3,7 @@ use Rattle.std.specs.Prelude.{◌≡◌, ◌⊎◌, ℕ, List, Option, Some, Res
 use Rattle.git_object.specs.Repository.{Repository}
 use Rattle.keeper_api.specs.declared.keepers.Keeper as keeper
 use Rattle.clone_stream.specs.declared.export_faults.ExportFault.{ExportFault}
-use Rattle.endings.specs.Endings.{IsStopped}
+use Rattle.worlds.specs.Endings.{IsStopped}
 use Rattle.commands_stream.specs.Contents.{ExportComes, ImportComes}
 use Rattle.commands_stream.specs.Exporting.{ExportEnds, export_ending}
 use Rattle.commands_stream.specs.Importing.{ImportEnds, import_ending}

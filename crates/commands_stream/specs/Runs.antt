@@ -2,8 +2,8 @@
 use Rattle.std.specs.Prelude.{Result}
 use Rattle.keeper_api.specs.Undisturbed.{Undisturbed}
 use Rattle.clone_stream.specs.declared.export_faults.ExportFault.{ExportFault}
-use Rattle.endings.specs.Counts.{Ended}
-use Rattle.endings.specs.declared.ending.Ending.{Ending}
+use Rattle.worlds.specs.Counts.{Ended}
+use Rattle.worlds.specs.declared.ending.Ending.{Ending}
 use Rattle.worlds.specs.Running.{Runs}
 use Rattle.worlds.specs.Telling.{Content, TellsEnding}
 use Rattle.worlds.specs.Touching.{on_store, on_stream}

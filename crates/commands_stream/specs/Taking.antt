@@ -8,11 +8,11 @@ use Rattle.clone_stream.specs.Faults.{fault_number}
 use Rattle.clone_stream.specs.Taking.{MayLack, MayTake, TakesInto}
 use Rattle.clone_stream.specs.declared.stream_faults.StreamFault.{StreamFault}
 use Rattle.clone_stream.specs.declared.stream_faults.StreamFault.TheVariants as stream
-use Rattle.endings.specs.declared.ending.Ending.{Ending}
-use Rattle.endings.specs.declared.ending.Ending.TheVariants.{Done, Refused}
-use Rattle.endings.specs.declared.ending.Part.TheVariants as part
-use Rattle.endings.specs.declared.ending.Refusal.{Refusal}
-use Rattle.endings.specs.declared.ending.Refusal.TheVariants as refusal
+use Rattle.worlds.specs.declared.ending.Ending.{Ending}
+use Rattle.worlds.specs.declared.ending.Ending.TheVariants.{Done, Refused}
+use Rattle.worlds.specs.declared.ending.Part.TheVariants as part
+use Rattle.worlds.specs.declared.ending.Refusal.{Refusal}
+use Rattle.worlds.specs.declared.ending.Refusal.TheVariants as refusal
 use Rattle.commands_stream.specs.declared.taking.TakeFault.{TakeFault}
 use Rattle.commands_stream.specs.declared.taking.TakeFault.TheVariants.{Stream, SourceFailed, KeeperFailed, Memory}
 

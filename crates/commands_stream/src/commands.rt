@@ -7,9 +7,8 @@ ghost use Rattle.commands_stream.specs.Runs.{ExportRuns, ImportRuns};
 use crate::exporting::export_ending;
 use crate::importing::import_ending;
 use crate::{exporting, importing};
-use endings::Ending;
 use std::alloc::Global;
-use worlds::{Kinds, Lent, Objects, Of};
+use worlds::{Ending, Kinds, Lent, Objects, Of};
 
 /// Takes the source's stream into the empty store, and says so. Nothing is printed where none was taken.
 pub fn import<W: Objects>(alloc: Global, outside: &mut Lent<W>) -> Ending

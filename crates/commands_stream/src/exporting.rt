@@ -4,14 +4,14 @@ ghost use Rattle.std.specs.Prelude.{◌≡◌, ◌≤◌, ◌+◌, length, OnOk,
 ghost use Rattle.std.specs.FinMap.{entries};
 ghost use Rattle.git_object.specs.Repository.{Repository};
 ghost use Rattle.keeper_api.specs.Undisturbed.{Undisturbed};
-ghost use Rattle.endings.specs.Counts.{Faults, IsCounted};
+ghost use Rattle.worlds.specs.Counts.{Faults, IsCounted};
 ghost use Rattle.commands_stream.specs.Exporting.{ExportEnds, export_ending};
 
 use clone_stream::{ExportFault, write_stream};
 use edge_io::Sink;
-use endings::{Ending, Part, Refusal};
 use keeper_api::Keeper;
 use std::alloc::Global;
+use worlds::{Ending, Part, Refusal};
 
 /// How the program ends.
 pub fn export_ending(outcome: &Result<(), ExportFault>) -> Ending

@@ -1,14 +1,14 @@
 //! The command `import`.
 
 ghost use Rattle.std.specs.Prelude.{◌≡◌, ◌≤◌};
-ghost use Rattle.endings.specs.Counts.{Faults, IsCounted};
+ghost use Rattle.worlds.specs.Counts.{Faults, IsCounted};
 ghost use Rattle.commands_stream.specs.Importing.{ImportEnds, import_ending};
 
 use crate::taking::{TakeFault, take, take_refusal};
 use edge_io::{Failed, Sink, Source, write_all};
-use endings::{Ending, Part, Refusal};
 use keeper_api::Keeper;
 use std::alloc::Global;
+use worlds::{Ending, Part, Refusal};
 
 /// Why an import is refused.
 #[derive(Clone, Copy, Debug, PartialEq, Eq)]

@@ -1,7 +1,7 @@
 //! Opening the repository that is judged.
 
 ghost use Rattle.std.specs.Prelude.{◌≡◌, ◌≤◌, IfErr, OnOk, false};
-ghost use Rattle.endings.specs.Counts.{Faults, IsCounted};
+ghost use Rattle.worlds.specs.Counts.{Faults, IsCounted};
 ghost use Rattle.commands_stream.specs.Taking.{DeclinesOpening, Opens, take_ending};
 
 use crate::taking::{TakeFault, take};

@@ -2,14 +2,14 @@
 
 ghost use Rattle.std.specs.Prelude.{◌≡◌, ◌≤◌, IfErr, OnOk};
 ghost use Rattle.clone_stream.specs.Taking.{TakesInto};
-ghost use Rattle.endings.specs.Counts.{Faults, IsCounted};
+ghost use Rattle.worlds.specs.Counts.{Faults, IsCounted};
 ghost use Rattle.commands_stream.specs.Taking.{DeclinesTaking, take_ending, take_fault, take_refusal};
 
 use clone_stream::{StreamFault, read_stream};
 use edge_io::Source;
-use endings::{Part, Refusal};
 use keeper_api::Keeper;
 use std::alloc::Global;
+use worlds::{Part, Refusal};
 
 /// Why no stream was taken.
 #[derive(Clone, Copy, Debug, PartialEq, Eq)]

@@ -7,11 +7,11 @@ use Rattle.keeper_api.proofs.Coming.{as_before_then}
 use Rattle.keeper_api.specs.Undisturbed.{Undisturbed}
 use Rattle.keeper_api.specs.declared.keepers.Keeper as keeper
 use Rattle.clone_stream.specs.Taking.{TakesInto}
-use Rattle.endings.specs.Counts.{Faults, IsCounted}
-use Rattle.endings.specs.Endings.{part_of}
-use Rattle.endings.specs.declared.ending.Ending.TheVariants as ending
-use Rattle.endings.specs.declared.ending.Refusal.TheVariants as refusal
-use Rattle.endings.proofs.Counting.{keeper_failed, keeper_quiet}
+use Rattle.worlds.specs.Counts.{Faults, IsCounted}
+use Rattle.worlds.specs.Endings.{part_of}
+use Rattle.worlds.specs.declared.ending.Ending.TheVariants as ending
+use Rattle.worlds.specs.declared.ending.Refusal.TheVariants as refusal
+use Rattle.worlds.proofs.Counting.{keeper_failed, keeper_quiet}
 use Rattle.commands_verify.specs.Judging.{Judges, judge_failed}
 use Rattle.commands_stream.specs.Taking.{Opens}
 use Rattle.commands_verify.specs.Verdicts.{RefVerdict}

@@ -2,7 +2,7 @@
 use Rattle.std.specs.Prelude.{◌≡◌, ◌⊎◌, ℕ, List, Option, Some, Result, Bool}
 use Rattle.git_object.specs.Repository.{Repository}
 use Rattle.keeper_api.specs.declared.keepers.Keeper as keeper
-use Rattle.endings.specs.Endings.{IsStopped}
+use Rattle.worlds.specs.Endings.{IsStopped}
 use Rattle.commands_verify.specs.Contents.{VerifyComes}
 use Rattle.commands_verify.specs.Verdicts.{RefVerdict}
 use Rattle.commands_verify.specs.Verifying.{VerifyEnds, verify_ending}

@@ -10,3 +10,13 @@ pub mod Contents
 pub mod Laws
 -- what `verify-ref` does to the objects outside, and what it comes to over what they hold
 pub mod Runs
+-- the verdict on a reference of the store, and the ids of keys that are given
+pub mod GlobalJudging
+-- what each outcome of `verify-global` means
+pub mod GlobalVerifying
+-- what the command comes to
+pub mod GlobalContents
+-- the laws of the command
+pub mod GlobalLaws
+-- what it does to the objects outside, and what it comes to over what they hold
+pub mod GlobalRuns

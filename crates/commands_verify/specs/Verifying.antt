@@ -4,11 +4,11 @@ use Rattle.octets.specs.Content.{GainsPart, with_end}
 use Rattle.git_object.specs.Repository.{Repository}
 use Rattle.keeper_api.specs.declared.keepers.Keeper as keeper
 use Rattle.rsl_chain.specs.Logs.{IsBreakOf}
-use Rattle.endings.specs.Breaks.{break_line}
-use Rattle.endings.specs.declared.ending.Ending.{Ending}
-use Rattle.endings.specs.declared.ending.Ending.TheVariants.{Done, Differs, Broken, Refused}
-use Rattle.endings.specs.declared.ending.Part.TheVariants as part
-use Rattle.endings.specs.declared.ending.Refusal.TheVariants as refusal
+use Rattle.worlds.specs.Breaks.{break_line}
+use Rattle.worlds.specs.declared.ending.Ending.{Ending}
+use Rattle.worlds.specs.declared.ending.Ending.TheVariants.{Done, Differs, Broken, Refused}
+use Rattle.worlds.specs.declared.ending.Part.TheVariants as part
+use Rattle.worlds.specs.declared.ending.Refusal.TheVariants as refusal
 use Rattle.commands_stream.specs.Taking.{DeclinesTaking, Opens, take_refusal}
 use Rattle.verify_ref.specs.Lines.{line}
 use Rattle.verify_ref.specs.Verdicts.{IsVerdict}

@@ -6,11 +6,10 @@ ghost use Rattle.commands_verify.specs.Runs.{VerifyRuns};
 
 use crate::verifying;
 use crate::verifying::verify_ending;
-use endings::Ending;
 use git_object::{KeyId, RefName};
 use octets::Items;
 use std::alloc::Global;
-use worlds::{Kinds, Lent, Objects, Of};
+use worlds::{Ending, Kinds, Lent, Objects, Of};
 
 /// Opens the repository - the source's stream where `stdin` asks for it, else what the store holds -, judges the
 /// reference, and prints the verdict's line, or the line that says at which commit the log breaks. Where ids of keys

@@ -2,7 +2,7 @@
 
 ghost use Rattle.std.specs.Prelude.{◌≡◌, false, OnOk, Some};
 ghost use Rattle.git_object.specs.Repository.{Repository};
-ghost use Rattle.endings.specs.Counts.{Faults, IsCounted};
+ghost use Rattle.worlds.specs.Counts.{Faults, IsCounted};
 ghost use Rattle.verify_ref.specs.Reading.{ReadsVerdict};
 ghost use Rattle.commands_verify.specs.Verdicts.{anchor_of};
 ghost use Rattle.commands_verify.specs.Verifying.{LookEnds, VerifyEnds, verify_ending};
@@ -10,12 +10,12 @@ ghost use Rattle.commands_verify.specs.Verifying.{LookEnds, VerifyEnds, verify_e
 use crate::held_verdict::judge;
 use commands_stream::{TakeFault, open, take_refusal};
 use edge_io::{Failed, Sink, Source, write_all};
-use endings::{Ending, Part, Refusal, print_break};
 use git_object::{KeyId, ObjectId, RefName};
 use keeper_api::Keeper;
 use octets::Items;
 use std::alloc::Global;
 use verify_ref::{RefVerdict, Verdict, text};
+use worlds::{Ending, Part, Refusal, print_break};
 
 /// Why there is no verdict.
 #[derive(Clone, Copy, Debug, PartialEq, Eq)]

@@ -1,7 +1,7 @@
 -- What filling and judging count.
 use Rattle.std.proofs.Common.{◌≡◌, refl}
 use Rattle.std.specs.Prelude.{None, Ok}
-use Rattle.endings.specs.Endings.{part_of}
+use Rattle.worlds.specs.Endings.{part_of}
 use Rattle.judging.specs.declared.verdicts.Verdict.{Verdict}
 use Rattle.judging.specs.declared.verdicts.Verdict.TheVariants.{Accepted, TipDiffers, Violation}
 use Rattle.entry_rules.specs.declared.faults.Fault.{Fault}

@@ -4,7 +4,7 @@ use Rattle.std.specs.Prelude.{Option, Some, None}
 use Rattle.std.proofs.lemmas.List.{get_or-drop, length-drop}
 use Rattle.lmots.specs.declared.ots_type.OtsType.TheVariants.{W4}
 use Rattle.lms_keys.specs.declared.lms_type.LmsType.TheVariants.{H10}
-use Rattle.hss_keys.specs.Secret.{Secret}
+use Rattle.lms_keys.specs.HssSecret.{Secret}
 use Rattle.leaf_journal.specs.KeyFile.{IsNewKeyFile, start_of}
 use Rattle.leaf_journal.specs.Signing.{Covers, IsLoaded, Signing}
 use Rattle.leaf_journal.proofs.Fronts.{one_key}

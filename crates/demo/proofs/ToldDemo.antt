@@ -8,7 +8,7 @@ use Rattle.rsl_chain.specs.Logs.{IsBreakOf}
 use Rattle.judging.specs.declared.verdicts.Verdict.{Verdict}
 use Rattle.entry_rules.specs.declared.faults.Fault.{Fault}
 use Rattle.verify_ref.specs.Verdicts.{IsVerdict}
-use Rattle.endings.specs.Endings.{IsStopped}
+use Rattle.worlds.specs.Endings.{IsStopped}
 use Rattle.demo.specs.Histories.{demo_change, demo_repository, main_name}
 use Rattle.demo.specs.Contents.{DemoComes}
 use Rattle.demo.specs.Demos.{DemoEnds, demo_ending}

@@ -3,7 +3,7 @@ use Rattle.std.proofs.Common.{ℕ}
 use Rattle.std.specs.Prelude.{Result}
 use Rattle.judging.specs.declared.verdicts.Verdict.{Verdict}
 use Rattle.entry_rules.specs.declared.faults.Fault.{Fault}
-use Rattle.endings.proofs.Lifted.{told_ending}
+use Rattle.worlds.proofs.Lifted.{told_ending}
 use Rattle.worlds.specs.Telling.{TellsEnding}
 use Rattle.worlds.specs.Touching.{on_store}
 use Rattle.worlds.specs.Worlds.{Types, Ways}

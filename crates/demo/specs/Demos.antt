@@ -12,11 +12,11 @@ use Rattle.judging.specs.declared.verdicts.Verdict.TheVariants.{Accepted, TipDif
 use Rattle.entry_rules.specs.declared.faults.Fault.{Fault}
 use Rattle.verify_ref.specs.Lines.{line}
 use Rattle.verify_ref.specs.Verdicts.{IsVerdict}
-use Rattle.endings.specs.Breaks.{break_line}
-use Rattle.endings.specs.declared.ending.Ending.{Ending}
-use Rattle.endings.specs.declared.ending.Ending.TheVariants.{Done, Differs, Broken, Refused}
-use Rattle.endings.specs.declared.ending.Part.TheVariants as part
-use Rattle.endings.specs.declared.ending.Refusal.TheVariants as refusal
+use Rattle.worlds.specs.Breaks.{break_line}
+use Rattle.worlds.specs.declared.ending.Ending.{Ending}
+use Rattle.worlds.specs.declared.ending.Ending.TheVariants.{Done, Differs, Broken, Refused}
+use Rattle.worlds.specs.declared.ending.Part.TheVariants as part
+use Rattle.worlds.specs.declared.ending.Refusal.TheVariants as refusal
 use Rattle.demo.specs.Histories.{main_name}
 use Rattle.demo.specs.Filling.{FillEnds, Fills}
 use Rattle.demo.specs.declared.running.DemoFault.{DemoFault}

@@ -4,7 +4,7 @@ use Rattle.git_object.specs.Repository.{Repository}
 use Rattle.keeper_api.specs.declared.keepers.Keeper as keeper
 use Rattle.judging.specs.declared.verdicts.Verdict.{Verdict}
 use Rattle.entry_rules.specs.declared.faults.Fault.{Fault}
-use Rattle.endings.specs.Endings.{IsStopped}
+use Rattle.worlds.specs.Endings.{IsStopped}
 use Rattle.demo.specs.Contents.{DemoComes}
 use Rattle.demo.specs.Demos.{DemoEnds, demo_ending}
 use Rattle.demo.specs.declared.running.DemoFault.{DemoFault}

@@ -2,8 +2,8 @@
 use Rattle.std.specs.Prelude.{ℕ, Result}
 use Rattle.judging.specs.declared.verdicts.Verdict.{Verdict}
 use Rattle.entry_rules.specs.declared.faults.Fault.{Fault}
-use Rattle.endings.specs.Counts.{Ended}
-use Rattle.endings.specs.declared.ending.Ending.{Ending}
+use Rattle.worlds.specs.Counts.{Ended}
+use Rattle.worlds.specs.declared.ending.Ending.{Ending}
 use Rattle.worlds.specs.Running.{Runs}
 use Rattle.worlds.specs.Telling.{Content, TellsEnding}
 use Rattle.worlds.specs.Touching.{on_store}

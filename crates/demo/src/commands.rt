@@ -6,9 +6,8 @@ ghost use Rattle.demo.specs.Runs.{DemoRuns};
 
 use crate::running;
 use crate::running::demo_ending;
-use endings::Ending;
 use std::alloc::Global;
-use worlds::{Kinds, Lent, Objects, Of};
+use worlds::{Ending, Kinds, Lent, Objects, Of};
 
 /// Makes the repository of a demonstration of so many changes, 1 to 500, in a store that holds nothing, by one commit,
 /// judges its branch by the log, and prints how many changes there are and the verdict's line; or the line that says at

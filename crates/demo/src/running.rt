@@ -3,7 +3,7 @@
 ghost use Rattle.std.specs.Prelude.{◌≡◌, ◌≤◌, None, OnOk, Some};
 ghost use Rattle.octets.specs.Causes.{HasCause};
 ghost use Rattle.git_object.specs.Repository.{Repository};
-ghost use Rattle.endings.specs.Counts.{Faults, IsCounted};
+ghost use Rattle.worlds.specs.Counts.{Faults, IsCounted};
 ghost use Rattle.verify_ref.specs.Reading.{ReadsVerdict};
 ghost use Rattle.demo.specs.Histories.{main_name};
 ghost use Rattle.demo.specs.Demos.{DemoEnds, JudgeEnds, demo_ending, fill_ending, judge_fault, keeper_failed};
@@ -12,11 +12,11 @@ use crate::filling::{FillFault, fill};
 use crate::lines::demo_lines;
 use crate::main_name;
 use edge_io::{Failed, Sink, write_all};
-use endings::{Ending, Part, Refusal, print_break};
 use git_object::{ObjectId, RefName};
 use keeper_api::Keeper;
 use std::alloc::Global;
 use verify_ref::{LogFault, RefVerdict, Verdict, verify};
+use worlds::{Ending, Part, Refusal, print_break};
 
 /// Why there is no verdict on a demonstration, or why it was not told.
 #[derive(Clone, Copy, Debug, PartialEq, Eq)]

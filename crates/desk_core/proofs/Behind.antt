@@ -30,8 +30,8 @@ use Rattle.verify_ref.specs.Reading.{extending_reads, reads_behind}
 use Rattle.verify_ref.specs.declared.engine.Engine.{Engine}
 use Rattle.verify_ref.proofs.OneVerdict.{same_entries}
 use Rattle.verify_ref.proofs.Walking.{entries_more}
-use Rattle.desk_steps.specs.Steps.{ids_of, row_id}
-use Rattle.desk_steps.specs.declared.rows.Row.{Row}
+use Rattle.pushes.specs.Steps.{ids_of, row_id}
+use Rattle.pushes.specs.declared.rows.Row.{Row}
 use Rattle.desk_core.specs.Lagging.{AreBoundedBehind, BreaksBehind, ComeBehind, Judges, TakesAll, TakesAt, TakesFront, ids_behind}
 
 -- ---- lists

@@ -1,2 +1,15 @@
 pub mod Behind
 pub mod Astray
+pub mod Kept
+pub mod Found
+pub mod Policies
+pub mod Signing
+pub mod Faultless
+pub mod Lasts
+pub mod Laying
+pub mod Denials
+pub mod Judging
+pub mod GateStepping
+pub mod Settling
+pub mod Loading
+pub mod Holding

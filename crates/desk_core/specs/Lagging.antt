@@ -17,8 +17,8 @@ use Rattle.entry_rules.specs.declared.faults.Fault.{Fault}
 use Rattle.verify_ref.specs.Following.{Follows}
 use Rattle.verify_ref.specs.Logs.{AreEntries, ComesBehind}
 use Rattle.verify_ref.specs.declared.engine.Engine.{Engine}
-use Rattle.desk_steps.specs.Steps.{ids_of}
-use Rattle.desk_steps.specs.declared.rows.Row.{Row}
+use Rattle.pushes.specs.Steps.{ids_of}
+use Rattle.pushes.specs.declared.rows.Row.{Row}
 
 -- the ids of a log's entries that the engine has not taken
 abbrev pub ids_behind : List Row → Engine → List (List ℕ)

@@ -2,7 +2,7 @@
 use Rattle.std.specs.Prelude.{◌≡◌, ◌≤◌, [], length, Option, None}
 use Rattle.git_object.specs.Repository.{Repository}
 use Rattle.verify_ref.specs.Following.{Follows}
-use Rattle.desk_log.specs.States.{IsLoaded}
+use Rattle.desk_turns.specs.States.{IsLoaded}
 use Rattle.desk_core.specs.declared.desk_state.DeskState.{DeskState}
 
 -- it has the log of the store, and no entry is judged yet

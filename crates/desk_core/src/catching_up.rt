@@ -14,12 +14,13 @@ ghost use Rattle.entry_rules.specs.RealRules.{real_rules};
 ghost use Rattle.verify_ref.specs.Following.{Follows};
 ghost use Rattle.verify_ref.specs.Logs.{AreEntries, IsAstray};
 ghost use Rattle.verify_ref.specs.Reading.{extending_reads, reads_behind};
-ghost use Rattle.desk_steps.specs.Steps.{ids_of};
-ghost use Rattle.desk_core.specs.Lagging.{AreBoundedBehind, BreaksBehind, Judges, TakesAll, TakesAt, TakesFront, ids_behind};
+ghost use Rattle.pushes.specs.Steps.{ids_of};
+ghost use Rattle.desk_core.specs.Lagging.{AreBoundedBehind, BreaksBehind, Judges, TakesAll, TakesAt, TakesFront};
+ghost use Rattle.desk_core.specs.Lagging.{ids_behind};
 
-use desk_steps::Row;
 use git_object::{ObjectId, RefName};
 use keeper_api::{Keeper, KeeperFault};
+use pushes::Row;
 use rsl_chain::{LogFault, read_entry};
 use std::alloc::Global;
 use verify_ref::{Engine, RefVerdict};

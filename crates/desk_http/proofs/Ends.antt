@@ -1,7 +1,7 @@
 -- How serving ended where nobody was served.
 use Rattle.std.proofs.Common.{◌≡◌, [], List, inl}
 use Rattle.std.specs.Prelude.{Err}
-use Rattle.desk_serving.specs.declared.workers.Worker.{Worker}
+use Rattle.desk_http.specs.declared.workers.Worker.{Worker}
 use Rattle.desk_http.specs.Served.{EndsAs}
 use Rattle.desk_http.specs.declared.faults.DeskFault.{DeskFault}
 use Rattle.desk_http.specs.declared.faults.DeskFault.TheVariants.{LogBroken, KeeperFailed, NoListener, DoorFailed, Memory}

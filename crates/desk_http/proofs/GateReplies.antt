@@ -4,14 +4,14 @@ use Rattle.git_object.specs.Repository.{Repository}
 use Rattle.keeper_api.specs.declared.keepers.Keeper as keeper
 use Rattle.pushes.specs.Pushes.{IsPushText}
 use Rattle.pushes.specs.declared.pushed.Push.{Push}
-use Rattle.desk_lock.specs.Seats.{Sitting}
-use Rattle.desk_calls.specs.Calls as calls
-use Rattle.desk_serving.specs.declared.desks.Pushed.{Pushed}
-use Rattle.gate_desk.specs.States.{is_gate_fault}
-use Rattle.gate_desk.specs.declared.gate_replies.GateReply.{GateReply}
-use Rattle.gate_desk.specs.declared.gate_replies.GateReply.TheVariants.{Denied, Desk}
-use Rattle.gate_shops.specs.Calls.{gate_done}
-use Rattle.gate_shops.specs.Steps.{IsToldAnswer, PushIsGateStep, answers_in, stands_in, told_in}
+use Rattle.desk_turns.specs.Seats.{Sitting}
+use Rattle.desk_turns.specs.Calls as calls
+use Rattle.desk_http.specs.declared.serving_desks.Pushed.{Pushed}
+use Rattle.desk_core.specs.States.{is_gate_fault}
+use Rattle.desk_core.specs.declared.gate_replies.GateReply.{GateReply}
+use Rattle.desk_core.specs.declared.gate_replies.GateReply.TheVariants.{Denied, Desk}
+use Rattle.desk_shops.specs.GateCalls.{gate_done}
+use Rattle.desk_shops.specs.Steps.{IsToldAnswer, PushIsGateStep, answers_in, stands_in, told_in}
 use Rattle.desk_http.specs.Gates.{EachGateReplyIsStep, IsGateStepped, IsToldPushed, told_of}
 use Rattle.desk_http.specs.Steps.{IsNoPush}
 use Rattle.desk_http.proofs.Steps.{settled}

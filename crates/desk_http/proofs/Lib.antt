@@ -4,3 +4,6 @@ pub mod LogReads
 pub mod GateReplies
 pub mod SeatsServed
 pub mod Ends
+pub mod Replying
+pub mod Ending
+pub mod Serving

@@ -8,7 +8,7 @@ use Rattle.keeper_api.specs.declared.keepers.Keeper as keeper
 use Rattle.rsl_chain.specs.Logs.{IsBrokenAs, log_failed}
 use Rattle.rsl_chain.specs.declared.log_faults.LogFault.{LogFault}
 use Rattle.rsl_chain.specs.declared.log_faults.LogFault.TheVariants.{Broken, Failed, Memory}
-use Rattle.desk_log.specs.States.{Desk, IsLoaded}
+use Rattle.desk_turns.specs.States.{Desk, IsLoaded}
 use Rattle.desk_http.specs.Opening.{HasLog, IsOfLog, IsOfOpening, IsOfWorkers, ReadsLog, Serves, StaysAt, fault_of, store_failed}
 use Rattle.desk_http.specs.declared.faults.DeskFault.{DeskFault}
 use Rattle.desk_http.specs.declared.faults.DeskFault.TheVariants as desk

@@ -5,17 +5,17 @@ use Rattle.std.specs.Option.{IsSomeAnd}
 use Rattle.edge_io.specs.declared.sinks.Sink as sink
 use Rattle.edge_io.specs.declared.sources.Source as source
 use Rattle.links.specs.declared.link.Link.{Link}
-use Rattle.desk_lock.specs.Seats.{AreNew, Sitting, TurnId}
-use Rattle.desk_histories.specs.Legal.{IsLegal}
-use Rattle.desk_requests.specs.declared.requests.Asked.{Asked}
-use Rattle.desk_serving.specs.Connections.{Ends, IsServed}
-use Rattle.desk_serving.specs.Workers as workers
-use Rattle.desk_serving.specs.declared.connections.End.{End}
-use Rattle.desk_serving.specs.declared.connections.End.TheVariants.{LinkFailed, Replied, Silent}
-use Rattle.desk_serving.specs.declared.desks.Serves as serves
-use Rattle.desk_serving.specs.declared.workers.Worker.{Worker}
-use Rattle.desk_serving.specs.declared.workers.WorkerEnd.{WorkerEnd}
-use Rattle.desk_serving.specs.declared.workers.WorkerEnd.TheVariants as worker_end
+use Rattle.desk_turns.specs.Seats.{AreNew, Sitting, TurnId}
+use Rattle.desk_turns.specs.Legal.{IsLegal}
+use Rattle.desk_messages.specs.declared.requests.Asked.{Asked}
+use Rattle.desk_http.specs.Connections.{Ends, IsServed}
+use Rattle.desk_http.specs.Workers as workers
+use Rattle.desk_http.specs.declared.connections.End.{End}
+use Rattle.desk_http.specs.declared.connections.End.TheVariants.{LinkFailed, Replied, Silent}
+use Rattle.desk_http.specs.declared.serving_desks.Serves as serves
+use Rattle.desk_http.specs.declared.workers.Worker.{Worker}
+use Rattle.desk_http.specs.declared.workers.WorkerEnd.{WorkerEnd}
+use Rattle.desk_http.specs.declared.workers.WorkerEnd.TheVariants as worker_end
 use Rattle.desk_http.specs.Served.{AreReplied, AreServed, HasServed, IsFirst}
 
 module _ {E S K : Type 0} (desk_of : serves.Ghosts TurnId) (source_of : source.Ghosts S) (sink_of : sink.Ghosts K) (door_of : workers.DoorWays E S K)

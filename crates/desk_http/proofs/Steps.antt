@@ -5,16 +5,16 @@ use Rattle.keeper_api.specs.Undisturbed.{Undisturbed}
 use Rattle.keeper_api.specs.declared.keepers.Keeper as keeper
 use Rattle.pushes.specs.Pushes.{IsPushText}
 use Rattle.pushes.specs.declared.pushed.Push.{Push}
-use Rattle.desk_lock.specs.Histories.{History}
-use Rattle.desk_lock.specs.Seats.{Sitting}
-use Rattle.desk_steps.specs.declared.replies.Reply.{Reply}
-use Rattle.desk_steps.specs.declared.replies.Reply.TheVariants as reply_
-use Rattle.desk_log.specs.Laws.{IsToldReply}
-use Rattle.desk_log.specs.States.{is_fault}
-use Rattle.desk_calls.specs.Calls as calls
+use Rattle.desk_turns.specs.Histories.{History}
+use Rattle.desk_turns.specs.Seats.{Sitting}
+use Rattle.pushes.specs.declared.replies.Reply.{Reply}
+use Rattle.pushes.specs.declared.replies.Reply.TheVariants as reply_
+use Rattle.desk_turns.specs.Laws.{IsToldReply}
+use Rattle.desk_turns.specs.States.{is_fault}
+use Rattle.desk_turns.specs.Calls as calls
 use Rattle.desk_shops.specs.Calls.{IsLeftAlone}
 use Rattle.desk_shops.specs.Desks.{PushIsStep, answers_in, done_reply, stands_in, told_in}
-use Rattle.desk_serving.specs.declared.desks.Pushed.TheVariants.{Replied}
+use Rattle.desk_http.specs.declared.serving_desks.Pushed.TheVariants.{Replied}
 use Rattle.desk_http.specs.Steps.{EachReplyIsStep, IsNoPush, IsStepped}
 
 not_untold : (held : Option Repository) (r : Repository) → held ≡ Some r → held ≡ None → ⊥

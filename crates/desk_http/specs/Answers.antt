@@ -2,15 +2,15 @@
 use Rattle.std.specs.Prelude.{◌≡◌, ℕ, Bool, List, Option, Result, Ok, Err}
 use Rattle.git_object.specs.Repository.{Repository}
 use Rattle.pushes.specs.declared.pushed.Push.{Push}
-use Rattle.endings.specs.Breaks.{break_line}
+use Rattle.worlds.specs.Breaks.{break_line}
 use Rattle.verify_ref.specs.Lines.{line}
-use Rattle.desk_lock.specs.Histories.{History}
-use Rattle.desk_lock.specs.Seats.{Sitting}
-use Rattle.desk_steps.specs.declared.replies.Reply.{Reply}
-use Rattle.desk_calls.specs.Calls as calls
+use Rattle.desk_turns.specs.Histories.{History}
+use Rattle.desk_turns.specs.Seats.{Sitting}
+use Rattle.pushes.specs.declared.replies.Reply.{Reply}
+use Rattle.desk_turns.specs.Calls as calls
 use Rattle.desk_shops.specs.declared.judged.Judged.{Judged}
 use Rattle.desk_shops.specs.declared.judged.Judged.TheVariants.{Verdict, LogBroken}
-use Rattle.desk_serving.specs.declared.desks.Pushed.{Pushed}
+use Rattle.desk_http.specs.declared.serving_desks.Pushed.{Pushed}
 
 -- the line that `verify-ref` prints of what is said of a reference
 abbrev pub judged_line : List ℕ → Judged → List ℕ

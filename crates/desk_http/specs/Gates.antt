@@ -4,17 +4,17 @@ use Rattle.git_object.specs.Repository.{Repository}
 use Rattle.keeper_api.specs.declared.keepers.Keeper as keeper
 use Rattle.pushes.specs.Pushes.{IsPushText}
 use Rattle.pushes.specs.declared.pushed.Push.{Push}
-use Rattle.desk_lock.specs.Histories.{Begins, History}
-use Rattle.desk_lock.specs.Seats.{Sitting}
-use Rattle.desk_log.specs.Laws.{IsToldReply}
-use Rattle.desk_histories.specs.Legal.{IsLegal}
-use Rattle.desk_serving.specs.declared.desks.Pushed.{Pushed}
-use Rattle.desk_serving.specs.declared.desks.Pushed.TheVariants as pushed
-use Rattle.gate_desk.specs.States.{is_gate_fault}
-use Rattle.gate_desk.specs.declared.gate_replies.GateReply.{GateReply}
-use Rattle.gate_desk.specs.declared.gate_replies.GateReply.TheVariants.{Denied, Desk}
-use Rattle.gate_shops.specs.Calls.{gate_done}
-use Rattle.gate_shops.specs.Steps.{IsGateStepOf, answers_in, stands_in, told_in}
+use Rattle.desk_turns.specs.Histories.{Begins, History}
+use Rattle.desk_turns.specs.Seats.{Sitting}
+use Rattle.desk_turns.specs.Laws.{IsToldReply}
+use Rattle.desk_turns.specs.Legal.{IsLegal}
+use Rattle.desk_http.specs.declared.serving_desks.Pushed.{Pushed}
+use Rattle.desk_http.specs.declared.serving_desks.Pushed.TheVariants as pushed
+use Rattle.desk_core.specs.States.{is_gate_fault}
+use Rattle.desk_core.specs.declared.gate_replies.GateReply.{GateReply}
+use Rattle.desk_core.specs.declared.gate_replies.GateReply.TheVariants.{Denied, Desk}
+use Rattle.desk_shops.specs.GateCalls.{gate_done}
+use Rattle.desk_shops.specs.Steps.{IsGateStepOf, answers_in, stands_in, told_in}
 use Rattle.desk_http.specs.Answers.{AnswersPush}
 use Rattle.desk_http.specs.Steps.{IsNoPush}
 

@@ -8,3 +8,9 @@ pub mod Steps
 pub mod Gates
 -- what its seats were asked while it served
 pub mod Served
+-- the code and the body of each reply, and what becomes of the seat
+pub mod ServingAnswers
+-- a connection: one request, and its reply
+pub mod Connections
+-- workers, each of which serves the connections that come in at its door
+pub mod Workers

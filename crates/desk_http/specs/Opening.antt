@@ -8,7 +8,8 @@ use Rattle.rsl_chain.specs.Logs.{IsBreakOf, IsLogOf}
 use Rattle.rsl_chain.specs.declared.log_faults.LogFault.{LogFault}
 use Rattle.rsl_chain.specs.declared.log_faults.LogFault.TheVariants as log_fault
 use Rattle.desk_http.specs.declared.faults.DeskFault.{DeskFault}
-use Rattle.desk_http.specs.declared.faults.DeskFault.TheVariants.{LogBroken, KeeperFailed, NoListener, DoorFailed, Memory}
+use Rattle.desk_http.specs.declared.faults.DeskFault.TheVariants.{LogBroken, KeeperFailed, NoListener, DoorFailed}
+use Rattle.desk_http.specs.declared.faults.DeskFault.TheVariants.{Memory}
 
 -- why no desk is open where no log was loaded
 abbrev pub fault_of : LogFault → DeskFault
@@ -70,8 +71,8 @@ StaysUnserved store new (Ok done) = Unit {0}
 StaysUnserved store new (Err fault) = StaysAt store new fault
 
 module _ {R : Type 0} (keeper_of : keeper.Ghosts R) where
-  -- The store's log was read, which left this store: the store counted a fault exactly where `KeeperFailed` is answered,
-  -- and the log breaks exactly where `LogBroken` is, a fault and want of memory aside.
+  -- The store's log was read, which left this store: the store counted a fault exactly where `KeeperFailed` is
+  -- answered, and the log breaks exactly where `LogBroken` is, a fault and want of memory aside.
   pub record ReadsLog {T : Type 0} (store loaded : R) (result : Result T DeskFault) : Type 0 where
     pub same : Undisturbed keeper_of store loaded
     pub counted : HasCause store_failed (keeper_of.faults store) (keeper_of.faults loaded) result

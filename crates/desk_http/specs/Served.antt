@@ -1,16 +1,16 @@
--- What the seats of a desk were asked while it served, and what was answered: by what kind of desk. How its workers ended,
--- and with them serving.
+-- What the seats of a desk were asked while it served, and what was answered: by what kind of desk. How its workers
+-- ended, and with them serving.
 use Rattle.std.specs.Prelude.{◌≡◌, ◌<◌, ◌≤◌, ◌⊎◌, ◌∷◌, [], ℕ, Bool, true, false, not, List, Option, Some, None}
 use Rattle.std.specs.Prelude.{Result, Ok, Err, All, IsSomeAnd, length}
 use Rattle.std.specs.List.{list_all}
-use Rattle.desk_lock.specs.Seats.{IsNew, Sitting, TurnId}
-use Rattle.desk_histories.specs.Legal.{IsLegal}
-use Rattle.desk_requests.specs.declared.requests.Asked.{Asked}
-use Rattle.desk_serving.specs.Answers.{Answers}
-use Rattle.desk_serving.specs.declared.desks.Serves as serves
-use Rattle.desk_serving.specs.declared.workers.Worker.{Worker}
-use Rattle.desk_serving.specs.declared.workers.WorkerEnd.{WorkerEnd}
-use Rattle.desk_serving.specs.declared.workers.WorkerEnd.TheVariants as worker_end
+use Rattle.desk_turns.specs.Seats.{IsNew, Sitting, TurnId}
+use Rattle.desk_turns.specs.Legal.{IsLegal}
+use Rattle.desk_messages.specs.declared.requests.Asked.{Asked}
+use Rattle.desk_http.specs.ServingAnswers.{Answers}
+use Rattle.desk_http.specs.declared.serving_desks.Serves as serves
+use Rattle.desk_http.specs.declared.workers.Worker.{Worker}
+use Rattle.desk_http.specs.declared.workers.WorkerEnd.{WorkerEnd}
+use Rattle.desk_http.specs.declared.workers.WorkerEnd.TheVariants as worker_end
 use Rattle.desk_http.specs.declared.faults.DeskFault.{DeskFault}
 use Rattle.desk_http.specs.declared.faults.DeskFault.TheVariants as fault
 
@@ -19,8 +19,8 @@ pub record IsFirst (desk : TurnId) (s : Sitting) : Type 0 where
   pub number : ℕ
   pub new : IsNew IsLegal desk number s
 
--- A worker that was to serve so many connections ended so, and was asked this: it served as many, or fewer where its door
--- gave no more or failed. A connection asks for one thing at most.
+-- A worker that was to serve so many connections ended so, and was asked this: it served as many, or fewer where its
+-- door gave no more or failed. A connection asks for one thing at most.
 abbrev pub IsEndOf : ℕ → List Asked → WorkerEnd → Type 0
 IsEndOf most asked (worker_end.Served count) = (count ≡ most) × (length asked ≤ count)
 IsEndOf most asked (worker_end.Closed count) = (count < most) × (length asked ≤ count)

@@ -6,16 +6,16 @@ use Rattle.pushes.specs.Pushes.{IsPushText}
 use Rattle.pushes.specs.Refusals.{IsRefused}
 use Rattle.pushes.specs.declared.push_faults.PushFault.{PushFault}
 use Rattle.pushes.specs.declared.pushed.Push.{Push}
-use Rattle.desk_lock.specs.Histories.{Begins, History}
-use Rattle.desk_lock.specs.Seats.{Sitting}
-use Rattle.desk_steps.specs.declared.replies.Reply.{Reply}
-use Rattle.desk_log.specs.Laws.{IsToldReply}
-use Rattle.desk_log.specs.States.{is_fault}
-use Rattle.desk_histories.specs.Legal.{IsLegal}
-use Rattle.desk_calls.specs.Calls as calls
+use Rattle.desk_turns.specs.Histories.{Begins, History}
+use Rattle.desk_turns.specs.Seats.{Sitting}
+use Rattle.pushes.specs.declared.replies.Reply.{Reply}
+use Rattle.desk_turns.specs.Laws.{IsToldReply}
+use Rattle.desk_turns.specs.States.{is_fault}
+use Rattle.desk_turns.specs.Legal.{IsLegal}
+use Rattle.desk_turns.specs.Calls as calls
 use Rattle.desk_shops.specs.Desks.{IsStepOf, answers_in, done_reply, stands_in, told_in}
-use Rattle.desk_serving.specs.declared.desks.Pushed.{Pushed}
-use Rattle.desk_serving.specs.declared.desks.Pushed.TheVariants.{Replied}
+use Rattle.desk_http.specs.declared.serving_desks.Pushed.{Pushed}
+use Rattle.desk_http.specs.declared.serving_desks.Pushed.TheVariants.{Replied}
 use Rattle.desk_http.specs.Answers.{AnswersPush}
 
 -- the bytes are no push, for this reason, and nothing of the seat changed

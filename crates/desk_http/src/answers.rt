@@ -1,16 +1,15 @@
 //! A desk as what connections ask.
 
 ghost use Rattle.std.specs.Prelude.{◌≡◌, IfOk};
-ghost use Rattle.endings.specs.Breaks.{break_line};
+ghost use Rattle.worlds.specs.Breaks.{break_line};
 ghost use Rattle.desk_http.specs.Answers.{judged_line};
 
-use crate::{HttpDesk, HttpShop};
-use desk_lock::Seat;
-use desk_serving::{Pushed, Serves};
+use crate::{HttpDesk, HttpShop, Pushed, Serves};
 use desk_shops::Judged;
-use desk_steps::Reply;
+use desk_turns::Seat;
 use git_object::{ObjectId, RefName};
 use octets::{Memory, Octets};
+use pushes::Reply;
 use std::alloc::Global;
 use std::sync::Wait;
 

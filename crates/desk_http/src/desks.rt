@@ -1,12 +1,11 @@
 //! Desks, as connections ask them.
 
 ghost use Rattle.std.specs.Prelude.{◌≡◌, ◌<◌, IfOk, All, length};
-ghost use Rattle.desk_lock.specs.Histories.{History, IsAtStart};
-ghost use Rattle.desk_lock.specs.Seats.{AreNew, IsIdle};
+ghost use Rattle.desk_turns.specs.Histories.{History, IsAtStart};
+ghost use Rattle.desk_turns.specs.Seats.{AreNew, IsIdle};
 
 use crate::HttpShop;
-use desk_calls::Desk;
-use desk_lock::Seat;
+use desk_turns::{Desk, Seat};
 use octets::Memory;
 use std::alloc::Global;
 use std::marker::Model;
@@ -18,7 +17,7 @@ pub struct HttpDesk<S: HttpShop> {
 }
 
 impl<S: HttpShop> Model for HttpDesk<S> {
-    ghost use Rattle.desk_lock.specs.Seats.{TurnId, turn_id_coded};
+    ghost use Rattle.desk_turns.specs.Seats.{TurnId, turn_id_coded};
 
     ghost Value = { TurnId };
 

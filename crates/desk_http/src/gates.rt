@@ -1,24 +1,23 @@
 //! A desk that denies what the policy forbids, over HTTP.
 
 ghost use Rattle.std.specs.Prelude.{◌≡◌, ◌<◌, IfErr, IfOk, OnOk, All, length};
-ghost use Rattle.desk_histories.specs.Legal.{IsLegal};
-ghost use Rattle.desk_lock.specs.Seats.{AreNew, IsIdle};
+ghost use Rattle.desk_turns.specs.Legal.{IsLegal};
+ghost use Rattle.desk_turns.specs.Seats.{AreNew, IsIdle};
 ghost use Rattle.desk_shops.specs.Calls.{IsLeftAlone};
-ghost use Rattle.gate_desk.specs.States.{KnowsStore};
-ghost use Rattle.gate_shops.specs.Standing.{IsJustLoadedState};
+ghost use Rattle.desk_core.specs.States.{KnowsStore};
+ghost use Rattle.desk_shops.specs.GateStanding.{IsJustLoadedState};
 ghost use Rattle.desk_http.specs.Opening.{IsOfOpening, ReadsLog, Serves};
 ghost use Rattle.desk_http.specs.Served.{AreServed, EndsAs};
 
 use crate::faults::{DeskFault, fault_of};
 use crate::serving::{serve_at, unserved};
-use crate::{GatedDesk, HttpDesk, HttpShop, Served};
-use desk_lock::Seat;
-use desk_serving::{Pushed, Serves};
+use crate::{GatedDesk, HttpDesk, HttpShop, Pushed, Served, Serves};
+use desk_core::{GateReply, GateState};
+use desk_shops::GateShop;
+use desk_turns::Seat;
 use edge_io::Failed;
-use gate_desk::{GateReply, GateState};
-use gate_shops::GateShop;
 use keeper_api::Keeper;
-use lent_keeper::LentKeeper;
+use keeper_layers::LentKeeper;
 use links::listen;
 use octets::Memory;
 use std::alloc::Global;
@@ -103,8 +102,8 @@ where
     serve_at(rt, alloc, &desk, &listener, seats, connections)
 }
 
-/// Serves as `serve_store` does, by a desk that denies each entry which the policy forbids: what the seats of its workers
-/// saw is what a desk over a gate's shop answers. Before it serves, all entries of the log are judged.
+/// Serves as `serve_store` does, by a desk that denies each entry which the policy forbids: what the seats of its
+/// workers saw is what a desk over a gate's shop answers. Before it serves, all entries of the log are judged.
 pub fn serve_gate<R, W>(
     rt: &W,
     alloc: Global,

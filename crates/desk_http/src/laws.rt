@@ -18,5 +18,5 @@ pub fn each_reply_is_step<R: Keeper>()
 pub fn each_gate_reply_is_step<R: Keeper>()
     ensures { EachGateReplyIsStep R.Keeper }
 {
-    gate_shops::laws::push_is_gate_step::<R>();
+    desk_shops::gate_laws::push_is_gate_step::<R>();
 }

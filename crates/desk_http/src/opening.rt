@@ -1,8 +1,8 @@
 //! Opening a desk over a store.
 
 ghost use Rattle.std.specs.Prelude.{◌≡◌, ◌<◌, IfErr, IfOk, All, length};
-ghost use Rattle.desk_histories.specs.Legal.{IsLegal};
-ghost use Rattle.desk_lock.specs.Seats.{AreNew, IsIdle};
+ghost use Rattle.desk_turns.specs.Legal.{IsLegal};
+ghost use Rattle.desk_turns.specs.Seats.{AreNew, IsIdle};
 ghost use Rattle.desk_core.specs.Loading.{IsUnjudged};
 ghost use Rattle.desk_shops.specs.Calls.{IsLeftAlone};
 ghost use Rattle.desk_http.specs.Opening.{ComesOfLog, IsOfOpening, ReadsLog};
@@ -10,8 +10,8 @@ ghost use Rattle.desk_http.specs.Opening.{ComesOfLog, IsOfOpening, ReadsLog};
 use crate::HttpDesk;
 use crate::faults::{DeskFault, fault_of};
 use desk_core::DeskState;
-use desk_lock::Seat;
 use desk_shops::Shop;
+use desk_turns::Seat;
 use keeper_api::Keeper;
 use octets::Memory;
 use std::alloc::Global;

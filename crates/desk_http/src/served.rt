@@ -1,10 +1,8 @@
 //! What came of serving.
 
-use crate::{DeskFault, HttpDesk};
-use desk_serving::Worker;
-use desk_shops::Shop;
-use gate_shops::GateShop;
-use lent_keeper::LentKeeper;
+use crate::{DeskFault, HttpDesk, Worker};
+use desk_shops::{GateShop, Shop};
+use keeper_layers::LentKeeper;
 use links::TcpDoor;
 
 /// A desk over a store that is lent to it.

@@ -1,20 +1,19 @@
 //! Serving a port of this machine by a desk over a store.
 
 ghost use Rattle.std.specs.Prelude.{◌≡◌, ◌<◌, [], Err, IfErr, OnOk, All, length};
-ghost use Rattle.desk_histories.specs.Legal.{IsLegal};
-ghost use Rattle.desk_lock.specs.Seats.{AreNew, IsIdle};
+ghost use Rattle.desk_turns.specs.Legal.{IsLegal};
+ghost use Rattle.desk_turns.specs.Seats.{AreNew, IsIdle};
 ghost use Rattle.desk_http.specs.Opening.{IsOfWorkers, Serves};
 ghost use Rattle.desk_http.specs.Served.{AreServed, EndsAs, doors_stood};
 
 use crate::faults::DeskFault;
 use crate::opening::{desk_over, load_log};
 use crate::staffing::workers_at;
-use crate::{HttpDesk, HttpShop, OpenDesk, Served};
-use desk_lock::Seat;
-use desk_serving::{NoGate, Serves, Worker, WorkerEnd, serve_all};
+use crate::{HttpDesk, HttpShop, NoGate, OpenDesk, Served, Serves, Worker, WorkerEnd, serve_all};
+use desk_turns::Seat;
 use edge_io::Failed;
 use keeper_api::Keeper;
-use lent_keeper::LentKeeper;
+use keeper_layers::LentKeeper;
 use links::{TcpDoor, listen};
 use std::alloc::Global;
 use std::net::{Net, TcpListener, TcpStream};

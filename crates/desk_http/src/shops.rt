@@ -1,13 +1,13 @@
 //! What a shop's answers are over HTTP.
 
 ghost use Rattle.std.specs.Prelude.{◌≡◌};
-ghost use Rattle.desk_serving.specs.declared.desks.Pushed.{Pushed};
+ghost use Rattle.desk_http.specs.declared.serving_desks.Pushed.{Pushed};
 
-use desk_calls::DeskShop;
-use desk_serving::Pushed;
+use crate::Pushed;
 use desk_shops::{Judged, Shop};
-use desk_steps::Reply;
+use desk_turns::DeskShop;
 use keeper_api::Keeper;
+use pushes::Reply;
 
 /// A shop whose answers are told over HTTP.
 pub trait HttpShop: DeskShop<Judged = Judged> {
@@ -20,7 +20,7 @@ pub trait HttpShop: DeskShop<Judged = Judged> {
 }
 
 impl<R: Keeper> HttpShop for Shop<R> {
-    ghost use Rattle.desk_serving.specs.declared.desks.Pushed.TheVariants as pushed;
+    ghost use Rattle.desk_http.specs.declared.serving_desks.Pushed.TheVariants as pushed;
 
     ghost pushed_as = { λ reply. pushed.Replied reply };
 

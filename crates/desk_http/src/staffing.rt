@@ -1,13 +1,13 @@
 //! The workers of a desk.
 
 ghost use Rattle.std.specs.Prelude.{◌≡◌, ◌+◌, None, IfErr, IfOk, IfSome, IfNone, All, length};
-ghost use Rattle.desk_lock.specs.Seats.{IsIdle, TurnId};
+ghost use Rattle.desk_turns.specs.Seats.{IsIdle, TurnId};
 ghost use Rattle.desk_http.specs.Opening.{IsOfWorkers};
 ghost use Rattle.desk_http.specs.Served.{IsFirst};
 
+use crate::Worker;
 use crate::faults::DeskFault;
-use desk_lock::Seat;
-use desk_serving::Worker;
+use desk_turns::Seat;
 use edge_io::Failed;
 use links::TcpDoor;
 use std::alloc::Global;

@@ -5,17 +5,17 @@ use Rattle.std.proofs.lemmas.List.{length-map, map-append}
 use Rattle.git_object.specs.Repository.{Repository}
 use Rattle.keeper_api.specs.declared.keepers.Keeper as keeper
 use Rattle.pushes.specs.declared.pushed.Push.{Push}
-use Rattle.desk_lock.specs.Histories.{History}
-use Rattle.desk_lock.specs.Seats.{Sitting}
-use Rattle.desk_steps.specs.declared.replies.Reply.{Reply}
-use Rattle.desk_steps.specs.declared.replies.Reply.TheVariants as reply_
-use Rattle.desk_log.specs.Laws.{IsToldReply}
-use Rattle.desk_log.specs.States.{Desk, Steps, is_fault}
-use Rattle.desk_log.specs.declared.settled.Settled.{Settled}
-use Rattle.desk_log.specs.declared.settled.Settled.TheVariants as settled_
-use Rattle.desk_histories.specs.Legal.{last, row_of, rows}
-use Rattle.desk_calls.specs.Calls.{IsAnswered, IsOneMore}
-use Rattle.desk_calls.specs.Shops as desks
+use Rattle.desk_turns.specs.Histories.{History}
+use Rattle.desk_turns.specs.Seats.{Sitting}
+use Rattle.pushes.specs.declared.replies.Reply.{Reply}
+use Rattle.pushes.specs.declared.replies.Reply.TheVariants as reply_
+use Rattle.desk_turns.specs.Laws.{IsToldReply}
+use Rattle.desk_turns.specs.States.{Desk, Steps, is_fault}
+use Rattle.desk_turns.specs.declared.settled.Settled.{Settled}
+use Rattle.desk_turns.specs.declared.settled.Settled.TheVariants as settled_
+use Rattle.desk_turns.specs.Legal.{last, row_of, rows}
+use Rattle.desk_turns.specs.Calls.{IsAnswered, IsOneMore}
+use Rattle.desk_turns.specs.Shops as desks
 use Rattle.desk_shops.specs.Calls.{AddsOne, StandsAfterPush, StandsAfterSettling}
 use Rattle.desk_shops.specs.Desks.{IsStepOf, PushIsStep, answers_in, done_reply, stands_in, told_in}
 use Rattle.desk_shops.specs.declared.shops.Shop.{Shop}

@@ -5,11 +5,11 @@ use Rattle.rsl_chain.specs.Entries.{Taken}
 use Rattle.rsl_chain.specs.Logs.{entry_at}
 use Rattle.verify_ref.specs.Logs.{AreEntries}
 use Rattle.verify_ref.specs.declared.engine.Engine.{Engine}
-use Rattle.desk_lock.specs.Histories.{History, Member, with_member}
-use Rattle.desk_steps.specs.Steps.{ids_of}
+use Rattle.desk_turns.specs.Histories.{History, Member, with_member}
+use Rattle.pushes.specs.Steps.{ids_of}
 use Rattle.desk_core.specs.Laws.{taken_id}
 use Rattle.desk_core.proofs.Astray.{first_at, own_id, taken_there}
-use Rattle.desk_histories.specs.Legal.{last_repository, rows_of}
+use Rattle.desk_turns.specs.Legal.{last_repository, rows_of}
 use Rattle.desk_shops.specs.Standing.{AreEntriesOf, IsOfOne, Lags}
 
 -- ---- one member more

@@ -5,3 +5,9 @@ pub mod Verdicts
 pub mod Desks
 pub mod Streams
 pub mod Refusals
+pub mod Lengths
+pub mod Ledgers
+pub mod Pushing
+pub mod Settling
+pub mod Asking
+pub mod Steps

@@ -8,11 +8,11 @@ use Rattle.keeper_api.specs.declared.keepers.Keeper as keeper
 use Rattle.rsl_chain.specs.Logs.{IsUnbroken, log_failed}
 use Rattle.rsl_chain.specs.declared.log_faults.LogFault.{LogFault}
 use Rattle.rsl_chain.specs.declared.log_faults.LogFault.TheVariants as log_
-use Rattle.desk_lock.specs.Histories.{History}
-use Rattle.desk_log.specs.States.{is_fault}
-use Rattle.stream_texts.specs.Texts.{IsTextOf, text_keeper_failed}
-use Rattle.stream_texts.specs.declared.text_faults.TextFault.{TextFault}
-use Rattle.stream_texts.specs.declared.text_faults.TextFault.TheVariants as text_
+use Rattle.desk_turns.specs.Histories.{History}
+use Rattle.desk_turns.specs.States.{is_fault}
+use Rattle.desk_shops.specs.Texts.{IsTextOf, text_keeper_failed}
+use Rattle.desk_shops.specs.declared.text_faults.TextFault.{TextFault}
+use Rattle.desk_shops.specs.declared.text_faults.TextFault.TheVariants as text_
 use Rattle.desk_shops.specs.Desks.{IsStreamOf, Judges, broken_of, reply_of_text}
 use Rattle.desk_shops.specs.declared.judged.Judged.{Judged}
 

@@ -19,25 +19,25 @@ use Rattle.rsl_chain.specs.declared.entries.Entry.{Entry}
 use Rattle.rsl_chain.proofs.Lookups.{pair_valid}
 use Rattle.pushes.specs.Pushes.{IsSpelled, entry_of_object, object_in}
 use Rattle.pushes.specs.declared.pushed.Push.{Push}
-use Rattle.desk_lock.specs.Histories.{History, count}
-use Rattle.desk_steps.specs.Steps.{IsTaken, change_of, early}
-use Rattle.desk_steps.specs.declared.replies.Reply.{Reply}
-use Rattle.desk_steps.specs.declared.replies.Reply.TheVariants as reply_
-use Rattle.desk_steps.specs.declared.rows.Row.{Row}
-use Rattle.desk_steps.proofs.LogGrowth.{next_of}
-use Rattle.desk_log.specs.Settling.{Settles, is_unsettled, settled_as}
-use Rattle.desk_log.specs.States.{Desk, IsAnswered, Refuses, Steps, answered, is_fault}
-use Rattle.desk_log.specs.declared.settled.Settled.{Settled}
-use Rattle.desk_log.specs.declared.settled.Settled.TheVariants as settled_
+use Rattle.desk_turns.specs.Histories.{History, count}
+use Rattle.pushes.specs.Steps.{IsTaken, change_of, early}
+use Rattle.pushes.specs.declared.replies.Reply.{Reply}
+use Rattle.pushes.specs.declared.replies.Reply.TheVariants as reply_
+use Rattle.pushes.specs.declared.rows.Row.{Row}
+use Rattle.pushes.proofs.LogGrowth.{next_of}
+use Rattle.desk_turns.specs.Settling.{Settles, is_unsettled, settled_as}
+use Rattle.desk_turns.specs.States.{Desk, IsAnswered, Refuses, Steps, answered, is_fault}
+use Rattle.desk_turns.specs.declared.settled.Settled.{Settled}
+use Rattle.desk_turns.specs.declared.settled.Settled.TheVariants as settled_
 use Rattle.desk_core.specs.declared.desk_state.DeskState.{DeskState}
 use Rattle.desk_core.specs.Loading.{IsUnjudged}
 use Rattle.verify_ref.specs.declared.engine.Engine.{Engine}
-use Rattle.desk_histories.specs.Keeping.{HasMore}
-use Rattle.desk_histories.specs.Legal.{last, row_of, rows}
-use Rattle.desk_histories.specs.Standing.{IsDoubted, IsHeld, IsSettled, StandsFor}
-use Rattle.desk_histories.proofs.Keeps.{step_keeps}
-use Rattle.desk_histories.proofs.Loads.{load_stands}
-use Rattle.desk_histories.proofs.Settles.{settle_keeps}
+use Rattle.desk_turns.specs.Keeping.{HasMore}
+use Rattle.desk_turns.specs.Legal.{last, row_of, rows}
+use Rattle.desk_turns.specs.Standing.{IsDoubted, IsHeld, IsSettled, StandsFor}
+use Rattle.desk_turns.proofs.Keeps.{step_keeps}
+use Rattle.desk_turns.proofs.Loads.{load_stands}
+use Rattle.desk_turns.proofs.Settles.{settle_keeps}
 use Rattle.desk_shops.specs.Calls.{AddsOne, IsLeftAlone, Opens, Replies, StandsAfterPush, StandsAfterSettling}
 use Rattle.desk_shops.specs.Standing.{Lags, Stands}
 use Rattle.desk_shops.proofs.Engines.{lags_more}

@@ -5,13 +5,13 @@ use Rattle.octets.specs.Causes.{HasCause}
 use Rattle.git_object.specs.Repository.{Repository}
 use Rattle.keeper_api.specs.Undisturbed.{Undisturbed}
 use Rattle.keeper_api.specs.declared.keepers.Keeper as keeper
-use Rattle.desk_lock.specs.Histories.{History}
+use Rattle.desk_turns.specs.Histories.{History}
 use Rattle.desk_core.specs.declared.desk_state.DeskState.{DeskState}
-use Rattle.desk_histories.specs.Legal.{last}
-use Rattle.desk_histories.specs.Standing.{IsHeld, IsSettled}
-use Rattle.desk_histories.proofs.Keeps.{same_stands}
-use Rattle.stream_texts.specs.Texts.{IsTextOf, text_keeper_failed}
-use Rattle.stream_texts.specs.declared.text_faults.TextFault.{TextFault}
+use Rattle.desk_turns.specs.Legal.{last}
+use Rattle.desk_turns.specs.Standing.{IsHeld, IsSettled}
+use Rattle.desk_turns.proofs.Keeps.{same_stands}
+use Rattle.desk_shops.specs.Texts.{IsTextOf, text_keeper_failed}
+use Rattle.desk_shops.specs.declared.text_faults.TextFault.{TextFault}
 use Rattle.desk_shops.specs.Standing.{Stands}
 use Rattle.desk_shops.proofs.Counting.{counted}
 

@@ -17,16 +17,16 @@ use Rattle.entry_rules.specs.RealRules.{real_rules}
 use Rattle.entry_rules.specs.declared.faults.Fault.{Fault}
 use Rattle.verify_ref.specs.Following.{Follows}
 use Rattle.verify_ref.specs.declared.engine.Engine.{Engine}
-use Rattle.desk_lock.specs.Histories.{History, count}
-use Rattle.desk_steps.specs.Steps.{ids_of}
-use Rattle.desk_steps.specs.declared.rows.Row.{Row}
+use Rattle.desk_turns.specs.Histories.{History, count}
+use Rattle.pushes.specs.Steps.{ids_of}
+use Rattle.pushes.specs.declared.rows.Row.{Row}
 use Rattle.desk_core.specs.Lagging.{BreaksBehind, Judges, TakesFront, ids_behind}
 use Rattle.desk_core.specs.Laws.{taken_id}
 use Rattle.desk_core.specs.declared.desk_state.DeskState.{DeskState}
 use Rattle.desk_core.proofs.Astray.{ids_are, none_in_log}
-use Rattle.desk_histories.specs.Legal.{last, rows, rows_of}
-use Rattle.desk_histories.specs.Standing.{IsHeld, IsSettled}
-use Rattle.desk_histories.proofs.Keeps.{same_stands}
+use Rattle.desk_turns.specs.Legal.{last, rows, rows_of}
+use Rattle.desk_turns.specs.Standing.{IsHeld, IsSettled}
+use Rattle.desk_turns.proofs.Keeps.{same_stands}
 use Rattle.desk_shops.specs.Standing.{AreEntriesOf, IsVerdictOf, Lags, Stands}
 use Rattle.desk_shops.proofs.Counting.{counted}
 use Rattle.desk_shops.proofs.Engines.{front_ids, taken_more}

@@ -5,15 +5,15 @@ use Rattle.git_object.specs.Repository.{Repository}
 use Rattle.keeper_api.specs.Changes.{changed}
 use Rattle.keeper_api.specs.declared.keepers.Keeper as keeper
 use Rattle.pushes.specs.declared.pushed.Push.{Push}
-use Rattle.desk_lock.specs.Histories.{History, IsAtStart, Member, count, with_member}
-use Rattle.desk_steps.specs.Steps.{IsTaken, change_of, early}
-use Rattle.desk_steps.specs.declared.replies.Reply.{Reply}
-use Rattle.desk_steps.specs.declared.replies.Reply.TheVariants as reply_
-use Rattle.desk_log.specs.States.{Refuses}
-use Rattle.desk_log.specs.declared.settled.Settled.{Settled}
-use Rattle.desk_log.specs.declared.settled.Settled.TheVariants as settled_
+use Rattle.desk_turns.specs.Histories.{History, IsAtStart, Member, count, with_member}
+use Rattle.pushes.specs.Steps.{IsTaken, change_of, early}
+use Rattle.pushes.specs.declared.replies.Reply.{Reply}
+use Rattle.pushes.specs.declared.replies.Reply.TheVariants as reply_
+use Rattle.desk_turns.specs.States.{Refuses}
+use Rattle.desk_turns.specs.declared.settled.Settled.{Settled}
+use Rattle.desk_turns.specs.declared.settled.Settled.TheVariants as settled_
 use Rattle.desk_core.specs.declared.desk_state.DeskState.{DeskState}
-use Rattle.desk_histories.specs.Legal.{last, rows}
+use Rattle.desk_turns.specs.Legal.{last, rows}
 use Rattle.desk_shops.specs.Standing.{Stands}
 
 module _ {R : Type 0} (keeper_of : keeper.Ghosts R) where

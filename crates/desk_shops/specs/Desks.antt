@@ -9,20 +9,20 @@ use Rattle.keeper_api.specs.declared.keeper_faults.KeeperFault.{KeeperFault}
 use Rattle.keeper_api.specs.declared.keeper_faults.KeeperFault.TheVariants as keeper_
 use Rattle.rsl_chain.specs.declared.log_faults.LogFault.{LogFault}
 use Rattle.rsl_chain.specs.declared.log_faults.LogFault.TheVariants as log_
-use Rattle.stream_texts.specs.declared.text_faults.TextFault.{TextFault}
-use Rattle.stream_texts.specs.declared.text_faults.TextFault.TheVariants as text_
+use Rattle.desk_shops.specs.declared.text_faults.TextFault.{TextFault}
+use Rattle.desk_shops.specs.declared.text_faults.TextFault.TheVariants as text_
 use Rattle.pushes.specs.declared.pushed.Push.{Push}
-use Rattle.desk_lock.specs.Histories.{History}
-use Rattle.desk_lock.specs.Seats.{Sitting}
-use Rattle.desk_steps.specs.Steps.{DeskStep}
-use Rattle.desk_steps.specs.declared.replies.Reply.{Reply}
-use Rattle.desk_steps.specs.declared.replies.Reply.TheVariants as reply_
-use Rattle.desk_log.specs.Laws.{IsToldReply}
-use Rattle.desk_log.specs.States.{Desk, is_fault}
-use Rattle.desk_calls.specs.Calls.{IsAnswered}
-use Rattle.desk_histories.specs.Legal.{last, rows}
-use Rattle.desk_histories.specs.Standing.{IsHeld, IsSettled, StandsFor}
-use Rattle.stream_texts.specs.Texts.{IsDamagedFirst, IsTextOf, IsTooLarge, largest_text}
+use Rattle.desk_turns.specs.Histories.{History}
+use Rattle.desk_turns.specs.Seats.{Sitting}
+use Rattle.pushes.specs.Steps.{DeskStep}
+use Rattle.pushes.specs.declared.replies.Reply.{Reply}
+use Rattle.pushes.specs.declared.replies.Reply.TheVariants as reply_
+use Rattle.desk_turns.specs.Laws.{IsToldReply}
+use Rattle.desk_turns.specs.States.{Desk, is_fault}
+use Rattle.desk_turns.specs.Calls.{IsAnswered}
+use Rattle.desk_turns.specs.Legal.{last, rows}
+use Rattle.desk_turns.specs.Standing.{IsHeld, IsSettled, StandsFor}
+use Rattle.desk_shops.specs.Texts.{IsDamagedFirst, IsTextOf, IsTooLarge, largest_text}
 use Rattle.desk_shops.specs.Calls.{Replies}
 use Rattle.desk_shops.specs.declared.shops.Shop.{Shop}
 use Rattle.desk_shops.specs.Standing.{IsVerdictOf, Stands}

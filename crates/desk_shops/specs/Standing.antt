@@ -10,10 +10,10 @@ use Rattle.entry_rules.specs.RealRules.{real_rules}
 use Rattle.entry_rules.specs.declared.faults.Fault.{Fault}
 use Rattle.verify_ref.specs.Following.{Follows}
 use Rattle.verify_ref.specs.declared.engine.Engine.{Engine}
-use Rattle.desk_lock.specs.Histories.{History, Member, count}
+use Rattle.desk_turns.specs.Histories.{History, Member, count}
 use Rattle.desk_core.specs.declared.desk_state.DeskState.{DeskState}
-use Rattle.desk_histories.specs.Legal.{last}
-use Rattle.desk_histories.specs.Standing.{StandsFor}
+use Rattle.desk_turns.specs.Legal.{last}
+use Rattle.desk_turns.specs.Standing.{StandsFor}
 
 -- the repository is that of one of these members
 abbrev pub IsOfOne : List Member → Repository → Type 0

@@ -4,17 +4,14 @@ ghost use Rattle.std.specs.Prelude.{◌≡◌};
 ghost use Rattle.std.proofs.Common.{◌∙◌, sym};
 ghost use Rattle.desk_shops.specs.Desks.{broken_of, reply_of_text};
 
-use crate::{Judged, Shop};
-use desk_calls::DeskShop;
-use desk_log::Settled;
-use desk_steps::Reply;
+use crate::{Judged, LARGEST_TEXT, Shop, TextFault};
+use desk_turns::{DeskShop, Settled};
 use git_object::{ObjectId, RefName};
 use keeper_api::{Keeper, KeeperFault};
 use octets::Octets;
-use pushes::Push;
+use pushes::{Push, Reply};
 use rsl_chain::LogFault;
 use std::alloc::Global;
-use stream_texts::{LARGEST_TEXT, TextFault};
 
 // What a log that is broken, or was not read, comes to.
 fn broken_of(fault: LogFault) -> Result<Judged, KeeperFault>
@@ -43,7 +40,7 @@ pub fn reply_of_text(fault: TextFault) -> Reply
 
 impl<R: Keeper> DeskShop for Shop<R> {
     ghost use Rattle.std.specs.Option.{is_some};
-    ghost use Rattle.desk_log.specs.States.{is_fault as reply_fault};
+    ghost use Rattle.desk_turns.specs.States.{is_fault as reply_fault};
     ghost use Rattle.desk_shops.specs.Calls.{Replies};
     ghost use Rattle.desk_shops.specs.Desks.{Judges, StreamsOf, done_reply, last_told};
 

@@ -8,28 +8,26 @@ ghost use Rattle.git_object.specs.Repository.{Repository};
 ghost use Rattle.keeper_api.specs.Undisturbed.{Undisturbed};
 ghost use Rattle.rsl_chain.specs.Logs.{IsUnbroken, log_failed};
 ghost use Rattle.pushes.specs.Pushes.{IsSpelled};
-ghost use Rattle.desk_lock.specs.Histories.{History, count};
-ghost use Rattle.desk_steps.specs.Steps.{tip_of};
-ghost use Rattle.desk_log.specs.Settling.{is_unsettled, settled_as};
-ghost use Rattle.desk_log.specs.States.{answered, is_fault};
+ghost use Rattle.desk_turns.specs.Histories.{History, count};
+ghost use Rattle.pushes.specs.Steps.{tip_of};
+ghost use Rattle.desk_turns.specs.Settling.{is_unsettled, settled_as};
+ghost use Rattle.desk_turns.specs.States.{answered, is_fault};
 ghost use Rattle.desk_core.specs.Loading.{IsUnjudged};
-ghost use Rattle.desk_histories.specs.Legal.{last, rows};
-ghost use Rattle.stream_texts.specs.Texts.{IsTextOf, text_keeper_failed};
+ghost use Rattle.desk_turns.specs.Legal.{last, rows};
+ghost use Rattle.desk_shops.specs.Texts.{IsTextOf, text_keeper_failed};
 ghost use Rattle.desk_shops.specs.Calls.{IsLeftAlone, Opens, Replies, StandsAfterPush, StandsAfterSettling};
 ghost use Rattle.desk_shops.specs.Desks.{done_reply};
 ghost use Rattle.desk_shops.specs.Standing.{IsVerdictOf, Stands};
 
+use crate::{TextFault, stream_text};
 use desk_core::DeskState;
-use desk_lock::Chronicle;
-use desk_log::Settled;
-use desk_steps::Reply;
+use desk_turns::{Chronicle, Settled};
 use git_object::{ObjectId, RefName};
 use keeper_api::Keeper;
 use octets::Octets;
-use pushes::Push;
+use pushes::{Push, Reply};
 use rsl_chain::LogFault;
 use std::alloc::Global;
-use stream_texts::{TextFault, stream_text};
 use verify_ref::RefVerdict;
 
 /// A store, and the state of a desk beside it: its log, an entry in doubt, and an engine that lags behind the log.
@@ -40,7 +38,7 @@ pub struct Shop<R> {
 }
 
 impl<R: Keeper> Chronicle for Shop<R> {
-    ghost use Rattle.desk_histories.specs.Legal.{IsLegal};
+    ghost use Rattle.desk_turns.specs.Legal.{IsLegal};
     ghost use Rattle.desk_shops.specs.Standing.{Stands};
 
     ghost is_legal = { IsLegal };

@@ -16,8 +16,8 @@ use std::cell::Cell;
 const MANY: usize = 64;
 
 /// What is known of which of many paths is the first that signers do not meet; None where nothing is. Each row is so of
-/// its rules, signers and paths wherever they stand, as those of `KnownSigners` are. It is lent by `&`, and learns while
-/// it is asked. It is a cell and no struct of cells, since no crate far above could prove how that is dropped.
+/// its rules, signers and paths wherever they stand, as those of `KnownSigners` are. It is lent by `&`, and learns
+/// while it is asked. It is a cell and no struct of cells, since no crate far above could prove how that is dropped.
 pub type KnownPaths = Cell<Option<UnmetRows>>;
 
 /// The first of the paths that the signers do not meet. Where there are 64 and more, and the same were asked of before

@@ -14,9 +14,9 @@ use Rattle.lms_keys.specs.Secret as one
 use Rattle.lms_keys.specs.Signature.{leaf_in}
 use Rattle.lms_keys.specs.declared.lms_type.LmsType.{LmsType}
 use Rattle.lms_keys.specs.declared.lms_type.LmsType.TheVariants.{H5, H10, H15, H20, H25}
-use Rattle.hss_keys.specs.Secret.{bottom_of, bytes_of, height_below, leaves_by, link_by, link_len, public_by, signature_by}
-use Rattle.hss_keys.specs.declared.below.Below.{Below}
-use Rattle.hss_keys.proofs.Sizes.{above_low, link_long}
+use Rattle.lms_keys.specs.HssSecret.{bottom_of, bytes_of, height_below, leaves_by, link_by, link_len, public_by, signature_by}
+use Rattle.lms_keys.specs.declared.below.Below.{Below}
+use Rattle.lms_keys.proofs.Sizes.{above_low, link_long}
 use Rattle.leaf_journal.specs.KeyFile.{start_of}
 use Rattle.leaf_journal.specs.Runs.{IsAmong, NoneTwice, released_in}
 use Rattle.leaf_journal.proofs.Once.{once}

@@ -8,8 +8,8 @@ use Rattle.lms_keys.specs.PublicKey.{number_in}
 use Rattle.lms_keys.specs.Secret as one
 use Rattle.lms_keys.specs.Signature.{leaf_in}
 use Rattle.lms_keys.proofs.Levels.{spelled-number}
-use Rattle.hss_keys.specs.Secret.{bytes_of, link_by}
-use Rattle.hss_keys.proofs.Sizes.{bytes_long, signature_long}
+use Rattle.lms_keys.specs.HssSecret.{bytes_of, link_by}
+use Rattle.lms_keys.proofs.Sizes.{bytes_long, signature_long}
 use Rattle.evidence.specs.Uses.{Use, len_by, next_key, uses, uses_from}
 use Rattle.evidence.proofs.KeyLengths.{four_long, key_len}
 

@@ -2,8 +2,8 @@
 use Rattle.std.specs.Prelude.{◌≡◌, ◌≢◌, ◌<◌, ◌^◌, ℕ, List, slice_get, Option, Some, None}
 use Rattle.lms_keys.specs.LmsType.{height}
 use Rattle.lms_keys.specs.Secret as one
-use Rattle.hss_keys.specs.Secret.{Secret, bottom_of, bytes_of, height_of, public_bytes}
-use Rattle.hss_keys.specs.declared.below.Below.{Below}
+use Rattle.lms_keys.specs.HssSecret.{Secret, bottom_of, bytes_of, height_of, public_bytes}
+use Rattle.lms_keys.specs.declared.below.Below.{Below}
 use Rattle.leaf_journal.specs.KeyFile.{IsKeyFile}
 use Rattle.leaf_journal.specs.Runs.{Event, IsKeyRun, released_in}
 use Rattle.leaf_journal.specs.Signing.{Signs}

@@ -65,8 +65,8 @@ impl Object {
         Object::of(alloc, id, kind, Body::own(body))
     }
 
-    /// An object of this kind, whose body is the part of a text from a byte up to another, under the id that it has, which is
-    /// not computed again. The body is not copied: the text stays as long as the object or a copy of it.
+    /// An object of this kind, whose body is the part of a text from a byte up to another, under the id that it has,
+    /// which is not computed again. The body is not copied: the text stays as long as the object or a copy of it.
     pub fn shared(
         alloc: Global,
         id: ObjectId,

@@ -13,15 +13,14 @@ use crate::needs::{Needs, needs_of};
 use crate::serving::desk_of;
 use command_words::{FrontWords, KeyPlace, after_places};
 use edge_io::{Failed, FileDisk, MemDisk, OsClock, OsEntropy, StdSink, StdSource};
-use either_kind::EitherDisk;
-use endings::{Part, Refusal};
 use gittuf_cli::{Outside, run};
+use keeper_layers::EitherDisk;
 use links::TcpPeer;
 use octets::Octets;
 use program_desk::{say_end, serve_asked};
-use program_start::words_of;
-use program_stores::{AnyKeeper, end_store, open_store};
+use program_stores::{AnyKeeper, end_store, open_store, words_of};
 use std::process::ExitCode;
+use worlds::{Part, Refusal};
 
 // What a key file in memory has room for: the bytes of the largest key file and of its marks, and the calls of a
 // command.
@@ -34,7 +33,7 @@ type AnyDisk = EitherDisk<FileDisk, MemDisk>;
 
 // Says a refusal, and answers its status.
 fn refuse(rt: &HostRuntime, refusal: Refusal) -> u8 {
-    program_start::refuse(rt.stderr(), &refusal)
+    program_stores::refuse(rt.stderr(), &refusal)
 }
 
 // The key file at a path.
@@ -60,8 +59,8 @@ fn open_key(rt: &HostRuntime, key: KeyPlace, needs: &Needs) -> Result<AnyDisk, R
     }
 }
 
-// Runs the command of the words over a store, a key file, the standard streams and the programs at ports of this machine,
-// and gives the store back.
+// Runs the command of the words over a store, a key file, the standard streams and the programs at ports of this
+// machine, and gives the store back.
 fn run_over(
     rt: &HostRuntime,
     command: &[String],
@@ -108,8 +107,8 @@ fn start(rt: &HostRuntime, places: FrontWords) -> Result<(u8, AnyKeeper), u8> {
     }
 }
 
-// The handles for threads, and for a port that is listened at, are those of this function alone, and so a desk is served
-// here.
+// The handles for threads, and for a port that is listened at, are those of this function alone, and so a desk is
+// served here.
 fn main(rt: HostRuntime) -> ExitCode {
     let words = match words_of(&rt) {
         Ok(words) => words,

@@ -1,8 +1,8 @@
 //! What a command needs of the real objects.
 
 use command_words::{Command, Height, WordsFault, read_command};
-use endings::Refusal;
 use std::alloc::Global;
+use worlds::Refusal;
 
 /// What a command needs of the real objects.
 #[derive(Clone, Copy, Debug)]

@@ -4,7 +4,7 @@ ghost use Rattle.std.specs.Prelude.{IfOk, IfSome};
 ghost use Rattle.program_desk.specs.Numbers.{AreWithin};
 
 use program_desk::{ServeWords, serve_words};
-use program_start::refuse;
+use program_stores::refuse;
 
 /// The numbers of the desk that the words ask for, and none where they ask for none; else the program's status. It is
 /// asked before the command runs: so nothing was done, and nothing printed, where memory is wanting for it.

@@ -8,12 +8,12 @@ use Rattle.clone_stream.specs.Taking.{TakesInto}
 use Rattle.command_words.specs.Laws.{OneCommand}
 use Rattle.command_words.specs.declared.commands.Command.{Command}
 use Rattle.command_words.specs.declared.commands.Command.TheVariants.{VerifyRef}
-use Rattle.endings.specs.Counts.{Faults, IsCounted}
-use Rattle.endings.specs.Endings.{status_of}
-use Rattle.endings.specs.declared.ending.Ending.{Ending}
-use Rattle.endings.specs.declared.ending.Ending.TheVariants.{Refused}
-use Rattle.endings.specs.declared.ending.Part.TheVariants as part
-use Rattle.endings.specs.declared.ending.Refusal.TheVariants as refusal
+use Rattle.worlds.specs.Counts.{Faults, IsCounted}
+use Rattle.worlds.specs.Endings.{status_of}
+use Rattle.worlds.specs.declared.ending.Ending.{Ending}
+use Rattle.worlds.specs.declared.ending.Ending.TheVariants.{Refused}
+use Rattle.worlds.specs.declared.ending.Part.TheVariants as part
+use Rattle.worlds.specs.declared.ending.Refusal.TheVariants as refusal
 use Rattle.judging.specs.declared.verdicts.Verdict.TheVariants.{Accepted, TipDiffers, Violation}
 use Rattle.commands_stream.proofs.ToldStream.{told_declined, told_opened}
 use Rattle.commands_stream.specs.Contents.{IsOpened}

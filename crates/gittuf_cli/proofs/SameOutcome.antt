@@ -3,19 +3,19 @@ use Rattle.std.proofs.Common.{◌≡◌, inl, inr, sym, ◌∙◌, subst}
 use Rattle.command_words.specs.Laws.{OneCommand}
 use Rattle.command_words.specs.declared.commands.Command.{Command}
 use Rattle.command_words.specs.declared.commands.Command.TheVariants as command
-use Rattle.endings.proofs.Lifted.{one_ending}
-use Rattle.endings.specs.declared.ending.Ending.{Ending}
+use Rattle.worlds.proofs.Lifted.{one_ending}
+use Rattle.worlds.specs.declared.ending.Ending.{Ending}
 use Rattle.commands_approve.specs.Outcomes.{ApproveComes, OneOfApprovals, approve_ending}
 use Rattle.demo.specs.Contents.{DemoComes}
 use Rattle.demo.specs.Demos.{demo_ending}
 use Rattle.demo.specs.Laws.{OneOfDemo}
 use Rattle.commands_desk.specs.Laws.{OneOfServe, ServeComes}
 use Rattle.commands_desk.specs.Readying.{serve_ending}
-use Rattle.commands_push.specs.Contents.{OneOfPush, PushComes}
-use Rattle.commands_push.specs.Faults.{push_ending}
-use Rattle.commands_global.specs.Contents.{GlobalComes}
-use Rattle.commands_global.specs.Laws.{OneOfGlobal}
-use Rattle.commands_global.specs.Verifying.{global_ending}
+use Rattle.commands_desk.specs.Contents.{OneOfPush, PushComes}
+use Rattle.commands_desk.specs.Faults.{push_ending}
+use Rattle.commands_verify.specs.GlobalContents.{GlobalComes}
+use Rattle.commands_verify.specs.GlobalLaws.{OneOfGlobal}
+use Rattle.commands_verify.specs.GlobalVerifying.{global_ending}
 use Rattle.commands_log.specs.Laws.{LogComes, OneOfHistory}
 use Rattle.commands_log.specs.Logging.{log_ending}
 use Rattle.commands_keys.specs.Contents.{KeyGenComes, SealComes}

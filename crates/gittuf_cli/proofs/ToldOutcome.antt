@@ -2,17 +2,17 @@
 use Rattle.std.proofs.Common.{inl, inr, sym, subst}
 use Rattle.command_words.specs.declared.commands.Command.{Command}
 use Rattle.command_words.specs.declared.commands.Command.TheVariants as command
-use Rattle.endings.specs.Endings.{IsStopped}
+use Rattle.worlds.specs.Endings.{IsStopped}
 use Rattle.worlds.specs.Telling.{TellsEnding}
 use Rattle.worlds.specs.Worlds.{Types, Ways}
 use Rattle.commands_approve.specs.Runs as approving
 use Rattle.commands_desk.specs.Runs as desks
-use Rattle.commands_global.specs.Runs as globals
+use Rattle.commands_verify.specs.GlobalRuns as globals
 use Rattle.commands_keys.specs.Runs as keys
 use Rattle.commands_log.specs.Runs as log
 use Rattle.commands_mirror.specs.Runs as mirroring
 use Rattle.commands_policy.specs.Runs as policy
-use Rattle.commands_push.specs.Runs as pushing
+use Rattle.commands_desk.specs.PushRuns as pushing
 use Rattle.commands_snapshot.specs.Runs as trees
 use Rattle.commands_stream.specs.Runs as stream
 use Rattle.commands_verify.specs.Runs as verifying

@@ -3,20 +3,20 @@ use Rattle.std.specs.Prelude.{◌≡◌, ◌⊎◌, ℕ, List}
 use Rattle.command_words.specs.FirstWords.{IsCommand, IsNoCommand}
 use Rattle.command_words.specs.declared.commands.Command.{Command}
 use Rattle.command_words.specs.declared.commands.Command.TheVariants as command
-use Rattle.endings.specs.Endings.{IsStopped}
-use Rattle.endings.specs.declared.ending.Ending.{Ending}
-use Rattle.endings.specs.declared.ending.Ending.TheVariants.{Refused}
-use Rattle.endings.specs.declared.ending.Refusal.TheVariants as refusal
+use Rattle.worlds.specs.Endings.{IsStopped}
+use Rattle.worlds.specs.declared.ending.Ending.{Ending}
+use Rattle.worlds.specs.declared.ending.Ending.TheVariants.{Refused}
+use Rattle.worlds.specs.declared.ending.Refusal.TheVariants as refusal
 use Rattle.worlds.specs.Telling.{Content, Tells}
 use Rattle.worlds.specs.Worlds.{Types, Ways, World}
 use Rattle.commands_approve.specs.Runs.{ApproveAnswers}
 use Rattle.commands_desk.specs.Runs.{ServeAnswers}
-use Rattle.commands_global.specs.Runs.{GlobalAnswered}
+use Rattle.commands_verify.specs.GlobalRuns.{GlobalAnswered}
 use Rattle.commands_keys.specs.Runs.{KeyGenAnswers, SealAnswers}
 use Rattle.commands_log.specs.Runs.{LogAnswers, RecordAnswers}
 use Rattle.commands_mirror.specs.Runs.{CheckAnswers, MakeAnswers, MirrorAnswers}
 use Rattle.commands_policy.specs.Runs.{ApplyAnswers, ExplainAnswers}
-use Rattle.commands_push.specs.Runs.{PushAnswers}
+use Rattle.commands_desk.specs.PushRuns.{PushAnswers}
 use Rattle.commands_snapshot.specs.Contents.{IsSettled}
 use Rattle.commands_snapshot.specs.Runs.{SnapshotAnswers}
 use Rattle.commands_stream.specs.Runs.{ExportAnswers, ImportAnswers}

@@ -5,10 +5,10 @@ use Rattle.git_object.specs.Repository.{Repository}
 use Rattle.rsl_chain.specs.Logs.{IsBreakOf}
 use Rattle.command_words.specs.FirstWords.{IsCommand}
 use Rattle.command_words.specs.declared.commands.Command.TheVariants.{VerifyRef}
-use Rattle.endings.specs.Breaks.{break_line}
-use Rattle.endings.specs.Counts.{Faults}
-use Rattle.endings.specs.Endings.{refusal_line, status_of}
-use Rattle.endings.specs.declared.ending.Refusal.TheVariants as refusal
+use Rattle.worlds.specs.Breaks.{break_line}
+use Rattle.worlds.specs.Counts.{Faults}
+use Rattle.worlds.specs.Endings.{refusal_line, status_of}
+use Rattle.worlds.specs.declared.ending.Refusal.TheVariants as refusal
 use Rattle.verify_ref.specs.Lines.{line}
 use Rattle.verify_ref.specs.Verdicts.{IsVerdict}
 use Rattle.worlds.specs.Telling.{Content, TellsSource, TellsStore}

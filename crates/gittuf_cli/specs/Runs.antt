@@ -5,21 +5,21 @@ use Rattle.octets.specs.Content.{GainsPart, with_end}
 use Rattle.command_words.specs.FirstWords.{AreNamed, IsCommand, IsNoCommand}
 use Rattle.command_words.specs.declared.commands.Command.{Command}
 use Rattle.command_words.specs.declared.commands.Command.TheVariants as command
-use Rattle.endings.specs.Endings.{refusal_line, status_of}
-use Rattle.endings.specs.declared.ending.Ending.{Ending}
-use Rattle.endings.specs.declared.ending.Ending.TheVariants.{Done, Differs, Broken, Refused}
-use Rattle.endings.specs.declared.ending.Refusal.TheVariants as refusal
+use Rattle.worlds.specs.Endings.{refusal_line, status_of}
+use Rattle.worlds.specs.declared.ending.Ending.{Ending}
+use Rattle.worlds.specs.declared.ending.Ending.TheVariants.{Done, Differs, Broken, Refused}
+use Rattle.worlds.specs.declared.ending.Refusal.TheVariants as refusal
 use Rattle.worlds.specs.Running.{CountsFaults}
 use Rattle.worlds.specs.Touching.{Touched, on_key, on_listing, on_log, on_new_key, on_peer, on_store, on_stream}
 use Rattle.worlds.specs.Worlds.{Types, Ways, World}
 use Rattle.commands_approve.specs.Runs.{ApproveRuns}
 use Rattle.commands_desk.specs.Runs.{ServeRuns}
-use Rattle.commands_global.specs.Runs.{GlobalRuns}
+use Rattle.commands_verify.specs.GlobalRuns.{GlobalRuns}
 use Rattle.commands_keys.specs.Runs.{KeyGenRuns, SealRuns}
 use Rattle.commands_log.specs.Runs.{AnnotateRuns, LogRuns, RecordRuns}
 use Rattle.commands_mirror.specs.Runs.{CheckRuns, MakeRuns, MirrorRuns, on_text}
 use Rattle.commands_policy.specs.Runs.{ApplyRuns, ExplainRuns}
-use Rattle.commands_push.specs.Runs.{PushRuns}
+use Rattle.commands_desk.specs.PushRuns.{PushRuns}
 use Rattle.commands_snapshot.specs.Runs.{SnapshotRuns}
 use Rattle.commands_stream.specs.Runs.{ExportRuns, ImportRuns}
 use Rattle.commands_verify.specs.Runs.{VerifyRuns}

@@ -10,11 +10,10 @@ ghost use Rattle.gittuf_cli.specs.KeyTypes.{below_of, lms_of, ots_of};
 
 use command_words::{Height, Width};
 use commands_keys::key_gen;
-use endings::Ending;
 use lmots::OtsType;
 use lms_keys::LmsType;
 use std::alloc::Global;
-use worlds::{Kinds, Lent, Objects, Of};
+use worlds::{Ending, Kinds, Lent, Objects, Of};
 
 // The type of a tree of this height.
 fn lms_of(levels: Height) -> LmsType

@@ -10,23 +10,20 @@ ghost use Rattle.gittuf_cli.specs.Runs.{Ends, EndsOf, Ran, Says};
 use crate::key_types::make_key;
 use command_words::{Command, WordsFault, read_command};
 use commands_approve::approve;
-use commands_desk::serve;
-use commands_global::verify_global;
+use commands_desk::{push, serve};
 use commands_keys::seal;
 use commands_log::{annotate, log, record};
 use commands_mirror::{evidence_check, evidence_make, mirror};
 use commands_policy::{explain, policy_apply};
-use commands_push::push;
 use commands_snapshot::snapshot;
 use commands_stream::{export, import};
-use commands_verify::verify_ref;
+use commands_verify::{verify_global, verify_ref};
 use demo::demo;
 use edge_io::{Clock, Disk, Entropy, Sink, Source, write_all};
-use endings::{Ending, Refusal};
 use keeper_api::Keeper;
 use links::Peer;
 use std::alloc::Global;
-use worlds::{Kinds, Lent, Objects, Of, Outside};
+use worlds::{Ending, Kinds, Lent, Objects, Of, Outside, Refusal};
 
 // Carries a command out, over no object but those that it needs.
 fn carry_out<W: Objects>(alloc: Global, command: &Command, outside: &mut Lent<W>) -> Ending
@@ -116,13 +113,13 @@ fn say<F: Sink>(ending: &Ending, faults_out: &mut F)
 
 /// Runs the command of the words over the objects outside, and answers the status of the program.
 ///
-/// 0 where the answer was given; 1 where the verdict is another than `accepted`, an entry breaks a global rule, a mirror
-/// was offered a shorter log or another past, or a dossier shows nothing; 2 where the words are outside the
+/// 0 where the answer was given; 1 where the verdict is another than `accepted`, an entry breaks a global rule, a
+/// mirror was offered a shorter log or another past, or a dossier shows nothing; 2 where the words are outside the
 /// grammar; 3 where the input, the log, a policy, an object or the key file is refused, or there is no room where a
 /// store or a key file is to be made; 4 exactly where an object outside but `faults_out` counted a fault, and then one
 /// of them counted one and the others none; 5 for want of memory, and only where the first word is the name of a
-/// command; 6 where each leaf of the key file is used; 7 where a desk does not take a push. At 0, 1 and 7 the sink gains
-/// the whole answer, and at 3 for a log that is broken the line that says so; at 2 to 7, but for such a log,
+/// command; 6 where each leaf of the key file is used; 7 where a desk does not take a push. At 0, 1 and 7 the sink
+/// gains the whole answer, and at 3 for a log that is broken the line that says so; at 2 to 7, but for such a log,
 /// `faults_out` gains the line of the refusal, or a front of it where it counted a fault, which changes neither status
 /// nor anything else. An object that a command does not use is unchanged.
 pub fn run<S: Source, K: Sink, F: Sink, R: Keeper, D: Disk, E: Entropy, C: Clock, P: Peer>(

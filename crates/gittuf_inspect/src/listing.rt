@@ -3,8 +3,8 @@
 use accounts::JudgedLog;
 use git_object::RefName;
 use keeper_api::{Keeper, KeeperFault};
-use log_names::LogNames;
 use octets::Memory;
+use policy_changes::LogNames;
 use std::alloc::Global;
 
 /// The most references of a store that are looked at.

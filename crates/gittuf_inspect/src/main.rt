@@ -15,14 +15,13 @@ use crate::running::inspect;
 use crate::words::{Asked, read_words};
 use command_words::{Store, WordsFault};
 use edge_io::StdSink;
-use endings::{Ending, Refusal};
-use program_start::words_of;
-use program_stores::{AnyKeeper, end_store, open_store};
+use program_stores::{AnyKeeper, end_store, open_store, words_of};
 use std::process::ExitCode;
+use worlds::{Ending, Refusal};
 
 // Says a refusal, and answers its status.
 fn refuse(rt: &HostRuntime, refusal: Refusal) -> u8 {
-    program_start::refuse(rt.stderr(), &refusal)
+    program_stores::refuse(rt.stderr(), &refusal)
 }
 
 // Tells what is asked for over a store and standard output.

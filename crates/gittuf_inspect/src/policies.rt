@@ -3,12 +3,12 @@
 use crate::running::{refused, sink_failed};
 use accounts::JudgedLog;
 use edge_io::{Failed, Sink, write_all};
-use endings::{Ending, Part, Refusal};
 use metadata_writing::{WriteFault, file_text, root_text};
 use octets::Octets;
 use policy_epochs::Policy;
 use rule_files::RuleFile;
 use std::alloc::Global;
+use worlds::{Ending, Part, Refusal};
 
 // How the program ends where a file is not written.
 fn unwritten(fault: WriteFault) -> Ending {

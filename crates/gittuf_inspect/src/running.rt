@@ -4,12 +4,12 @@ use crate::listing::all_names;
 use crate::policies::tell_policy;
 use crate::skipping::inspect_skips;
 use crate::words::{Asked, NamedKey};
+use account_lines::tell_used;
 use accounts::{
     JudgedLog, LaterLog, fault_line, judge_before, judge_from, judge_log, later_line, tell_verdict,
     tell_would,
 };
 use edge_io::{Failed, Sink, write_all};
-use endings::{Ending, Part, Refusal, print_break};
 use entry_rules::Fault;
 use git_object::{KeyId, RefName};
 use keeper_api::{Keeper, KeeperFault};
@@ -17,7 +17,7 @@ use octets::Memory;
 use root_metadata::{Key, KeyIds, key_id};
 use rsl_chain::LogFault;
 use std::alloc::Global;
-use used_leaves::tell_used;
+use worlds::{Ending, Part, Refusal, print_break};
 use would_be::Proposed;
 
 pub(crate) fn refused(refusal: Refusal) -> Ending {

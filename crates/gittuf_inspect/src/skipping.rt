@@ -3,11 +3,11 @@
 use crate::running::{sink_failed, stopped};
 use accounts::{JudgedLog, judge_log, tell_skip};
 use edge_io::{Failed, Sink, write_all};
-use endings::Ending;
 use git_object::{KeyId, ObjectId};
 use keeper_api::Keeper;
 use root_metadata::KeyIds;
 use std::alloc::Global;
+use worlds::Ending;
 
 // Tells of each of these entries whether the annotation would skip it, a line for each.
 fn tell_skips<K: Sink, R: Keeper>(

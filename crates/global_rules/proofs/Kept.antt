@@ -3,16 +3,16 @@ use Rattle.std.proofs.Common.{◌≡◌, ◌≤◌, ◌&&◌, ℕ, Bool, true, f
 use Rattle.std.specs.Prelude.{nat_lt}
 use Rattle.std.specs.List.{AllByRecursion}
 use Rattle.git_object.specs.Repository.{Repository}
-use Rattle.ancestry.specs.Targets.{IsDescentIn}
-use Rattle.ancestry.specs.declared.descents.Descent.{Descent}
-use Rattle.ancestry.specs.declared.descents.Descent.TheVariants as descent
+use Rattle.global_rules.specs.Targets.{IsDescentIn}
+use Rattle.global_rules.specs.declared.descents.Descent.{Descent}
+use Rattle.global_rules.specs.declared.descents.Descent.TheVariants as descent
 use Rattle.root_metadata.specs.Judged.{or_next}
 use Rattle.rule_files.specs.declared.rules.RuleFile.{RuleFile}
 use Rattle.rule_delegations.specs.Reached.{Name}
 use Rattle.entry_rules.specs.Meeting.{file_name, git_name}
-use Rattle.global_files.specs.declared.rules.GlobalKind.{GlobalKind}
-use Rattle.global_files.specs.declared.rules.GlobalKind.TheVariants.{NoRewind, Threshold}
-use Rattle.global_files.specs.declared.rules.GlobalRule.{GlobalRule}
+use Rattle.rule_files.specs.declared.global_rules.GlobalKind.{GlobalKind}
+use Rattle.rule_files.specs.declared.global_rules.GlobalKind.TheVariants.{NoRewind, Threshold}
+use Rattle.rule_files.specs.declared.global_rules.GlobalRule.{GlobalRule}
 use Rattle.global_rules.specs.Greatest.{greatest}
 use Rattle.global_rules.specs.Readings.{IsEnough, IsKept, IsKeptBy}
 use Rattle.global_rules.specs.Thresholds.{first_short, short_at, words_of}

@@ -15,17 +15,17 @@ use Rattle.tree_paths.specs.Repositories.{readings_of}
 use Rattle.tree_paths.specs.States.{Ended, PathValue, is_sound, root_of, walk_of}
 use Rattle.tree_paths.specs.declared.heads.Peeled.{Peeled}
 use Rattle.tree_paths.specs.declared.heads.Peeled.TheVariants.{At, Bad, Nothing}
-use Rattle.ancestry.specs.Commits.{commit_parents}
-use Rattle.ancestry.specs.Order.{Parents}
-use Rattle.ancestry.specs.Targets.{IsDescentOf}
-use Rattle.ancestry.specs.declared.descents.Descent.{Descent}
-use Rattle.ancestry.proofs.Order.{one}
+use Rattle.global_rules.specs.Commits.{commit_parents}
+use Rattle.global_rules.specs.Order.{Parents}
+use Rattle.global_rules.specs.Targets.{IsDescentOf}
+use Rattle.global_rules.specs.declared.descents.Descent.{Descent}
+use Rattle.global_rules.proofs.Order.{one}
 use Rattle.rule_files.specs.declared.rules.RuleFile.{RuleFile}
 use Rattle.rule_delegations.specs.Reached.{pattern_matches}
 use Rattle.entry_rules.specs.Meeting.{git_name}
-use Rattle.global_files.specs.declared.rules.GlobalKind.{GlobalKind}
-use Rattle.global_files.specs.declared.rules.GlobalKind.TheVariants.{NoRewind, Threshold}
-use Rattle.global_files.specs.declared.rules.GlobalRule.{GlobalRule}
+use Rattle.rule_files.specs.declared.global_rules.GlobalKind.{GlobalKind}
+use Rattle.rule_files.specs.declared.global_rules.GlobalKind.TheVariants.{NoRewind, Threshold}
+use Rattle.rule_files.specs.declared.global_rules.GlobalRule.{GlobalRule}
 use Rattle.global_rules.specs.Whys.{AreChangedPaths, IsFileWhy, IsFirstWhy, IsKindWhy, IsOrNext, IsRewindWhy, rewind_why}
 use Rattle.global_rules.specs.declared.found_files.FoundFile.{FoundFile}
 use Rattle.global_rules.specs.declared.found_files.FoundFile.TheVariants as found

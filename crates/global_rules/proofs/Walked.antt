@@ -3,7 +3,7 @@ use Rattle.std.proofs.Common.{◌≡◌, ◌<◌, ◌≤◌, ◌+◌, ℕ, List,
 use Rattle.std.proofs.Math.Seq.{drop-cons}
 use Rattle.std.proofs.lemmas.List.{drop_all}
 use Rattle.git_object.specs.Repository.{Repository}
-use Rattle.global_files.specs.declared.rules.GlobalRule.{GlobalRule}
+use Rattle.rule_files.specs.declared.global_rules.GlobalRule.{GlobalRule}
 use Rattle.rule_files.specs.declared.rules.RuleFile.{RuleFile}
 use Rattle.global_rules.specs.Whys.{IsFirstWhy, IsKindWhy}
 use Rattle.global_rules.specs.declared.whys.Change.{Change}

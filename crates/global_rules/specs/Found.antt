@@ -11,9 +11,9 @@ use Rattle.tree_paths.specs.Walks.{is_dir}
 use Rattle.approvals.specs.Lookups.{entry_in, file_bytes}
 use Rattle.approvals.specs.Signers.{env_signers}
 use Rattle.policy_reading.specs.Signed.{envelope_in, payload_type}
-use Rattle.global_files.specs.Files.{reading}
-use Rattle.global_files.specs.declared.faults.GlobalFault.{GlobalFault}
-use Rattle.global_files.specs.declared.rules.GlobalFile.{GlobalFile}
+use Rattle.rule_files.specs.GlobalFiles.{reading}
+use Rattle.rule_files.specs.declared.global_faults.GlobalFault.{GlobalFault}
+use Rattle.rule_files.specs.declared.global_rules.GlobalFile.{GlobalFile}
 use Rattle.global_rules.specs.declared.found_files.FoundFile.{FoundFile}
 use Rattle.global_rules.specs.declared.found_files.FoundFile.TheVariants.{Absent, Bad, There}
 

@@ -8,3 +8,10 @@ pub mod Thresholds
 pub mod Whys
 -- the same, read aloud
 pub mod Readings
+pub mod Order
+pub mod Descents
+-- the same of a repository, and of two targets
+pub mod Commits
+pub mod Targets
+-- the order of ancestors read aloud
+pub mod Reaching

@@ -2,14 +2,14 @@
 use Rattle.std.specs.Prelude.{◌≡◌, ◌≤◌, ℕ, true, List}
 use Rattle.std.specs.List.{AllByRecursion, list_any}
 use Rattle.git_object.specs.Repository.{Repository}
-use Rattle.ancestry.specs.Targets.{IsDescentIn}
-use Rattle.ancestry.specs.declared.descents.Descent.TheVariants.{Yes}
+use Rattle.global_rules.specs.Targets.{IsDescentIn}
+use Rattle.global_rules.specs.declared.descents.Descent.TheVariants.{Yes}
 use Rattle.rule_files.specs.declared.rules.RuleFile.{RuleFile}
 use Rattle.rule_delegations.specs.Reached.{Name, pattern_matches}
 use Rattle.entry_rules.specs.Meeting.{file_name, git_name}
-use Rattle.global_files.specs.declared.rules.GlobalKind.{GlobalKind}
-use Rattle.global_files.specs.declared.rules.GlobalKind.TheVariants.{NoRewind, Threshold}
-use Rattle.global_files.specs.declared.rules.GlobalRule.{GlobalRule}
+use Rattle.rule_files.specs.declared.global_rules.GlobalKind.{GlobalKind}
+use Rattle.rule_files.specs.declared.global_rules.GlobalKind.TheVariants.{NoRewind, Threshold}
+use Rattle.rule_files.specs.declared.global_rules.GlobalRule.{GlobalRule}
 use Rattle.global_rules.specs.Greatest.{greatest}
 use Rattle.global_rules.specs.declared.whys.Change.{Change}
 

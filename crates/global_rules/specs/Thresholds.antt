@@ -6,7 +6,7 @@ use Rattle.root_metadata.specs.Judged.{or_next}
 use Rattle.rule_files.specs.declared.rules.RuleFile.{RuleFile}
 use Rattle.rule_delegations.specs.Reached.{Name, pattern_matches}
 use Rattle.entry_rules.specs.Meeting.{file_name, git_name}
-use Rattle.global_files.specs.declared.rules.GlobalRule.{GlobalRule}
+use Rattle.rule_files.specs.declared.global_rules.GlobalRule.{GlobalRule}
 use Rattle.global_rules.specs.Greatest.{greatest}
 use Rattle.global_rules.specs.declared.whys.Change.{Change}
 use Rattle.global_rules.specs.declared.whys.GlobalWhy.{GlobalWhy}

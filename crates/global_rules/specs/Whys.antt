@@ -5,15 +5,15 @@ use Rattle.git_object.specs.Repository.{Repository}
 use Rattle.tree_paths.specs.Changes.{AreChanged}
 use Rattle.tree_paths.specs.Repositories.{readings_of}
 use Rattle.tree_paths.specs.States.{Ended, is_sound, map_at, walk_of}
-use Rattle.ancestry.specs.Targets.{IsDescentIn}
-use Rattle.ancestry.specs.declared.descents.Descent.{Descent}
-use Rattle.ancestry.specs.declared.descents.Descent.TheVariants as descent
+use Rattle.global_rules.specs.Targets.{IsDescentIn}
+use Rattle.global_rules.specs.declared.descents.Descent.{Descent}
+use Rattle.global_rules.specs.declared.descents.Descent.TheVariants as descent
 use Rattle.rule_files.specs.declared.rules.RuleFile.{RuleFile}
 use Rattle.rule_delegations.specs.Reached.{pattern_matches}
 use Rattle.entry_rules.specs.Meeting.{git_name}
-use Rattle.global_files.specs.declared.rules.GlobalKind.{GlobalKind}
-use Rattle.global_files.specs.declared.rules.GlobalKind.TheVariants as kind
-use Rattle.global_files.specs.declared.rules.GlobalRule.{GlobalRule}
+use Rattle.rule_files.specs.declared.global_rules.GlobalKind.{GlobalKind}
+use Rattle.rule_files.specs.declared.global_rules.GlobalKind.TheVariants as kind
+use Rattle.rule_files.specs.declared.global_rules.GlobalRule.{GlobalRule}
 use Rattle.global_rules.specs.Thresholds.{threshold_why}
 use Rattle.global_rules.specs.declared.found_files.FoundFile.{FoundFile}
 use Rattle.global_rules.specs.declared.found_files.FoundFile.TheVariants as found

@@ -11,10 +11,10 @@ use crate::changed_paths::changed_paths;
 use crate::rewinds::rewind_why;
 use crate::thresholds::threshold_why;
 use crate::{Change, FoundFile, GlobalWhy};
-use global_files::{GlobalKind, GlobalRule};
 use keeper_api::{Keeper, KeeperFault};
 use octets::Octets;
 use rule_delegations::Rules;
+use rule_files::{GlobalKind, GlobalRule};
 use std::alloc::Global;
 
 // Why a change breaks one rule.

@@ -16,10 +16,10 @@ ghost use Rattle.global_rules.specs.Found.{is_signed};
 use approvals::env_signers;
 use dsse_envelope::{Envelope, EnvelopeFault};
 use git_object::{Mode, ObjectId};
-use global_files::{GlobalFault, GlobalFile};
 use keeper_api::{Keeper, KeeperFault};
 use octets::Memory;
 use root_metadata::{Root, count_in};
+use rule_files::{GlobalFault, GlobalFile};
 use std::alloc::Global;
 use tree_paths::{Peeled, load_at, load_blob, root_of};
 

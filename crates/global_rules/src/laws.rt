@@ -3,7 +3,7 @@
 ghost use Rattle.std.specs.Prelude.{◌≡◌, ℕ, List, None, Option};
 ghost use Rattle.std.specs.List.{AllByRecursion};
 ghost use Rattle.git_object.specs.Repository.{Repository};
-ghost use Rattle.global_files.specs.declared.rules.GlobalRule.{GlobalRule};
+ghost use Rattle.rule_files.specs.declared.global_rules.GlobalRule.{GlobalRule};
 ghost use Rattle.rule_files.specs.declared.rules.RuleFile.{RuleFile};
 ghost use Rattle.rule_delegations.specs.Forests.{IsPolicy};
 ghost use Rattle.rule_delegations.specs.Reached.{Name};

@@ -8,12 +8,11 @@ ghost use Rattle.keeper_api.specs.Undisturbed.{Undisturbed};
 ghost use Rattle.global_rules.specs.Whys.{IsRewindWhy, rewind_why};
 
 use crate::thresholds::speak_of;
-use crate::{Change, GlobalWhy};
-use ancestry::{Descent, descends};
-use global_files::GlobalRule;
+use crate::{Change, Descent, GlobalWhy, descends};
 use keeper_api::{Keeper, KeeperFault};
 use octets::Memory;
 use ref_patterns::Space;
+use rule_files::GlobalRule;
 use std::alloc::Global;
 
 /// The most ancestors among which a commit is looked for.

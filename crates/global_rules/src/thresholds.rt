@@ -9,12 +9,11 @@ ghost use Rattle.global_rules.specs.Thresholds.{first_short, short_at, threshold
 
 use crate::greatest::greatest;
 use crate::{Change, GlobalWhy};
-use global_files::GlobalRule;
 use octets::{Memory, Octets};
 use ref_patterns::Space;
 use root_metadata::KeyIds;
 use rule_delegations::Rules;
-use rule_files::Patterns;
+use rule_files::{GlobalRule, Patterns};
 use std::alloc::Global;
 
 /// Whether one of the patterns speaks of a name.

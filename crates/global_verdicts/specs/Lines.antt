@@ -1,6 +1,6 @@
 -- The line that tells the verdict on a reference by global rules.
 use Rattle.std.specs.Prelude.{◌++◌, ℕ, List, codes, decimal}
-use Rattle.escaped_text.specs.Escaped.{escaped}
+use Rattle.octets.specs.Escaped.{escaped}
 use Rattle.global_rules.specs.declared.whys.GlobalWhy.{GlobalWhy}
 use Rattle.global_rules.specs.declared.whys.GlobalWhy.TheVariants.{BadFile, Rewound, Threshold, TooFar}
 use Rattle.global_verdicts.specs.declared.verdicts.GlobalVerdict.{GlobalVerdict}

@@ -6,11 +6,10 @@ ghost use Rattle.global_verdicts.specs.declared.verdicts.GlobalVerdict.TheVarian
 ghost use Rattle.global_verdicts.specs.Lines.{global_line, why_words};
 
 use crate::GlobalVerdict;
-use escaped_text::append_escaped;
 use git_object::RefName;
 use global_rules::GlobalWhy;
 use itoa::Buffer;
-use octets::{Memory, Octets};
+use octets::{Memory, Octets, append_escaped};
 use std::alloc::Global;
 
 fn append_number(text: &mut Octets, number: u64) -> Result<(), Memory>

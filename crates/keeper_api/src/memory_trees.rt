@@ -37,8 +37,8 @@ fn entries_of(alloc: Global, objects: &[Object]) -> Result<Vec<(ObjectId, Object
     Ok(entries)
 }
 
-// Keeps the objects at each second place under their own ids: from the first on, or from the second. Answers whether nothing
-// was kept there before, and stops where something was.
+// Keeps the objects at each second place under their own ids: from the first on, or from the second. Answers whether
+// nothing was kept there before, and stops where something was.
 fn keep_half(tree: &mut ObjectTree, objects: &[Object], first: bool) -> Result<bool, Memory>
     ensures { IfOk result (λ new. IsTrue new
         → (map_of tree.new ≡ with_objects (half first objects.now) (map_of tree.old))
@@ -70,8 +70,8 @@ fn tree_in_order(alloc: Global, objects: &[Object]) -> Result<ObjectTree, Memory
     Ok(tree)
 }
 
-// A tree of objects, each under its own id. Where ids rise, as in a stream, each second object goes first and leaves nodes half
-// full, which the others fill; in their order all would stay half full.
+// A tree of objects, each under its own id. Where ids rise, as in a stream, each second object goes first and leaves
+// nodes half full, which the others fill; in their order all would stay half full.
 fn tree_of(alloc: Global, objects: &[Object]) -> Result<ObjectTree, Memory>
     ensures { IfOk result (λ tree. map_of tree ≡ with_objects objects.now empty) }
 {
@@ -82,7 +82,8 @@ fn tree_of(alloc: Global, objects: &[Object]) -> Result<ObjectTree, Memory>
     tree_in_order(alloc, objects)
 }
 
-// Makes a change of two trees of which that of the objects is empty: it is made anew, so that nothing has to be taken back.
+// Makes a change of two trees of which that of the objects is empty: it is made anew, so that nothing has to be taken
+// back.
 fn fill(
     alloc: Global,
     objects: &mut ObjectTree,

@@ -28,8 +28,8 @@ const MOST_NOTED: usize = 4096;
 /// names are passed over. A file of another form is a fault, a link, a pipe or a device in a file's place too, and so
 /// is a change that sets a reference whose name is a folder.
 ///
-/// One call changes the folder at a time. While it may, it holds the file `open.lock` there; while a change is made, and
-/// where it was left half made, `commit.lock` stands beside it and says what is to change.
+/// One call changes the folder at a time. While it may, it holds the file `open.lock` there; while a change is made,
+/// and where it was left half made, `commit.lock` stands beside it and says what is to change.
 #[derive(Drop)]
 pub struct DirKeeper<R: Files = HostRuntime> {
     folder: Folder<R>,

@@ -11,7 +11,8 @@ use octets::{Copied, Items};
 use std::alloc::Global;
 use text_reader::{same_bytes, split_line, strip_front};
 
-/// What a change is to make: the objects that it keeps and that were not there, and the references that it sets or takes away.
+/// What a change is to make: the objects that it keeps and that were not there, and the references that it sets or
+/// takes away.
 #[derive(Drop)]
 pub struct Journal {
     pub objects: Items<ObjectId>,

@@ -1,7 +1,8 @@
 //! Which folders may be a store's.
 
 ghost use Rattle.std.specs.Prelude.{◌↔◌, ℕ, List, IsTrue};
-ghost use Rattle.keeper_directory.specs.Stores.{AreDots, HasBegun, IsDots, IsFree, IsListing, IsMark, IsOneOf, MayBeKept, MayBeMended};
+ghost use Rattle.keeper_directory.specs.Stores.{AreDots, HasBegun, IsDots, IsFree, IsListing, IsMark, IsOneOf};
+ghost use Rattle.keeper_directory.specs.Stores.{MayBeKept, MayBeMended};
 
 use text_reader::{same_bytes, split_at_zero};
 

@@ -1,12 +1,14 @@
 //! A database, taken as a store.
 
-ghost use Rattle.std.specs.Prelude.{◌≡◌, ◌≢◌, ◌≤◌, ℤ, true, false, pos, [], codes, Ok, Err, IfErr, IfOk, IsErrOf, IsTrue};
+ghost use Rattle.std.specs.Prelude.{◌≡◌, ◌≢◌, ◌≤◌, ℤ, true, false, pos, [], codes, Ok, Err, IfErr, IfOk, IsErrOf};
+ghost use Rattle.std.specs.Prelude.{IsTrue};
 ghost use Rattle.sqlite.specs.Held.{state};
 ghost use Rattle.sqlite.specs.Order.{column};
 ghost use Rattle.sqlite.specs.State.{HasCleanDisk, QueriesRow};
 ghost use Rattle.sqlite_trees.specs.View.{doubt};
 ghost use Rattle.sqlite_value.specs.declared.value.Value.TheVariants.{Int};
-ghost use Rattle.keeper_sqlite.specs.Adopting.{AreShapedTables, HasNumber, IsReliable, IsReopened, IsUnnumbered, TellsNumber};
+ghost use Rattle.keeper_sqlite.specs.Adopting.{AreShapedTables, HasNumber, IsReliable, IsReopened, IsUnnumbered};
+ghost use Rattle.keeper_sqlite.specs.Adopting.{TellsNumber};
 ghost use Rattle.keeper_sqlite.specs.States.{IsSame};
 ghost use Rattle.keeper_sqlite.specs.Tables.{store_schema};
 

@@ -6,7 +6,8 @@ ghost use Rattle.sqlite.specs.State.{HasCleanDisk, Survives};
 ghost use Rattle.keeper_api.specs.Changes.{changed};
 ghost use Rattle.keeper_sqlite.specs.Making.{GoesOn};
 ghost use Rattle.keeper_sqlite.specs.Rows.{kind_number, repository_in};
-ghost use Rattle.keeper_sqlite.specs.States.{Becomes, Inside, IsStore, with_all, with_change, with_changes, with_object};
+ghost use Rattle.keeper_sqlite.specs.States.{Becomes, Inside, IsStore, with_all, with_change, with_changes};
+ghost use Rattle.keeper_sqlite.specs.States.{with_object};
 
 use crate::refusals::{fault_of, is_alive};
 use crate::statements::{drop_ref_row, put_object_row, put_ref_row};

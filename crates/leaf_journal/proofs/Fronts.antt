@@ -12,8 +12,8 @@ use Rattle.lms_keys.specs.PublicKey.{number_in}
 use Rattle.lms_keys.specs.Secret as one
 use Rattle.lms_keys.specs.declared.lms_type.LmsType.{LmsType}
 use Rattle.lms_keys.specs.declared.lms_type.LmsType.TheVariants.{H5, H10, H15, H20, H25}
-use Rattle.hss_keys.specs.Secret.{Secret}
-use Rattle.hss_keys.specs.declared.below.Below.{Below}
+use Rattle.lms_keys.specs.HssSecret.{Secret}
+use Rattle.lms_keys.specs.declared.below.Below.{Below}
 use Rattle.leaf_journal.specs.KeyFile.{HasBelow, HasTop, IsHeader, IsKeyFile, magic_of, start_in, start_of}
 
 -- ---- the same bytes at the front

@@ -9,7 +9,7 @@ use Rattle.lms_keys.specs.LmsType as lms
 use Rattle.lms_keys.specs.LmsType.{height}
 use Rattle.lms_keys.specs.PublicKey.{number_in}
 use Rattle.lms_keys.specs.Secret as one
-use Rattle.hss_keys.specs.declared.below.Below.{Below}
+use Rattle.lms_keys.specs.declared.below.Below.{Below}
 use Rattle.std.specs.Prelude.{Bool, None, Some, false, true}
 use Rattle.leaf_journal.specs.Loading.{magic_for}
 use Rattle.leaf_journal.proofs.Fronts.{top_moves}

@@ -1,7 +1,7 @@
 -- What the marks of an open key say of its file.
 use Rattle.std.proofs.Common.{◌≡◌, ◌+◌, ◌^◌, ℕ, List, length, get_or, sym, ap, ◌∙◌, arith}
 use Rattle.std.proofs.lemmas.List.{get_or-drop, length-drop}
-use Rattle.hss_keys.specs.Secret.{height_of}
+use Rattle.lms_keys.specs.HssSecret.{height_of}
 use Rattle.leaf_journal.specs.KeyFile.{start_in, start_of}
 use Rattle.leaf_journal.proofs.Leaves.{byte_is}
 use Rattle.leaf_journal.specs.Loading.{WhyNotLoaded}

@@ -5,7 +5,7 @@ use Rattle.std.proofs.lemmas.Bool.{cases_eq, cases_lt}
 use Rattle.std.proofs.lemmas.List.{ext_get_or, get_or-drop, get_or-set_other, get_or-set_same, get_or-take, get_or_past, length-set, length-take-le}
 use Rattle.octets.specs.Content.{Told}
 use Rattle.edge_io.specs.Disk.{Only, Torn, Written}
-use Rattle.hss_keys.specs.Secret.{Secret, height_of}
+use Rattle.lms_keys.specs.HssSecret.{Secret, height_of}
 use Rattle.leaf_journal.specs.KeyFile.{IsHeader, IsKeyFile, IsUsedFrom, KeepsUsed, Used, UsedInAll, start_in, start_of}
 use Rattle.leaf_journal.specs.Runs.{Marks, Opens}
 use Rattle.leaf_journal.specs.Signing.{Covers, IsLeast, IsLoaded, IsMarked, IsTornImage, Signing, marking}

@@ -3,7 +3,7 @@ use Rattle.std.proofs.Common.{◌≡◌, ◌+◌, ◌^◌, ◌≤◌, ◌-◌, �
 use Rattle.std.specs.Prelude.{replicate}
 use Rattle.std.proofs.lemmas.Bool.{cases_lt}
 use Rattle.std.proofs.lemmas.List.{get_or-append_right, get_or-drop, get_or-replicate, get_or_past, length-append, length-drop, length-replicate, take_all, take_at}
-use Rattle.hss_keys.specs.Secret.{Secret, height_of}
+use Rattle.lms_keys.specs.HssSecret.{Secret, height_of}
 use Rattle.leaf_journal.specs.KeyFile.{IsHeader, IsNewKeyFile, start_of}
 use Rattle.leaf_journal.proofs.Fronts.{header_moves}
 

@@ -1,6 +1,6 @@
 -- One key file has one key, and each of its leaves is used or not.
 use Rattle.std.proofs.Common.{arith, ◌≡◌, ◌<◌, ◌≤◌, ◌+◌, ◌^◌, ℕ, List, length, inl, inr, ap, ◌∙◌, sym, subst, get_or}
-use Rattle.hss_keys.specs.Secret.{Secret, height_of}
+use Rattle.lms_keys.specs.HssSecret.{Secret, height_of}
 use Rattle.leaf_journal.specs.KeyFile.{IsKeyFile, start_of}
 use Rattle.leaf_journal.proofs.Fronts as fronts
 use Rattle.leaf_journal.proofs.Leaves.{byte_is}

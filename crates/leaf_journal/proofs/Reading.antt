@@ -4,8 +4,8 @@ use Rattle.std.specs.Prelude.{Option, None, Some, Result, Ok, Err, IfOk, codes}
 use Rattle.std.proofs.lemmas.List.{take_all, take_at}
 use Rattle.lms_keys.specs.LmsType.{height}
 use Rattle.lms_keys.specs.Secret as one
-use Rattle.hss_keys.specs.Secret.{height_below}
-use Rattle.hss_keys.specs.declared.below.Below.{Below}
+use Rattle.lms_keys.specs.HssSecret.{height_below}
+use Rattle.lms_keys.specs.declared.below.Below.{Below}
 use Rattle.leaf_journal.specs.KeyFile.{HasBelow, HasNoHeader, HasTop, IsHeader, magic_of, start_of}
 use Rattle.leaf_journal.specs.Loading.{Begins, magic_for, secret_with}
 use Rattle.leaf_journal.specs.declared.headers.Header.{Header}

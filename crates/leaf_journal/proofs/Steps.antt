@@ -5,7 +5,7 @@ use Rattle.octets.specs.Content.{Stays}
 use Rattle.edge_io.specs.Disk.{IsKept}
 use Rattle.edge_io.specs.Moments.{LeavesOnly}
 use Rattle.edge_io.specs.declared.disks.Disk as disk
-use Rattle.hss_keys.specs.Secret.{Secret}
+use Rattle.lms_keys.specs.HssSecret.{Secret}
 use Rattle.leaf_journal.proofs.Moving.{then, weaker}
 use Rattle.leaf_journal.specs.KeyFile.{KeepsUsed}
 use Rattle.leaf_journal.specs.Files.{IsUsedUp}

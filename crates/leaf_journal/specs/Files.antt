@@ -1,6 +1,6 @@
 -- What a key file is to one who signs with it.
 use Rattle.std.specs.Prelude.{◌≡◌, ◌<◌, ◌⊎◌, ◌+◌, ◌^◌, ℕ, List, length, slice_index}
-use Rattle.hss_keys.specs.Secret.{Secret, height_of}
+use Rattle.lms_keys.specs.HssSecret.{Secret, height_of}
 use Rattle.leaf_journal.specs.KeyFile.{HasNoHeader, HasOtherLength, IsKeyFile, Used, start_of}
 
 -- too short for a header, or without one, or of another length than its leaves need

@@ -6,8 +6,8 @@ use Rattle.lmots.specs.OtsType as one_time
 use Rattle.lms_keys.specs.LmsType.{code}
 use Rattle.lms_keys.specs.PublicKey.{number_in}
 use Rattle.lms_keys.specs.Secret as one
-use Rattle.hss_keys.specs.Secret.{Secret, height_of}
-use Rattle.hss_keys.specs.declared.below.Below.{Below}
+use Rattle.lms_keys.specs.HssSecret.{Secret, height_of}
+use Rattle.lms_keys.specs.declared.below.Below.{Below}
 
 -- ---- the header
 abbrev pub magic_of : Option Below → List ℕ

@@ -2,7 +2,7 @@
 use Rattle.std.specs.Prelude.{◌≡◌, ℕ, Bool, List, Some, Result, Ok, Err}
 use Rattle.edge_io.specs.Disk.{IsKept}
 use Rattle.edge_io.specs.declared.disks.Disk as disk
-use Rattle.hss_keys.specs.Secret.{Secret, public_bytes}
+use Rattle.lms_keys.specs.HssSecret.{Secret, public_bytes}
 use Rattle.leaf_journal.specs.Faults.{sign_failed}
 use Rattle.leaf_journal.specs.declared.faults.SignFault.TheVariants as sign
 use Rattle.leaf_journal.specs.Files.{IsUsedUp}

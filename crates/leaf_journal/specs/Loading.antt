@@ -1,6 +1,6 @@
 -- What a key file says of its key, and why a file is not loaded.
 use Rattle.std.specs.Prelude.{◌≡◌, ◌≤◌, ◌<◌, ◌⊎◌, ℕ, Bool, true, false, List, length, take, codes}
-use Rattle.hss_keys.specs.Secret.{Secret}
+use Rattle.lms_keys.specs.HssSecret.{Secret}
 use Rattle.leaf_journal.specs.KeyFile.{HasNoHeader, HasOtherLength}
 use Rattle.leaf_journal.specs.declared.faults.LoadFault.{LoadFault}
 use Rattle.leaf_journal.specs.declared.faults.LoadFault.TheVariants.{WrongLength, BadHeader, Disk, Memory}

@@ -3,7 +3,7 @@ use Rattle.std.specs.Prelude.{◌≡◌, ◌⊎◌, ◌+◌, ◌^◌, ℕ, List,
 use Rattle.octets.specs.Content.{Told}
 use Rattle.edge_io.specs.Disk.{Follows, IsKept, Torn}
 use Rattle.edge_io.specs.declared.disks.Disk as disk
-use Rattle.hss_keys.specs.Secret.{Secret, height_of}
+use Rattle.lms_keys.specs.HssSecret.{Secret, height_of}
 use Rattle.leaf_journal.specs.KeyFile.{start_of}
 
 -- how many bytes a key's file has

@@ -1,7 +1,7 @@
 -- A signer: its key and a mark for each leaf, and what it signs.
 use Rattle.std.specs.Prelude.{◌≡◌, ◌≢◌, ◌^◌, ◌<◌, ◌≤◌, ◌⊎◌, ℕ, List, length, drop, slice_index, slice_set}
 use Rattle.edge_io.specs.Disk.{Torn}
-use Rattle.hss_keys.specs.Secret.{HasLeaves, Secret, height_of, public_bytes, signature}
+use Rattle.lms_keys.specs.HssSecret.{HasLeaves, Secret, height_of, public_bytes, signature}
 use Rattle.lms_keys.specs.SigOk.{SigOk}
 use Rattle.leaf_journal.specs.KeyFile.{IsKeyFile, Used, start_of}
 

@@ -2,7 +2,7 @@
 use Rattle.std.specs.Prelude.{◌≡◌, ◌+◌, ℕ, List, [], ◌∷◌, Some, Result, Ok, Err}
 use Rattle.edge_io.specs.Disk.{Torn, Written}
 use Rattle.edge_io.specs.declared.disks.Disk as disk
-use Rattle.hss_keys.specs.Secret.{Secret}
+use Rattle.lms_keys.specs.HssSecret.{Secret}
 use Rattle.leaf_journal.specs.KeyFile.{UsedInAll, start_of}
 use Rattle.leaf_journal.specs.Signing.{Signs}
 use Rattle.leaf_journal.specs.declared.faults.SignFault.{SignFault}

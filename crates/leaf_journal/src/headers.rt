@@ -6,17 +6,16 @@ ghost use Rattle.lmots.specs.OtsType as one_time;
 ghost use Rattle.lms_keys.specs.LmsType.{code, height};
 ghost use Rattle.lms_keys.specs.PublicKey.{number_in};
 ghost use Rattle.lms_keys.specs.Secret as one;
-ghost use Rattle.hss_keys.specs.Secret.{height_below};
-ghost use Rattle.hss_keys.specs.declared.below.Below.{Below};
+ghost use Rattle.lms_keys.specs.HssSecret.{height_below};
+ghost use Rattle.lms_keys.specs.declared.below.Below.{Below};
 ghost use Rattle.leaf_journal.specs.KeyFile.{HasBelow, HasTop, IsHeader, IsKeyFile, magic_of, start_of};
 ghost use Rattle.leaf_journal.specs.Loading.{Begins, WhyNotLoaded, magic_for, secret_with};
 ghost use Rattle.leaf_journal.specs.declared.faults.LoadFault.TheVariants as fault;
 
 use crate::LoadFault;
-use hss_keys::Below;
 use lmots::OtsType;
 use lmots::pieces::{number_at, put};
-use lms_keys::LmsType;
+use lms_keys::{Below, LmsType};
 
 /// What a header says of the types of its key.
 #[derive(Clone, Copy, PartialEq, Eq)]

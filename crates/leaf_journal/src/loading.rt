@@ -5,7 +5,7 @@ ghost use Rattle.octets.specs.Causes.{HasCause};
 ghost use Rattle.edge_io.specs.Disk.{IsKept};
 ghost use Rattle.edge_io.specs.Moments.{LeavesOnly};
 ghost use Rattle.lms_keys.specs.LmsType.{height};
-ghost use Rattle.hss_keys.specs.Secret.{height_below};
+ghost use Rattle.lms_keys.specs.HssSecret.{height_below};
 ghost use Rattle.leaf_journal.specs.Faults.{load_failed};
 ghost use Rattle.leaf_journal.specs.KeyFile.{IsKeyFile};
 ghost use Rattle.leaf_journal.specs.Loading.{Begins, WhyNotLoaded, secret_with};
@@ -15,7 +15,7 @@ use crate::LoadFault;
 use crate::first_free::first_free;
 use crate::headers::{Header, read_header};
 use edge_io::Disk;
-use hss_keys::{Below, SigningKey};
+use lms_keys::{Below, SigningKey};
 use std::alloc::{AllocError, Global};
 
 // Reads the first bytes of a file of `len` bytes, at least 64: 72 of them, or 64 where it has no more.

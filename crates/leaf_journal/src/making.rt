@@ -7,8 +7,8 @@ ghost use Rattle.edge_io.specs.Disk.{IsKept, Written};
 ghost use Rattle.edge_io.specs.Moments.{LeavesOnly};
 ghost use Rattle.lms_keys.specs.LmsType.{height};
 ghost use Rattle.lms_keys.specs.Secret.{public_key_of};
-ghost use Rattle.hss_keys.specs.Secret.{height_below, public_bytes};
-ghost use Rattle.hss_keys.specs.declared.below.Below.{Below};
+ghost use Rattle.lms_keys.specs.HssSecret.{height_below, public_bytes};
+ghost use Rattle.lms_keys.specs.declared.below.Below.{Below};
 ghost use Rattle.leaf_journal.specs.Faults.{create_failed};
 ghost use Rattle.leaf_journal.specs.KeyFile.{IsNewKeyFile, KeepsUsed};
 ghost use Rattle.leaf_journal.specs.Loading.{secret_with};
@@ -18,9 +18,8 @@ ghost use Rattle.leaf_journal.specs.declared.faults.CreateFault.TheVariants as f
 use crate::CreateFault;
 use crate::headers::{Header, leaves_of, write_header};
 use edge_io::{Disk, Failed};
-use hss_keys::{Below, hss_public};
 use lmots::OtsType;
-use lms_keys::{LmsType, PublicKey, SecretKey};
+use lms_keys::{Below, LmsType, PublicKey, SecretKey, hss_public};
 use octets::Octets;
 use std::alloc::{AllocError, Global};
 

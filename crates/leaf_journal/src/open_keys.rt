@@ -7,7 +7,7 @@ ghost use Rattle.edge_io.specs.Moments.{LeavesOnly};
 ghost use Rattle.leaf_journal.specs.Faults.{sign_failed};
 ghost use Rattle.leaf_journal.specs.KeyFile.{KeepsUsed};
 ghost use Rattle.leaf_journal.specs.Signing.{IsLoaded};
-ghost use Rattle.hss_keys.specs.Secret.{public_bytes, signature_len};
+ghost use Rattle.lms_keys.specs.HssSecret.{public_bytes, signature_len};
 ghost use Rattle.leaf_journal.specs.Opening.{WhyUnopened, open_failed, opened_fault};
 ghost use Rattle.leaf_journal.specs.Using.{UseEnds};
 

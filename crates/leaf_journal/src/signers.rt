@@ -5,7 +5,7 @@ ghost use Rattle.octets.specs.Causes.{HasCause};
 ghost use Rattle.octets.specs.Content.{Told};
 ghost use Rattle.edge_io.specs.Disk.{IsKept, Torn, Written};
 ghost use Rattle.edge_io.specs.Moments.{LeavesOnly};
-ghost use Rattle.hss_keys.specs.Secret.{Secret, height_of, public_bytes, signature_len};
+ghost use Rattle.lms_keys.specs.HssSecret.{Secret, height_of, public_bytes, signature_len};
 ghost use Rattle.leaf_journal.specs.Faults.{load_failed, sign_failed};
 ghost use Rattle.leaf_journal.specs.KeyFile.{IsKeyFile, KeepsUsed, UsedInAll, start_of};
 ghost use Rattle.leaf_journal.specs.Loading.{WhyNotLoaded};
@@ -19,7 +19,7 @@ use crate::leaf_writes::write_leaf;
 use crate::loading::{make_key, read_head, read_marks};
 use crate::{LoadFault, SignFault};
 use edge_io::{Disk, Failed};
-use hss_keys::SigningKey;
+use lms_keys::SigningKey;
 use std::alloc::Global;
 use std::marker::Model;
 

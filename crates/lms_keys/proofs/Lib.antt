@@ -13,3 +13,5 @@ pub mod OneWay
 pub mod OneChain
 pub mod SameLeaf
 pub mod Earlier
+pub mod Both
+pub mod Sizes

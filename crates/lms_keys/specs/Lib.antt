@@ -9,3 +9,9 @@ pub mod Deciding
 -- What a secret key is and signs, and what two signatures with one leaf tell.
 pub mod Secret
 pub mod OneLeaf
+-- a key of one level or two, and what it signs
+pub mod HssSecret
+-- what a signing key keeps
+pub mod Keeping
+-- signatures below one leaf
+pub mod Laws

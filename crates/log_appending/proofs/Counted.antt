@@ -3,7 +3,7 @@ use Rattle.std.proofs.Common.{ℕ}
 use Rattle.std.specs.Prelude.{Result, Ok, Err}
 use Rattle.std.proofs.Math.Nat.{le_refl}
 use Rattle.octets.specs.Causes.{HasCause}
-use Rattle.endings.specs.Counts.{Faults, IsCounted, NoneFalls}
+use Rattle.worlds.specs.Counts.{Faults, IsCounted, NoneFalls}
 use Rattle.log_appending.specs.Outcomes.{record_ending}
 use Rattle.log_appending.specs.Recording.{clock_failed, disk_failed, keeper_failed, sink_failed}
 use Rattle.log_appending.specs.declared.appending.AppendFault.TheVariants as append

@@ -6,7 +6,7 @@ use Rattle.keeper_api.proofs.Coming.{as_before}
 use Rattle.keeper_api.specs.declared.keepers.Keeper as keeper
 use Rattle.edge_io.specs.declared.disks.Disk as disk
 use Rattle.rsl_chain.specs.declared.entries.EntryBody.{EntryBody}
-use Rattle.hss_keys.specs.Secret.{Secret}
+use Rattle.lms_keys.specs.HssSecret.{Secret}
 use Rattle.rsl_chain.specs.declared.drafts.Draft.{Draft}
 use Rattle.log_appending.proofs.Moved.{kept, kept_same, used_up}
 use Rattle.log_appending.specs.Appending.{AppendEnds, AppendsDraft, Drafts, RefusesDraft}

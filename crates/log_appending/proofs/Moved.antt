@@ -8,7 +8,7 @@ use Rattle.edge_io.specs.Disk.{IsKept}
 use Rattle.edge_io.specs.Moments.{LeavesOnly}
 use Rattle.edge_io.specs.declared.disks.Disk as disk
 use Rattle.rsl_chain.specs.declared.entries.EntryBody.{EntryBody}
-use Rattle.hss_keys.specs.Secret.{Secret}
+use Rattle.lms_keys.specs.HssSecret.{Secret}
 use Rattle.leaf_journal.proofs.Moving.{started, weaker}
 use Rattle.leaf_journal.specs.KeyFile.{KeepsUsed}
 use Rattle.leaf_journal.proofs.Steps.{signs_from, tears_from}

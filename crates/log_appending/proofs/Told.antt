@@ -9,7 +9,7 @@ use Rattle.edge_io.specs.Disk.{IsKept}
 use Rattle.edge_io.specs.declared.disks.Disk as disk
 use Rattle.rsl_chain.specs.declared.entries.EntryBody.{EntryBody}
 use Rattle.rsl_chain.specs.declared.entries.EntryBody.TheVariants.{Reference}
-use Rattle.hss_keys.specs.Secret.{Secret}
+use Rattle.lms_keys.specs.HssSecret.{Secret}
 use Rattle.rsl_chain.specs.Logs.{IsLogOf}
 use Rattle.log_appending.proofs.Moved.{append_from}
 use Rattle.log_appending.specs.Appending.{AppendEnds}

@@ -8,7 +8,7 @@ use Rattle.rsl_chain.specs.declared.entries.EntryBody.{EntryBody}
 use Rattle.leaf_journal.specs.KeyFile.{IsKeyFile}
 use Rattle.leaf_journal.specs.Files.{IsLeastUnused, IsNoKeyFile, IsUsedUp}
 use Rattle.rsl_chain.specs.Logs.{IsBreakOf, IsLogOf}
-use Rattle.endings.specs.Endings.{IsStopped}
+use Rattle.worlds.specs.Endings.{IsStopped}
 use Rattle.log_appending.specs.Outcomes.{RecordComes, TellsOfLog, record_ending}
 use Rattle.log_appending.specs.Recording.{AddsTold, Annotates, AnyNoted, Records, RecordsValue, Tries}
 use Rattle.log_appending.specs.declared.appending.AppendFault.{AppendFault}

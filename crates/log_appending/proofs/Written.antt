@@ -9,8 +9,8 @@ use Rattle.lmots.specs.Chain.{joined}
 use Rattle.lmots.specs.OneTime as one_time
 use Rattle.lms_keys.specs.LmsType.{code, height}
 use Rattle.lms_keys.specs.Secret as one
-use Rattle.hss_keys.specs.Secret.{Secret, bottom_of, bytes_of, signature_by}
-use Rattle.hss_keys.specs.declared.below.Below.{Below}
+use Rattle.lms_keys.specs.HssSecret.{Secret, bottom_of, bytes_of, signature_by}
+use Rattle.lms_keys.specs.declared.below.Below.{Below}
 use Rattle.leaf_journal.specs.Signing.{Signs}
 use Rattle.rsl_chain.specs.Chain.{IsHead, last_of}
 use Rattle.rsl_chain.specs.Drafts.{IsBody, IsDraft, IsReadWith, IsValid, signed_text_of}

@@ -5,7 +5,7 @@ use Rattle.keeper_api.specs.Undisturbed.{Undisturbed}
 use Rattle.keeper_api.specs.declared.keepers.Keeper as keeper
 use Rattle.edge_io.specs.declared.disks.Disk as disk
 use Rattle.rsl_chain.specs.declared.entries.EntryBody.{EntryBody}
-use Rattle.hss_keys.specs.Secret.{Secret}
+use Rattle.lms_keys.specs.HssSecret.{Secret}
 use Rattle.leaf_journal.specs.Files.{IsUsedUp}
 use Rattle.leaf_journal.specs.Using.{MayTear}
 use Rattle.rsl_chain.specs.declared.drafts.Draft.{Draft}

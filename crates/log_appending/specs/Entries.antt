@@ -7,7 +7,7 @@ use Rattle.git_object.specs.Objects.{object_id}
 use Rattle.git_object.specs.Repository.{Repository}
 use Rattle.git_object.specs.declared.kinds.Kind.TheVariants.{Commit}
 use Rattle.rsl_chain.specs.declared.entries.EntryBody.{EntryBody}
-use Rattle.hss_keys.specs.Secret.{Secret, public_bytes}
+use Rattle.lms_keys.specs.HssSecret.{Secret, public_bytes}
 use Rattle.rsl_chain.specs.Chain.{last_of}
 use Rattle.rsl_chain.specs.Drafts.{entry_of_draft, signed_text_of, unsigned_text}
 use Rattle.rsl_chain.specs.Reading.{entry_of}

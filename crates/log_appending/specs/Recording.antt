@@ -6,7 +6,7 @@ use Rattle.keeper_api.specs.declared.keepers.Keeper as keeper
 use Rattle.edge_io.specs.declared.disks.Disk as disk
 use Rattle.rsl_chain.specs.declared.entries.EntryBody.{EntryBody}
 use Rattle.rsl_chain.specs.declared.entries.EntryBody.TheVariants.{Annotation, Reference}
-use Rattle.hss_keys.specs.Secret.{Secret}
+use Rattle.lms_keys.specs.HssSecret.{Secret}
 use Rattle.rsl_chain.specs.Logs.{IsLogOf}
 use Rattle.log_appending.specs.Appending.{AppendEnds}
 use Rattle.log_appending.specs.Lines.{break_line, entry_line}

@@ -1,7 +1,7 @@
 -- What each outcome of signing a draft means, and of adding its entry to the log.
 use Rattle.std.specs.Prelude.{◌≡◌, ℕ, Bool, true, false, List, Result, Ok, Err}
 use Rattle.edge_io.specs.declared.disks.Disk as disk
-use Rattle.hss_keys.specs.Secret.{Secret}
+use Rattle.lms_keys.specs.HssSecret.{Secret}
 use Rattle.leaf_journal.specs.Using.{FindsNone, MayTear, SignsWith}
 use Rattle.rsl_chain.specs.declared.drafts.Draft.{Draft}
 use Rattle.log_appending.specs.Entries.{ReadsAs, draft_text, entry_text}

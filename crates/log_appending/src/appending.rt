@@ -5,7 +5,7 @@ ghost use Rattle.octets.specs.Causes.{HasCause};
 ghost use Rattle.edge_io.specs.Moments.{LeavesOnly};
 ghost use Rattle.leaf_journal.specs.KeyFile.{KeepsUsed};
 ghost use Rattle.leaf_journal.specs.Signing.{IsLoaded};
-ghost use Rattle.hss_keys.specs.Secret.{signature_len};
+ghost use Rattle.lms_keys.specs.HssSecret.{signature_len};
 ghost use Rattle.rsl_chain.specs.Drafts.{IsBody, IsDraft};
 ghost use Rattle.log_appending.specs.Appending.{AppendEnds, DraftEnds};
 ghost use Rattle.log_appending.specs.Signing.{clock_failed, commit_failed, disk_failed};

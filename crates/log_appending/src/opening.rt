@@ -6,7 +6,7 @@ ghost use Rattle.git_object.specs.Repository.{Repository};
 ghost use Rattle.keeper_api.specs.Undisturbed.{Undisturbed};
 ghost use Rattle.edge_io.specs.Disk.{IsKept};
 ghost use Rattle.edge_io.specs.Moments.{LeavesOnly};
-ghost use Rattle.hss_keys.specs.Secret.{signature_len};
+ghost use Rattle.lms_keys.specs.HssSecret.{signature_len};
 ghost use Rattle.leaf_journal.specs.Signing.{IsLoaded};
 ghost use Rattle.rsl_chain.specs.Logs.{IsLogOf};
 ghost use Rattle.log_appending.specs.Opening.{IsAnyLength, WhyUnread, log_fault, opened_fault, unread_disk};

@@ -4,7 +4,7 @@ ghost use Rattle.std.specs.Prelude.{◌≡◌};
 ghost use Rattle.log_appending.specs.Outcomes.{append_ending, reading_ending, record_ending};
 
 use crate::{AppendFault, ReadingFault, RecordFault};
-use endings::{Ending, Part, Refusal};
+use worlds::{Ending, Part, Refusal};
 
 fn failed(part: Part) -> Ending
     ensures { result ≡ Ending.Refused (Refusal.Fault part) }

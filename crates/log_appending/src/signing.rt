@@ -5,7 +5,7 @@ ghost use Rattle.octets.specs.Causes.{HasCause};
 ghost use Rattle.edge_io.specs.Moments.{LeavesOnly};
 ghost use Rattle.leaf_journal.specs.KeyFile.{KeepsUsed};
 ghost use Rattle.leaf_journal.specs.Signing.{IsLoaded};
-ghost use Rattle.hss_keys.specs.Secret.{signature_len};
+ghost use Rattle.lms_keys.specs.HssSecret.{signature_len};
 ghost use Rattle.rsl_chain.specs.Drafts.{IsDraft, IsValid};
 ghost use Rattle.log_appending.specs.Entries.{draft_text};
 ghost use Rattle.log_appending.specs.Signing.{SignEnds, disk_failed};

@@ -4,11 +4,14 @@
 
 #![tactic(auto)]
 
+mod escaping;
 mod failing_calls;
 mod item_list;
+pub mod laws;
 mod memory;
 mod octet_list;
 
+pub use escaping::{append_escaped, escaped_text};
 pub use failing_calls::FailingCalls;
 pub use item_list::{Copied, Items};
 pub use memory::Memory;

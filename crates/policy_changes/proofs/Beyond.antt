@@ -4,8 +4,8 @@ use Rattle.std.specs.List.{fold}
 use Rattle.std.specs.Str.{bytes_eq}
 use Rattle.std.proofs.lemmas.Bool.{cases_Bool}
 use Rattle.std.proofs.lemmas.Slice.Eq.{bytes_eq-Decides}
-use Rattle.log_names.specs.Names.{has_name, with_name}
-use Rattle.log_names.proofs.Naming.{with_has}
+use Rattle.policy_changes.specs.Names.{has_name, with_name}
+use Rattle.policy_changes.proofs.LogNaming.{with_has}
 use Rattle.policy_changes.specs.Changes.{with_beyond}
 use Rattle.policy_changes.specs.Laws.{ToldWhere}
 

@@ -1,1 +1,4 @@
 mod Beyond
+pub mod Naming
+pub mod LogNaming
+mod Tables

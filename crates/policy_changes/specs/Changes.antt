@@ -1,7 +1,7 @@
 -- What one policy says and another does not, and the other way round.
 use Rattle.std.specs.Prelude.{[], ℕ, List, if◌then◌else◌}
 use Rattle.std.specs.List.{fold}
-use Rattle.log_names.specs.Names.{has_name, with_name}
+use Rattle.policy_changes.specs.Names.{has_name, with_name}
 use Rattle.policy_epochs.specs.declared.policies.Policy.{Policy}
 use Rattle.policy_changes.specs.Words.{says_of}
 use Rattle.policy_changes.specs.declared.changes.Difference.{Difference}

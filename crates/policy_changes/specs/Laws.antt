@@ -1,6 +1,6 @@
 -- What holds of what is told to have changed.
 use Rattle.std.specs.Prelude.{◌≡◌, ◌&&◌, ℕ, List, not}
-use Rattle.log_names.specs.Names.{has_name}
+use Rattle.policy_changes.specs.Names.{has_name}
 use Rattle.policy_changes.specs.Changes.{beyond}
 
 -- a text is told exactly where it is said now and was not there

@@ -1,9 +1,10 @@
 -- What a policy says, a text for each thing: the ids of its keys, its persons with theirs, and for each role and rule
--- who is asked for what, and how many of them. A name and a pattern is its printable word, so that no space stands in it.
+-- who is asked for what, and how many of them. A name and a pattern is its printable word, so that no space stands
+-- in it.
 use Rattle.std.specs.Prelude.{◌++◌, ◌∷◌, [], ℕ, Bool, List, codes, decimal, map, if◌then◌else◌}
 use Rattle.std.specs.List.{flat_map, fold}
 use Rattle.hex.specs.Hex.{encode_lower}
-use Rattle.escaped_text.specs.Escaped.{escaped}
+use Rattle.octets.specs.Escaped.{escaped}
 use Rattle.ref_patterns.specs.Patterns.{Parts, prefix}
 use Rattle.root_metadata.specs.declared.keys.Key.{Key}
 use Rattle.root_metadata.specs.declared.persons.Person.{Person}

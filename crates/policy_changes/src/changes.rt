@@ -2,7 +2,7 @@
 
 ghost use Rattle.std.specs.Prelude.{◌≡◌, IfOk, OnOk};
 ghost use Rattle.std.specs.List.{fold};
-ghost use Rattle.log_names.specs.Names.{has_name, with_name};
+ghost use Rattle.policy_changes.specs.Names.{has_name, with_name};
 ghost use Rattle.policy_changes.specs.Changes.{beyond, change_said, difference_of, with_beyond};
 
 use crate::PolicySays;

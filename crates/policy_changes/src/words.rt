@@ -2,14 +2,13 @@
 
 ghost use Rattle.std.specs.Prelude.{◌≡◌, ◌++◌, ◌∷◌, IfOk, OnOk, map};
 ghost use Rattle.hex.specs.Hex.{encode_lower};
-ghost use Rattle.escaped_text.specs.Escaped.{escaped};
+ghost use Rattle.octets.specs.Escaped.{escaped};
 ghost use Rattle.policy_changes.specs.Words.{each_words, key_words, named_words, openness, pattern_words, person_words};
 ghost use Rattle.policy_changes.specs.Words.{role_threshold, role_words, rule_threshold, rule_words};
 
-use escaped_text::escaped_text;
 use git_object::KeyId;
 use itoa::Buffer;
-use octets::{Items, Memory, Octets};
+use octets::{Items, Memory, Octets, escaped_text};
 use ref_patterns::Pattern;
 use root_metadata::{Key, Person, Role};
 use rule_files::Rule;

@@ -1,6 +1,6 @@
 -- The faults of policies as verdicts tell them, each name as one printable word.
 use Rattle.std.specs.Prelude.{◌++◌, ℕ, List, codes, decimal}
-use Rattle.escaped_text.specs.Escaped.{escaped}
+use Rattle.octets.specs.Escaped.{escaped}
 use Rattle.rule_delegations.specs.declared.assembling.AssembleFault.{AssembleFault}
 use Rattle.rule_delegations.specs.declared.assembling.AssembleFault.TheVariants as why
 use Rattle.policy_epochs.specs.declared.faults.PolicyFault.{PolicyFault}

@@ -1,13 +1,12 @@
 //! The faults of policies as verdicts tell them.
 
 ghost use Rattle.std.specs.Prelude.{◌≡◌, ◌++◌, IfOk, OnOk, codes, decimal};
-ghost use Rattle.escaped_text.specs.Escaped.{escaped};
+ghost use Rattle.octets.specs.Escaped.{escaped};
 ghost use Rattle.policy_epochs.specs.Telling.{fault_text, forest_text};
 
 use crate::PolicyFault;
-use escaped_text::append_escaped;
 use itoa::Buffer;
-use octets::{Memory, Octets};
+use octets::{Memory, Octets, append_escaped};
 use rule_delegations::AssembleFault;
 use std::alloc::Global;
 

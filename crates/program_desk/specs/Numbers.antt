@@ -6,7 +6,8 @@ use Rattle.command_words.specs.declared.commands.Command.{Command}
 use Rattle.command_words.specs.declared.commands.Command.TheVariants.{VerifyRef, Export, Import, KeyGen, Log, Record}
 use Rattle.command_words.specs.declared.commands.Command.TheVariants.{Seal, Snapshot, PolicyApply, Explain, Annotate}
 use Rattle.command_words.specs.declared.commands.Command.TheVariants.{Approve, Demo, Mirror}
-use Rattle.command_words.specs.declared.commands.Command.TheVariants.{EvidenceMake, EvidenceCheck, Push, Serve, VerifyGlobal}
+use Rattle.command_words.specs.declared.commands.Command.TheVariants.{EvidenceMake, EvidenceCheck, Push, Serve}
+use Rattle.command_words.specs.declared.commands.Command.TheVariants.{VerifyGlobal}
 use Rattle.program_desk.specs.declared.words.ServeWords.{ServeWords}
 
 -- the numbers of the desk that a command asks for; none where it asks for no desk

@@ -1,9 +1,9 @@
 -- The statuses by which a desk's end is told.
 use Rattle.std.specs.Prelude.{ℕ, Result, Ok, Err}
-use Rattle.endings.specs.Endings.{refusal_status, status_of}
-use Rattle.endings.specs.declared.ending.Ending.TheVariants as ending
-use Rattle.endings.specs.declared.ending.Part.TheVariants as part
-use Rattle.endings.specs.declared.ending.Refusal.TheVariants as refusal
+use Rattle.worlds.specs.Endings.{refusal_status, status_of}
+use Rattle.worlds.specs.declared.ending.Ending.TheVariants as ending
+use Rattle.worlds.specs.declared.ending.Part.TheVariants as part
+use Rattle.worlds.specs.declared.ending.Refusal.TheVariants as refusal
 use Rattle.desk_http.specs.declared.faults.DeskFault.{DeskFault}
 use Rattle.desk_http.specs.declared.faults.DeskFault.TheVariants.{LogBroken, KeeperFailed, NoListener}
 use Rattle.desk_http.specs.declared.faults.DeskFault.TheVariants.{DoorFailed, Memory}

@@ -5,9 +5,9 @@ ghost use Rattle.program_desk.specs.Statuses.{end_status};
 
 use desk_http::DeskFault;
 use edge_io::StdSink;
-use endings::{Part, Refusal, print_break};
-use program_start::refuse;
+use program_stores::refuse;
 use std::io::Write;
+use worlds::{Part, Refusal, print_break};
 
 /// Says why a desk is not open or serves no more, where that can be written, and answers the program's status. The
 /// commit at which the log breaks is said on standard output, by the line of every command.

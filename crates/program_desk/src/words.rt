@@ -2,15 +2,15 @@
 
 ghost use Rattle.std.specs.Prelude.{◌≡◌, map, string_bytes, IfOk, IfErr, IfSome};
 ghost use Rattle.command_words.specs.FirstWords.{IsWithinLimits};
-ghost use Rattle.endings.specs.declared.ending.Refusal.TheVariants as refusal;
+ghost use Rattle.worlds.specs.declared.ending.Refusal.TheVariants as refusal;
 ghost use Rattle.program_desk.specs.Numbers.{numbers_of, AreOfWords, AreWithin};
 
 use command_words::{Command, WordsFault, read_command};
-use endings::Refusal;
 use std::alloc::Global;
+use worlds::Refusal;
 
-/// What a `serve` command asks for: the port, how many workers a desk has, how many connections each of them serves, and
-/// whether the desk is a gate.
+/// What a `serve` command asks for: the port, how many workers a desk has, how many connections each of them serves,
+/// and whether the desk is a gate.
 #[derive(Clone, Copy, Debug)]
 pub struct ServeWords {
     pub port: u16,
@@ -41,8 +41,8 @@ fn numbers_of(command: Command) -> Option<ServeWords>
     })
 }
 
-/// What the `serve` command that these words ask for has, each number within its limits; None where they ask for another
-/// command or for none. `Memory` alone is refused.
+/// What the `serve` command that these words ask for has, each number within its limits; None where they ask for
+/// another command or for none. `Memory` alone is refused.
 pub fn serve_words(alloc: Global, words: &[String]) -> Result<Option<ServeWords>, Refusal>
     ensures found { IfOk result (AreOfWords (map string_bytes words.now)) }
     ensures within { IfOk result (λ found. IfSome found AreWithin) }

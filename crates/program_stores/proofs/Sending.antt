@@ -3,8 +3,8 @@ use denote.Param.Send.{IsSend, AllSend, sendable, struct_send, recorded_send, pa
 use denote.Struct.Declared.{shape}
 use Rattle.std.specs.Prelude.{None, false, true}
 use Rattle.keeper_api.specs.declared.keepers.Keeper.{Ghosts}
-use Rattle.cached_keeper.proofs.cached.CachedKeeper.TheSendSync as cached
-use Rattle.either_kind.proofs.either_keeper.EitherKeeper.TheSendSync as either
+use Rattle.keeper_layers.proofs.cached.CachedKeeper.TheSendSync as cached
+use Rattle.keeper_layers.proofs.either_keeper.EitherKeeper.TheSendSync as either
 use Rattle.keeper_api.proofs.memory_keeper.MemKeeper.TheSendSync as memory
 use Rattle.keeper_directory.proofs.dir_keepers.DirKeeper.TheSendSync as folder
 use Rattle.keeper_sqlite.proofs.sql_keepers.SqlKeeper.TheSendSync as database

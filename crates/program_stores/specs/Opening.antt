@@ -2,11 +2,11 @@
 use Rattle.std.specs.Prelude.{◌≡◌, ◌⊎◌, ℕ}
 use Rattle.command_words.specs.declared.places.Store.{Store}
 use Rattle.command_words.specs.declared.places.Store.TheVariants as store
-use Rattle.either_kind.specs.declared.either_keeper.EitherKeeper.{EitherKeeper}
-use Rattle.either_kind.specs.declared.either_keeper.EitherKeeper.TheVariants.{First, Second}
-use Rattle.endings.specs.Endings.{refusal_status}
-use Rattle.endings.specs.declared.ending.Part.TheVariants as part
-use Rattle.endings.specs.declared.ending.Refusal.TheVariants as refusal
+use Rattle.keeper_layers.specs.declared.either_keeper.EitherKeeper.{EitherKeeper}
+use Rattle.keeper_layers.specs.declared.either_keeper.EitherKeeper.TheVariants.{First, Second}
+use Rattle.worlds.specs.Endings.{refusal_status}
+use Rattle.worlds.specs.declared.ending.Part.TheVariants as part
+use Rattle.worlds.specs.declared.ending.Refusal.TheVariants as refusal
 
 -- the store failed, or memory was wanting
 abbrev pub IsFaultStatus : ℕ → Type 0

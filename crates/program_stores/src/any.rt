@@ -4,14 +4,13 @@ ghost use Rattle.std.specs.Prelude.{None, false, true, refl};
 ghost use Rattle.std.proofs.lemmas.Bool.{false≢true};
 ghost use Rattle.std.proofs.Math.Nat.{le_refl};
 ghost use Rattle.keeper_api.specs.Keepers.{same_tells};
-ghost use Rattle.either_kind.specs.Keepers.{comes_of_itself, tells_of_kind};
+ghost use Rattle.keeper_layers.specs.Keepers.{comes_of_itself, tells_of_kind};
 ghost use Rattle.program_stores.specs.Telling.{tells_nothing};
 
-use cached_keeper::CachedKeeper;
-use either_kind::EitherKeeper;
 use git_object::{Object, ObjectId, RefName};
 use keeper_api::{Change, Keeper, KeeperFault, MemKeeper, RefValue};
 use keeper_directory::DirKeeper;
+use keeper_layers::{CachedKeeper, EitherKeeper};
 use keeper_sqlite::SqlKeeper;
 use sqlite::{File, FileStore};
 use std::alloc::Global;

@@ -1,4 +1,4 @@
-//! The store that the first word of a program's call names: how it is opened, and how its use ends.
+//! What programs share at their start: words, endings, and the kinds of stores that they work on.
 //!
 //! What it promises, and where to begin: `README.md` in this crate's folder.
 
@@ -6,6 +6,8 @@
 
 mod any;
 mod opening;
+mod starting;
 
 pub use any::AnyKeeper;
 pub use opening::{end_store, open_store};
+pub use starting::{refuse, refuse_schema, words_of};

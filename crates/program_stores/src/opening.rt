@@ -1,21 +1,20 @@
 //! The store that a word names: how it is opened, and how its use ends.
 
 ghost use Rattle.std.specs.Prelude.{◌≡◌, ◌⊎◌, ◌≤◌, IfErr, IfOk};
-ghost use Rattle.endings.specs.Endings.{refusal_status};
-ghost use Rattle.endings.specs.declared.ending.Part.TheVariants as part;
-ghost use Rattle.endings.specs.declared.ending.Refusal.TheVariants as refusal;
+ghost use Rattle.worlds.specs.Endings.{refusal_status};
+ghost use Rattle.worlds.specs.declared.ending.Part.TheVariants as part;
+ghost use Rattle.worlds.specs.declared.ending.Refusal.TheVariants as refusal;
 ghost use Rattle.program_stores.specs.Opening.{IsFaultStatus, IsOfKind, IsRefusal};
 
 use crate::any::{AnyKeeper, Folder};
-use cached_keeper::CachedKeeper;
+use crate::{refuse, refuse_schema};
 use command_words::Store;
-use either_kind::EitherKeeper;
-use endings::{Part, Refusal};
 use keeper_api::MemKeeper;
 use keeper_directory::{DirKeeper, OpenFault};
+use keeper_layers::{CachedKeeper, EitherKeeper};
 use keeper_sqlite::{SqlFault, SqlKeeper};
-use program_start::{refuse, refuse_schema};
 use sqlite::{File, FileStore};
+use worlds::{Part, Refusal};
 
 const FAULT: Refusal = Refusal::Fault { part: Part::Keeper };
 

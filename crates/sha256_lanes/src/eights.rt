@@ -1,6 +1,7 @@
 //! The digests of eight texts at once, each of its own length.
 
-ghost use Rattle.std.specs.Prelude.{◌≡◌, ◌≢◌, ℕ, ◌+◌, ◌<◌, ◌≤◌, List, [], ◌++◌, length, map, slice_index, slice_index_or};
+ghost use Rattle.std.specs.Prelude.{◌≡◌, ◌≢◌, ℕ, ◌+◌, ◌<◌, ◌≤◌, List, [], ◌++◌, length, map, slice_index};
+ghost use Rattle.std.specs.Prelude.{slice_index_or};
 ghost use Rattle.sha2.specs.Sha256.{compress, digest_bytes, sha256, word_at};
 ghost use Rattle.sha256_lanes.specs.Lanes.{AreLanes, AreLong, IsLanes, lane};
 ghost use Rattle.sha256_lanes.specs.Rounds.{HasWords};

@@ -32,8 +32,8 @@ fn text_of(
     Ok(text)
 }
 
-// The key that signs itself so often, and then the message: u32str of the number of signed keys, these, and a signature.
-// With none and one level it is the signature alone.
+// The key that signs itself so often, and then the message: u32str of the number of signed keys, these, and a
+// signature. With none and one level it is the signature alone.
 fn is_good_at(alloc: Global, secret: &SecretKey, levels: u8, links: u8) -> Result<bool, Fail> {
     if secret.leaves() < 2 {
         return Ok(false);

@@ -1,8 +1,7 @@
 use crate::rows::want;
 use crate::scenes::{I, MESSAGE, SEED};
-use hss_keys::{Below, SigningKey, hss_public};
 use lmots::OtsType;
-use lms_keys::{LmsType, SecretKey, verify_any};
+use lms_keys::{Below, LmsType, SecretKey, SigningKey, hss_public, verify_any};
 use sha2::{Digest, Sha256};
 use std::alloc::Global;
 use std::test::Fail;
@@ -186,7 +185,8 @@ fn composed(
     Ok(text)
 }
 
-// Signs below this leaf, with the last leaf of the key below the first one, and with the first of that below the second.
+// Signs below this leaf, with the last leaf of the key below the first one, and with the first of that below the
+// second.
 fn is_composed_as(alloc: Global, ots: OtsType, leaf: u32, digest: [u8; 32]) -> Result<bool, Fail> {
     let ((i, seed), q) = if leaf == 0 {
         (FIRST_DRAWN, 31)

@@ -8,8 +8,8 @@ use links::MemPeer;
 use octets::{Memory, Octets};
 use std::alloc::Global;
 
-// What a command may print in bytes, what it may say of a refusal, what it may write into the key file, in so many calls,
-// and what it may send.
+// What a command may print in bytes, what it may say of a refusal, what it may write into the key file, in so many
+// calls, and what it may send.
 const PRINTED: usize = 65_536;
 
 const SAID: usize = 200;

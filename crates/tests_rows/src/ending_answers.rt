@@ -1,9 +1,9 @@
 //! The status and the line of a refusal that no row comes to, as a text.
 
 use crate::lines::append_number;
-use endings::Refusal;
 use octets::{Memory, Octets};
 use std::alloc::Global;
+use worlds::Refusal;
 
 /// A refusal of which a row asks.
 #[derive(Clone, Copy, Drop)]

@@ -22,8 +22,8 @@ fn status_of(alloc: Global, words: &[String], outside: &mut InMemory) -> u8 {
     run(alloc, words, outside)
 }
 
-/// What is seen of a run, and what it leaves: the store, the bytes of the key file, and the port of the peer that it asked
-/// with what was sent there.
+/// What is seen of a run, and what it leaves: the store, the bytes of the key file, and the port of the peer that it
+/// asked with what was sent there.
 #[derive(Drop)]
 pub struct Left {
     pub seen: Seen,

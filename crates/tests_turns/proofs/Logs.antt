@@ -7,7 +7,7 @@ use Rattle.git_object.specs.Names.{log_name}
 use Rattle.git_object.specs.Repository.{Repository}
 use Rattle.keeper_api.specs.Changes.{changed}
 use Rattle.keeper_api.specs.declared.changes.Change.{Change}
-use Rattle.desk_lock.specs.Histories.{History, Member, with_member, count}
+use Rattle.desk_turns.specs.Histories.{History, Member, with_member, count}
 use Rattle.tests_turns.specs.Legal.{IsPut, last_from, faults_from, Steps, last_repository, last_faults, Legal, marks}
 use Rattle.tests_turns.specs.Shops.{logged, Stands, AddsOne}
 use Rattle.tests_turns.specs.declared.shops.Logged.{Logged}

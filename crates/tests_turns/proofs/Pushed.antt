@@ -6,9 +6,9 @@ use mathlib.Core.Logic.{dite}
 use native.Mathlib.Decide.{dec_le}
 use Rattle.octets.specs.Causes.{HasCause, one_more}
 use Rattle.git_object.specs.Repository.{Repository}
-use Rattle.desk_lock.specs.Histories.{History, Member, with_member, count, Begins, tagged}
-use Rattle.desk_lock.specs.Seats.{Sitting, mine, TakesTurn, LeavesWithOne, given_back}
-use Rattle.desk_lock.proofs.Lists.{tagged_own, begins_through}
+use Rattle.desk_turns.specs.Histories.{History, Member, with_member, count, Begins, tagged}
+use Rattle.desk_turns.specs.Seats.{Sitting, mine, TakesTurn, LeavesWithOne, given_back}
+use Rattle.desk_turns.proofs.Lists.{tagged_own, begins_through}
 use Rattle.tests_turns.specs.Legal.{Legal, marks}
 use Rattle.tests_turns.specs.Shops.{Stands, AddsOne, Answers, follows, refused_first, shop_failed, is_of_store}
 use Rattle.tests_turns.specs.Pushes.{OnlySees, IsDone, IsStale, IsPushed}

@@ -5,7 +5,7 @@ use Rattle.git_object.specs.Names.{log_name}
 use Rattle.git_object.specs.Repository.{Repository}
 use Rattle.keeper_api.specs.Changes.{changed}
 use Rattle.keeper_api.specs.declared.changes.Change.{Change}
-use Rattle.desk_lock.specs.Histories.{History, Member}
+use Rattle.desk_turns.specs.Histories.{History, Member}
 
 -- the second repository is the first after one change, which puts the log reference at the id
 pub record IsPut (id : List ℕ) (was now : Repository) : Type 0 where

@@ -1,8 +1,8 @@
 -- What a push, and a worker's many, do to the seat of their caller.
 use Rattle.std.specs.Prelude.{◌≡◌, ◌⊎◌, ◌<◌, ◌+◌, ◌-◌, ◌^◌, ℕ, true, false, List, [], ◌∷◌, ◌++◌, length}
 use Rattle.std.specs.Prelude.{Result, Err, IfOk, OnErr, IsErrOf, Option}
-use Rattle.desk_lock.specs.Histories.{Begins, count}
-use Rattle.desk_lock.specs.Seats.{Sitting, mine}
+use Rattle.desk_turns.specs.Histories.{Begins, count}
+use Rattle.desk_turns.specs.Seats.{Sitting, mine}
 use Rattle.tests_turns.specs.Legal.{Legal, marks}
 use Rattle.tests_turns.specs.Shops.{follows}
 use Rattle.tests_turns.specs.declared.shops.Refusal.{Refusal}

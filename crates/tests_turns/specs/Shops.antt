@@ -3,7 +3,7 @@ use Rattle.std.specs.Prelude.{◌≡◌, ◌≤◌, ◌<◌, ◌+◌, ◌==◌, 
 use Rattle.std.specs.Prelude.{Option, Some, None, Result, Ok, Err}
 use Rattle.octets.specs.Content.{Stays}
 use Rattle.git_object.specs.Repository.{Repository}
-use Rattle.desk_lock.specs.Histories.{History, Member, with_member, count}
+use Rattle.desk_turns.specs.Histories.{History, Member, with_member, count}
 use Rattle.tests_turns.specs.Legal.{Legal, last_repository, last_faults, marks}
 use Rattle.tests_turns.specs.declared.shops.Logged.{Logged}
 use Rattle.tests_turns.specs.declared.shops.Shop.{Shop}

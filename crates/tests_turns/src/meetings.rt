@@ -1,10 +1,10 @@
 // Two workers that meet: the one that comes first goes on only once the other one has its answer.
 
 ghost use Rattle.std.specs.Prelude.{All, IfOk};
-ghost use Rattle.desk_lock.specs.Seats.{IsIdle};
+ghost use Rattle.desk_turns.specs.Seats.{IsIdle};
 
 use crate::{Gate, Point, Refusal, Shop, Worker, serve_all, workers_of};
-use desk_lock::Turn;
+use desk_turns::Turn;
 use git_object::Memory;
 use keeper_api::MemKeeper;
 use std::alloc::Global;

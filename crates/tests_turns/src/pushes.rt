@@ -1,11 +1,11 @@
 //! A push, by any caller.
 
 ghost use Rattle.std.specs.Prelude.{ℕ, Option};
-ghost use Rattle.desk_lock.specs.Seats.{IsIdle};
+ghost use Rattle.desk_turns.specs.Seats.{IsIdle};
 ghost use Rattle.tests_turns.specs.Pushes.{IsPushed, OnlySees};
 
 use crate::shops::{Refusal, Shop};
-use desk_lock::{Seat, Turn};
+use desk_turns::{Seat, Turn};
 use git_object::ObjectId;
 use keeper_api::Keeper;
 use std::alloc::Global;

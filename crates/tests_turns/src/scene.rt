@@ -1,10 +1,10 @@
 // A turn over an empty shop, for the tests.
 
 ghost use Rattle.std.specs.Prelude.{◌<◌, All, IfOk};
-ghost use Rattle.desk_lock.specs.Seats.{IsIdle};
+ghost use Rattle.desk_turns.specs.Seats.{IsIdle};
 
 use crate::{Logged, Shop, Worker, id_at, last_of};
-use desk_lock::{Seat, Turn};
+use desk_turns::{Seat, Turn};
 use git_object::Memory;
 use keeper_api::MemKeeper;
 use std::alloc::Global;

@@ -1,10 +1,10 @@
 // Each call of a turn and of a seat.
 
-ghost use Rattle.desk_lock.specs.Seats.{IsIdle};
+ghost use Rattle.desk_turns.specs.Seats.{IsIdle};
 
 use crate::scene::{opened, two_seats};
 use crate::{Refusal, Shop, id_at, push};
-use desk_lock::{Seat, Turn};
+use desk_turns::{Seat, Turn};
 use git_object::Memory;
 use keeper_api::MemKeeper;
 use std::alloc::Global;

@@ -1,7 +1,7 @@
 // The shop as a state behind a turn.
 
 use crate::shops::Shop;
-use desk_lock::Chronicle;
+use desk_turns::Chronicle;
 use keeper_api::Keeper;
 
 impl<R: Keeper> Chronicle for Shop<R> {

@@ -3,7 +3,7 @@
 ghost use Rattle.std.specs.Prelude.{◌≡◌, IfOk, OnErr, Some, [], ◌∷◌, length};
 ghost use Rattle.git_object.specs.Names.{log_name};
 ghost use Rattle.octets.specs.Causes.{HasCause};
-ghost use Rattle.desk_lock.specs.Histories.{History, IsAtStart};
+ghost use Rattle.desk_turns.specs.Histories.{History, IsAtStart};
 ghost use Rattle.tests_turns.specs.Shops.{Stands, AddsOne, Answers, refused_first, shop_failed};
 
 use git_object::{Memory, ObjectId, Objects, RefName};

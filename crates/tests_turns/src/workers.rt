@@ -1,12 +1,12 @@
 //! Workers, each with a seat of its own.
 
 ghost use Rattle.std.specs.Prelude.{◌<◌, ℕ, length, slice_index_or, All, IfOk, IfSome};
-ghost use Rattle.desk_lock.specs.Seats.{TurnId, IsIdle};
+ghost use Rattle.desk_turns.specs.Seats.{TurnId, IsIdle};
 ghost use Rattle.tests_turns.specs.Pushes.{IsServed};
 
 use crate::pushes::push_as;
 use crate::shops::{Refusal, Shop};
-use desk_lock::{Seat, Turn};
+use desk_turns::{Seat, Turn};
 use git_object::{Kind, Memory, ObjectId, id_of};
 use keeper_api::Keeper;
 use std::alloc::Global;

@@ -1,7 +1,7 @@
 -- The line that tells the verdict on a reference.
 use Rattle.std.specs.Prelude.{◌++◌, ℕ, List, codes, decimal}
 use Rattle.hex.specs.Hex.{encode_lower}
-use Rattle.escaped_text.specs.Escaped.{escaped}
+use Rattle.octets.specs.Escaped.{escaped}
 use Rattle.judging.specs.declared.verdicts.Verdict.{Verdict}
 use Rattle.judging.specs.declared.verdicts.Verdict.TheVariants.{Accepted, TipDiffers, Violation}
 use Rattle.policy_epochs.specs.Telling.{fault_text}

@@ -40,8 +40,8 @@ pub(crate) fn comes_next(engine: &LogEngine, entry: &Entry) -> bool
     entry.number > len && entry.number - len == 1 && !engine.has(&entry.id)
 }
 
-// Learns the trees of where the reference of an entry stands, with which the entry's are compared then. Where the entry may
-// rescue others the two are compared twice, and nothing is learned for that.
+// Learns the trees of where the reference of an entry stands, with which the entry's are compared then. Where the entry
+// may rescue others the two are compared twice, and nothing is learned for that.
 fn learn_before<R: Keeper>(
     alloc: Global,
     keeper: &mut R,

@@ -5,11 +5,10 @@ ghost use Rattle.judging.specs.declared.verdicts.Verdict.TheVariants as verdict;
 ghost use Rattle.verify_ref.specs.Lines.{fault_words, line, rule_words};
 
 use entry_rules::Fault;
-use escaped_text::append_escaped;
 use git_object::{ObjectId, RefName};
 use itoa::Buffer;
 use judging::Verdict;
-use octets::{Memory, Octets};
+use octets::{Memory, Octets, append_escaped};
 use std::alloc::Global;
 
 fn append_number(text: &mut Octets, number: u64) -> Result<(), Memory>

@@ -1,1 +1,3 @@
 pub mod StillHeld
+pub mod Counting
+pub mod Lifted

@@ -8,3 +8,7 @@ pub mod Given
 pub mod Running
 -- what has to be told, and what is known then
 pub mod Telling
+pub mod Endings
+pub mod Counts
+-- the line that names the break of a log
+pub mod Breaks

@@ -2,8 +2,8 @@
 use Rattle.std.specs.Prelude.{ℕ, List}
 use Rattle.edge_io.specs.Moments.{LeavesOnly}
 use Rattle.leaf_journal.specs.KeyFile.{KeepsUsed}
-use Rattle.endings.specs.Counts.{Ended, IsCounted}
-use Rattle.endings.specs.declared.ending.Ending.{Ending}
+use Rattle.worlds.specs.Counts.{Ended, IsCounted}
+use Rattle.worlds.specs.declared.ending.Ending.{Ending}
 use Rattle.worlds.specs.Touching.{Touched, Touches}
 use Rattle.worlds.specs.Worlds.{Types, Ways, World, faults_of}
 

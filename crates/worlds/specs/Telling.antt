@@ -1,8 +1,8 @@
 -- What has to be told for what a command comes to to be known.
 use Rattle.std.specs.Prelude.{◌≡◌, ◌⊎◌, ℕ, Bool, true, false, List, Some}
 use Rattle.git_object.specs.Repository.{Repository}
-use Rattle.endings.specs.Endings.{IsStopped}
-use Rattle.endings.specs.declared.ending.Ending.{Ending}
+use Rattle.worlds.specs.Endings.{IsStopped}
+use Rattle.worlds.specs.declared.ending.Ending.{Ending}
 use Rattle.worlds.specs.Touching.{Touched}
 use Rattle.worlds.specs.Worlds.{Types, Ways, World}
 

@@ -6,7 +6,7 @@ use Rattle.edge_io.specs.declared.sinks.Sink as sink
 use Rattle.edge_io.specs.declared.sources.Source as source
 use Rattle.keeper_api.specs.declared.keepers.Keeper as keeper
 use Rattle.links.specs.declared.peers.Peer as peer
-use Rattle.endings.specs.Counts.{Faults}
+use Rattle.worlds.specs.Counts.{Faults}
 
 -- the types of the objects outside
 pub record Types : Type 1 where

@@ -2,8 +2,8 @@ use Rattle.std.proofs.Common.{◌++◌, ap, subst, sym, ◌∙◌}
 use Rattle.std.proofs.lemmas.Result.{on_ok_weaker}
 use Rattle.std.specs.Prelude.{Option, codes}
 use Rattle.serde_json.specs.Written.{compact_text, has_float}
-use Rattle.json_lines.specs.Writing.{Follows}
-use Rattle.json_lines.proofs.InParts.{followed}
+use Rattle.json_fields.specs.Writing.{Follows}
+use Rattle.json_fields.proofs.InParts.{followed}
 use Rattle.policy_changes.specs.declared.changes.PolicyChange.{PolicyChange}
 use Rattle.account_lines.specs.Lines.{change_data, changed_members}
 use Rattle.account_lines.proofs.Floatless.{change_floatless}

@@ -1,6 +1,6 @@
 use Rattle.std.proofs.lemmas.Result.{on_ok_weaker}
 use Rattle.std.specs.Prelude.{codes}
-use Rattle.json_lines.proofs.InParts.{followed}
+use Rattle.json_fields.proofs.InParts.{followed}
 use Rattle.account_lines.specs.Lines.{refusal_data}
 use Rattle.account_lines.proofs.entries.fault_field.Goals as goal
 

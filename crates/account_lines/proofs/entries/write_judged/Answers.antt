@@ -1,5 +1,5 @@
 use Rattle.std.proofs.lemmas.Result.{on_ok_weaker}
-use Rattle.json_lines.proofs.InParts.{opens_more}
+use Rattle.json_fields.proofs.InParts.{opens_more}
 use Rattle.account_lines.proofs.entries.write_judged.Goals as goal
 
 pub returns : goal.returns

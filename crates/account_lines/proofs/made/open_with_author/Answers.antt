@@ -1,6 +1,6 @@
 use Rattle.std.proofs.lemmas.Result.{on_ok_weaker}
 use Rattle.std.specs.Prelude.{codes}
-use Rattle.json_lines.proofs.InParts.{opened}
+use Rattle.json_fields.proofs.InParts.{opened}
 use Rattle.account_lines.specs.Lines.{author_data}
 use Rattle.account_lines.proofs.made.open_with_author.Goals as goal
 

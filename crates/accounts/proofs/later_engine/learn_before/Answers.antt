@@ -7,8 +7,8 @@ use Rattle.tree_paths.proofs.Existence.{are_readings}
 use Rattle.judging.specs.Logs.{from, prior_target}
 use Rattle.judging.specs.Reads.{may_rescue}
 use Rattle.verify_ref.specs.Reading.{learning_reads}
-use Rattle.later_rules.specs.LaterRules.{rules_from}
-use Rattle.later_rules.proofs.Later.{may_rescue_late}
+use Rattle.judged_logs.specs.LaterRules.{rules_from}
+use Rattle.judged_logs.proofs.Later.{may_rescue_late}
 use Rattle.accounts.proofs.later_engine.learn_before.Goals as goal
 
 pub returns-in-Some-clause-reads : goal.returns-in-Some-clause-reads

@@ -3,9 +3,9 @@ use Rattle.std.specs.List.{slice_get}
 use Rattle.std.proofs.lemmas.Option.{slice_get_read}
 use Rattle.entry_rules.specs.RealRules.{real_rules}
 use Rattle.account_lines.specs.declared.rows.EntryRow.{EntryRow}
-use Rattle.by_whom.specs.Firsts.{rescuer_of, skipper_of}
-use Rattle.later_rules.specs.LaterRules.{rules_from}
-use Rattle.later_rules.proofs.Later.{rescuer_late}
+use Rattle.judged_logs.specs.Firsts.{rescuer_of, skipper_of}
+use Rattle.judged_logs.specs.LaterRules.{rules_from}
+use Rattle.judged_logs.proofs.Later.{rescuer_late}
 use Rattle.accounts.proofs.Lines.{is_line, no_break}
 use Rattle.accounts.proofs.later_lines.later_line.Goals as goal
 

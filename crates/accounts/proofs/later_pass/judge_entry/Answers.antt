@@ -7,10 +7,10 @@ use Rattle.judging.specs.Logs.{policy_after, signers_of}
 use Rattle.judging.specs.Verdicts.{verdict_of}
 use Rattle.judging.proofs.Takes.{signers_push}
 use Rattle.judging.specs.declared.engine.Engine as judging
-use Rattle.signing_persons.specs.Persons.{persons_of}
-use Rattle.by_whom.specs.Keeping.{AreOpen}
-use Rattle.later_rules.specs.LaterRules.{rules_from}
-use Rattle.later_rules.proofs.Later.{late_signers, late_verdict}
+use Rattle.policy_changes.specs.Persons.{persons_of}
+use Rattle.judged_logs.specs.Keeping.{AreOpen}
+use Rattle.judged_logs.specs.LaterRules.{rules_from}
+use Rattle.judged_logs.proofs.Later.{late_signers, late_verdict}
 use Rattle.policy_epochs.specs.declared.policies.Policy.{Policy}
 use Rattle.entry_rules.specs.RealRules.{real_rules}
 use Rattle.entry_rules.specs.declared.faults.Fault.{Fault}

@@ -8,7 +8,7 @@ use Rattle.verify_ref.specs.Logs.{AreEntries}
 use Rattle.verify_ref.specs.Reading.{extending_reads}
 use Rattle.verify_ref.proofs.Growing.{reads_more}
 use Rattle.verify_ref.proofs.Walking.{unbroken}
-use Rattle.later_rules.specs.LaterRules.{rules_from}
+use Rattle.judged_logs.specs.LaterRules.{rules_from}
 use Rattle.accounts.specs.Later.{StandsFrom}
 use Rattle.accounts.proofs.Walked.{judged_next}
 use Rattle.accounts.proofs.later_pass.take_all.Goals as goal

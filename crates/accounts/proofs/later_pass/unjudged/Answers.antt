@@ -1,6 +1,6 @@
 use Rattle.std.proofs.Common.{None, refl}
 use Rattle.entry_rules.specs.RealRules.{real_rules}
-use Rattle.later_rules.specs.LaterRules.{rules_from}
+use Rattle.judged_logs.specs.LaterRules.{rules_from}
 use Rattle.accounts.proofs.LaterTaking.{stands_for_none}
 use Rattle.accounts.proofs.later_pass.unjudged.Goals as goal
 

@@ -2,8 +2,8 @@ use Rattle.std.proofs.Common.{◌∙◌, ℕ, List, Option, sym, subst}
 use Rattle.std.proofs.lemmas.Bool.{true≢false}
 use Rattle.judging.specs.Logs.{above, prior_target}
 use Rattle.entry_rules.specs.RealRules.{real_rules}
-use Rattle.mends.specs.Walking.{IsWalked}
-use Rattle.mends.proofs.Walks.{begins, prior_is, skips_are, target_is}
+use Rattle.judged_logs.specs.Walking.{IsWalked}
+use Rattle.judged_logs.proofs.Walks.{begins, prior_is, skips_are, target_is}
 use Rattle.accounts.proofs.mending.way_back.Goals as goal
 
 pub back-init : goal.back-init

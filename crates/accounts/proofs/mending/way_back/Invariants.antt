@@ -1,7 +1,7 @@
 use Rattle.std.proofs.Common.{List}
 use Rattle.rsl_chain.specs.Entries.{Taken}
 use Rattle.entry_rules.specs.RealRules.{real_rules}
-use Rattle.mends.specs.Walking.{IsWalked}
+use Rattle.judged_logs.specs.Walking.{IsWalked}
 use Rattle.accounts.specs.Judging.{StandsFor}
 use Rattle.accounts.proofs.mending.way_back.Given as goal
 

@@ -6,9 +6,9 @@ use Rattle.judging.specs.Engines.{Stands}
 use Rattle.judging.specs.Logs.{last_signers, policy_after}
 use Rattle.judging.specs.Verdicts.{verdict_of}
 use Rattle.judging.proofs.Takes.{signers_push}
-use Rattle.signing_persons.specs.Persons.{persons_of}
+use Rattle.policy_changes.specs.Persons.{persons_of}
 use Rattle.judging.specs.declared.engine.Engine as judging
-use Rattle.by_whom.specs.Keeping.{AreOpen, Knows}
+use Rattle.judged_logs.specs.Keeping.{AreOpen, Knows}
 use Rattle.policy_epochs.specs.declared.policies.Policy.{Policy}
 use Rattle.entry_rules.specs.RealRules.{real_rules}
 use Rattle.entry_rules.specs.declared.faults.Fault.{Fault}

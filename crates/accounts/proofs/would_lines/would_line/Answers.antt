@@ -4,7 +4,7 @@ use Rattle.judging.specs.Engines.{Stands}
 use Rattle.judging.specs.declared.engine.Engine.{Engine}
 use Rattle.policy_epochs.specs.declared.policies.Policy.{Policy}
 use Rattle.std.specs.Option.{option_copied}
-use Rattle.signing_persons.specs.Persons.{persons_of}
+use Rattle.policy_changes.specs.Persons.{persons_of}
 use Rattle.entry_rules.specs.RealRules.{real_rules}
 use Rattle.entry_rules.specs.declared.faults.Fault.{Fault}
 use Rattle.account_lines.specs.Lines.{entry_line}

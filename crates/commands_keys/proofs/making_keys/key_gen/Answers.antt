@@ -1,6 +1,6 @@
 use Rattle.std.proofs.Common.{◌≡◌, ◌∙◌, ap, refl, subst}
 use Rattle.octets.specs.Content.{GainsPart, with_end}
-use Rattle.hss_keys.specs.Secret.{Secret, public_bytes}
+use Rattle.lms_keys.specs.HssSecret.{Secret, public_bytes}
 use Rattle.commands_keys.specs.KeyLines.{key_line}
 use Rattle.commands_keys.specs.MakingKeys.{IsMade, secret_of}
 use Rattle.commands_keys.proofs.making_keys.key_gen.Goals as goal

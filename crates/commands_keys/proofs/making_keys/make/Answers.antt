@@ -1,7 +1,7 @@
 use Rattle.std.proofs.Common.{◌≡◌, sym, subst}
 use Rattle.std.specs.Prelude.{OnOk, Option}
 use Rattle.lms_keys.specs.declared.lms_type.LmsType.{LmsType}
-use Rattle.hss_keys.specs.Secret.{public_bytes}
+use Rattle.lms_keys.specs.HssSecret.{public_bytes}
 use Rattle.commands_keys.specs.KeyLines.{key_line}
 use Rattle.commands_keys.specs.MakingKeys.{secret_of}
 use Rattle.commands_keys.proofs.making_keys.make.Goals as goal

@@ -1,7 +1,7 @@
 use Rattle.std.proofs.Common.{◌∙◌, sym}
 use Rattle.leaf_journal.proofs.Steps.{moments, opened}
 use Rattle.commands_keys.proofs.SealedFrom.{no_place, refused_since, sealed_since}
-use Rattle.envelope_signing.specs.Seals.{id_text}
+use Rattle.commands_keys.specs.Seals.{id_text}
 use Rattle.commands_keys.proofs.signing_envelopes.sign_envelope.Goals as goal
 
 pub returns-in_default-clause-any_moment : goal.returns-in_default-clause-any_moment

@@ -1,9 +1,9 @@
 use Rattle.std.proofs.Common.{refl}
-use Rattle.endings.proofs.Counting.{after, sink_failed, sink_quiet}
-use Rattle.endings.specs.Counts.{Faults}
-use Rattle.endings.specs.declared.ending.Ending.TheVariants.{Done, Refused}
-use Rattle.endings.specs.declared.ending.Part.TheVariants as part
-use Rattle.endings.specs.declared.ending.Refusal.TheVariants as refusal
+use Rattle.worlds.proofs.Counting.{after, sink_failed, sink_quiet}
+use Rattle.worlds.specs.Counts.{Faults}
+use Rattle.worlds.specs.declared.ending.Ending.TheVariants.{Done, Refused}
+use Rattle.worlds.specs.declared.ending.Part.TheVariants as part
+use Rattle.worlds.specs.declared.ending.Refusal.TheVariants as refusal
 use Rattle.commands_mirror.specs.Checking.{found_ending}
 use Rattle.commands_mirror.proofs.CountedEvidence.{found_quiet, read_counted, unread_counted}
 use Rattle.commands_mirror.proofs.EvidenceEnded.{unread_ends}

@@ -1,9 +1,9 @@
 use Rattle.std.proofs.Common.{refl}
-use Rattle.endings.proofs.Counting.{after, keeper_quiet, sink_failed, sink_quiet}
-use Rattle.endings.specs.Counts.{Faults}
-use Rattle.endings.specs.declared.ending.Ending.TheVariants.{Done, Refused}
-use Rattle.endings.specs.declared.ending.Part.TheVariants as part
-use Rattle.endings.specs.declared.ending.Refusal.TheVariants as refusal
+use Rattle.worlds.proofs.Counting.{after, keeper_quiet, sink_failed, sink_quiet}
+use Rattle.worlds.specs.Counts.{Faults}
+use Rattle.worlds.specs.declared.ending.Ending.TheVariants.{Done, Refused}
+use Rattle.worlds.specs.declared.ending.Part.TheVariants as part
+use Rattle.worlds.specs.declared.ending.Refusal.TheVariants as refusal
 use Rattle.commands_mirror.proofs.CountedEvidence.{unmade_counted}
 use Rattle.commands_mirror.proofs.EvidenceEnded.{unmade_ends}
 use Rattle.commands_mirror.proofs.making_evidence.evidence_make.Goals as goal

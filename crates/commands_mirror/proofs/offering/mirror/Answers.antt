@@ -1,9 +1,9 @@
 use Rattle.std.proofs.Common.{inl}
-use Rattle.endings.proofs.Counting.{after, sink_failed, sink_quiet}
-use Rattle.endings.specs.Counts.{Faults}
-use Rattle.endings.specs.declared.ending.Ending.TheVariants.{Refused}
-use Rattle.endings.specs.declared.ending.Part.TheVariants as part
-use Rattle.endings.specs.declared.ending.Refusal.TheVariants as refusal
+use Rattle.worlds.proofs.Counting.{after, sink_failed, sink_quiet}
+use Rattle.worlds.specs.Counts.{Faults}
+use Rattle.worlds.specs.declared.ending.Ending.TheVariants.{Refused}
+use Rattle.worlds.specs.declared.ending.Part.TheVariants as part
+use Rattle.worlds.specs.declared.ending.Refusal.TheVariants as refusal
 use Rattle.commands_mirror.specs.Offering.{answer_ending}
 use Rattle.commands_mirror.proofs.Counted.{answer_quiet, answered_counted, refused_counted, told_counted}
 use Rattle.commands_mirror.proofs.OfferEnded.{of_input, refused_ends}

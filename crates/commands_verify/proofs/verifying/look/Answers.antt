@@ -1,7 +1,7 @@
 use Rattle.std.proofs.Common.{refl}
-use Rattle.endings.proofs.Counting.{after}
-use Rattle.endings.specs.Counts.{Faults}
-use Rattle.endings.specs.declared.ending.Ending.TheVariants.{Done}
+use Rattle.worlds.proofs.Counting.{after}
+use Rattle.worlds.specs.Counts.{Faults}
+use Rattle.worlds.specs.declared.ending.Ending.TheVariants.{Done}
 use Rattle.commands_verify.specs.Verifying.{verify_ending}
 use Rattle.commands_verify.proofs.StaysOpen.{judge_counted, looked}
 use Rattle.commands_verify.proofs.verifying.look.Goals as goal

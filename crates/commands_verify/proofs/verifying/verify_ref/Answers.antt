@@ -1,14 +1,14 @@
 use Rattle.std.proofs.Common.{ap, ◌∙◌, ◌≡◌, refl, rules}
 use Rattle.std.specs.Prelude.{None, Ok, Err, Result}
-use Rattle.endings.proofs.Counting.{after, quiet, sink_failed, sink_quiet}
-use Rattle.endings.specs.Counts.{Faults}
-use Rattle.endings.specs.declared.ending.Ending.TheVariants.{Broken, Refused}
-use Rattle.endings.specs.declared.ending.Part.TheVariants as part
-use Rattle.endings.specs.declared.ending.Refusal.TheVariants as refusal
+use Rattle.worlds.proofs.Counting.{after, quiet, sink_failed, sink_quiet}
+use Rattle.worlds.specs.Counts.{Faults}
+use Rattle.worlds.specs.declared.ending.Ending.TheVariants.{Broken, Refused}
+use Rattle.worlds.specs.declared.ending.Part.TheVariants as part
+use Rattle.worlds.specs.declared.ending.Refusal.TheVariants as refusal
 use Rattle.commands_verify.specs.Verdicts.{RefVerdict}
 use Rattle.commands_verify.specs.Verifying.{verify_ending}
 use Rattle.commands_verify.specs.declared.verifying.VerifyFault.{VerifyFault}
-use Rattle.endings.specs.Endings.{part_of}
+use Rattle.worlds.specs.Endings.{part_of}
 use Rattle.commands_verify.specs.declared.verifying.VerifyFault.TheVariants.{Unopened, LogBroken, KeeperFailed, Memory}
 use Rattle.commands_verify.proofs.StaysOpen.{counted_by, verdict_quiet}
 use Rattle.commands_verify.proofs.verifying.verify_ref.Goals as goal

@@ -1,5 +1,5 @@
 use Rattle.std.proofs.Common.{rules}
-use Rattle.endings.proofs.Counting.{as_ended}
+use Rattle.worlds.proofs.Counting.{as_ended}
 use Rattle.worlds.specs.Given.{world_of}
 use Rattle.worlds.specs.Worlds.{faults_of, ways}
 use Rattle.demo.specs.Demos.{demo_ending}

@@ -2,7 +2,7 @@ use Rattle.std.proofs.Common.{◌≡◌, ◌++◌, ◌∙◌, ap, arith, length,
 use Rattle.std.proofs.lemmas.List.{take_all}
 use Rattle.keeper_api.proofs.Coming.{as_before_then}
 use Rattle.verify_ref.specs.Logs.{AreEntries}
-use Rattle.desk_steps.specs.Steps.{ids_of}
+use Rattle.pushes.specs.Steps.{ids_of}
 use Rattle.desk_core.specs.Lagging.{TakesAll}
 use Rattle.desk_core.proofs.Behind.{breaks, next_taken, none_yet, reads_more, some_taken}
 use Rattle.desk_core.proofs.catching_up.take_all.Goals as goal

@@ -7,7 +7,7 @@ use Rattle.tree_paths.specs.Known.{AreKnownIn}
 use Rattle.verify_ref.specs.Following.{Follows}
 use Rattle.verify_ref.specs.Logs.{AreEntries}
 use Rattle.verify_ref.specs.Reading.{reads_behind}
-use Rattle.desk_steps.specs.Steps.{ids_of}
+use Rattle.pushes.specs.Steps.{ids_of}
 use Rattle.desk_core.specs.Lagging.{AreBoundedBehind, TakesAll}
 use Rattle.desk_core.proofs.catching_up.take_all.Given as goal
 

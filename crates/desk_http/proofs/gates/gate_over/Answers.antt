@@ -1,6 +1,6 @@
 use Rattle.std.proofs.Common.{sym, subst}
-use Rattle.gate_desk.specs.declared.gate_state.GateState.{GateState}
-use Rattle.gate_shops.specs.Standing.{Stands}
+use Rattle.desk_core.specs.declared.gate_state.GateState.{GateState}
+use Rattle.desk_shops.specs.GateStanding.{Stands}
 use Rattle.desk_http.proofs.gates.gate_over.Goals as goal
 
 pub new-requires-2-clause-stands : goal.new-requires-2-clause-stands

@@ -1,5 +1,5 @@
 use Rattle.std.proofs.Common.{sym, subst}
-use Rattle.gate_desk.specs.declared.gate_state.GateState.{GateState}
+use Rattle.desk_core.specs.declared.gate_state.GateState.{GateState}
 use Rattle.desk_http.specs.Opening.{IsOfOpening, ReadsLog}
 use Rattle.desk_http.specs.declared.faults.DeskFault.{DeskFault}
 use Rattle.desk_http.proofs.LogReads.{opening_fault, reads_loaded, reads_refused, refused}

@@ -1,5 +1,5 @@
 use Rattle.std.proofs.Common.{All, sym, subst, ap, length, arith}
-use Rattle.desk_lock.specs.Seats.{IsIdle}
+use Rattle.desk_turns.specs.Seats.{IsIdle}
 use Rattle.desk_http.proofs.SeatsServed.{all_first, all_served}
 use Rattle.desk_http.proofs.serving.serve_at.Goals as goal
 

@@ -1,5 +1,5 @@
 use Rattle.std.proofs.Common.{All, subst}
-use Rattle.desk_lock.specs.Seats.{IsIdle}
+use Rattle.desk_turns.specs.Seats.{IsIdle}
 use Rattle.desk_http.specs.Served.{IsFirst}
 use Rattle.desk_http.proofs.Seating.{all_but_last, all_last, one_fewer}
 use Rattle.desk_http.proofs.staffing.last_of.Goals as goal

@@ -1,5 +1,5 @@
 use Rattle.std.proofs.Common.{◌≡◌, ◌∷◌, [], None, All, refl, sym, subst, ap, length, arith, length-append}
-use Rattle.desk_lock.specs.Seats.{IsIdle}
+use Rattle.desk_turns.specs.Seats.{IsIdle}
 use Rattle.desk_http.specs.Served.{IsFirst}
 use Rattle.desk_http.proofs.Seating.{all_more}
 use Rattle.desk_http.proofs.staffing.workers_at.Goals as goal

@@ -1,5 +1,5 @@
 use Rattle.std.specs.Prelude.{◌≡◌, ◌+◌, None, All, length}
-use Rattle.desk_lock.specs.Seats.{TurnId, IsIdle}
+use Rattle.desk_turns.specs.Seats.{TurnId, IsIdle}
 use Rattle.desk_http.specs.Served.{IsFirst}
 use Rattle.desk_http.proofs.staffing.workers_at.Given as goal
 

@@ -1,6 +1,6 @@
 use Rattle.std.proofs.Common.{◌≡◌, ◌≤◌, ◌+◌, ◌^◌, ℕ, length, inr, sym, ap, arith}
 use Rattle.lms_keys.specs.LmsType.{height}
-use Rattle.hss_keys.specs.Secret.{height_below}
+use Rattle.lms_keys.specs.HssSecret.{height_below}
 use Rattle.leaf_journal.specs.KeyFile.{IsHeader, start_of}
 use Rattle.leaf_journal.specs.Loading.{secret_with}
 use Rattle.leaf_journal.specs.declared.headers.Header.{Header}

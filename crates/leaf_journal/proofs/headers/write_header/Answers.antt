@@ -2,8 +2,8 @@ use Rattle.std.proofs.Common.{◌≤◌, ◌+◌, ◌++◌, sym, subst}
 use Rattle.std.specs.Prelude.{Option, Some}
 use Rattle.lms_keys.specs.LmsType.{height}
 use Rattle.lms_keys.specs.Secret as one
-use Rattle.hss_keys.specs.Secret.{height_below}
-use Rattle.hss_keys.specs.declared.below.Below.{Below}
+use Rattle.lms_keys.specs.HssSecret.{height_below}
+use Rattle.lms_keys.specs.declared.below.Below.{Below}
 use Rattle.leaf_journal.specs.KeyFile.{IsHeader}
 use Rattle.leaf_journal.proofs.HeaderParts.{header_of_two}
 use Rattle.leaf_journal.proofs.headers.write_header.Goals as goal

@@ -1,6 +1,6 @@
 use Rattle.std.proofs.Common.{◌≡◌, ◌+◌, ◌^◌, ◌∙◌, ℕ, ap, drop, sym}
 use Rattle.lms_keys.specs.LmsType.{height}
-use Rattle.hss_keys.specs.Secret.{height_below}
+use Rattle.lms_keys.specs.HssSecret.{height_below}
 use Rattle.leaf_journal.specs.Loading.{secret_with}
 use Rattle.leaf_journal.proofs.NewFile.{new_is}
 use Rattle.leaf_journal.proofs.making.new_file.Goals as goal

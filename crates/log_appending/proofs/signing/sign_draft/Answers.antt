@@ -1,6 +1,6 @@
 use Rattle.std.proofs.Common.{◌≡◌, ◌∙◌, ℕ, List, ap, subst}
 use Rattle.sha2.specs.Sha256.{sha256}
-use Rattle.hss_keys.specs.Secret.{Secret, public_bytes}
+use Rattle.lms_keys.specs.HssSecret.{Secret, public_bytes}
 use Rattle.leaf_journal.specs.Using.{SignsWith}
 use Rattle.rsl_chain.specs.Drafts.{IsReadWith, signed_text_of}
 use Rattle.rsl_chain.specs.declared.words.SignatureLine.{SignatureLine}

@@ -1,5 +1,5 @@
 use Rattle.std.proofs.Common.{All, subst}
-use Rattle.desk_lock.specs.Seats.{IsIdle}
+use Rattle.desk_turns.specs.Seats.{IsIdle}
 use Rattle.tests_turns.proofs.Seating.{all_but_last, all_last}
 use Rattle.tests_turns.proofs.workers.last_of.Goals as goal
 

@@ -1,6 +1,6 @@
 use Rattle.std.proofs.Common.{◌≡◌, ◌≤◌, ◌+◌, ℕ, length}
-use Rattle.desk_lock.specs.Histories.{Begins}
-use Rattle.desk_lock.specs.Seats.{mine, IsIdle}
+use Rattle.desk_turns.specs.Histories.{Begins}
+use Rattle.desk_turns.specs.Seats.{mine, IsIdle}
 use Rattle.tests_turns.proofs.workers.serve_worker.Given as goal
 
 -- of the pushes so far, so many added an entry

@@ -1,5 +1,5 @@
 use Rattle.std.proofs.Common.{All, sym, subst}
-use Rattle.desk_lock.specs.Seats.{IsIdle}
+use Rattle.desk_turns.specs.Seats.{IsIdle}
 use Rattle.tests_turns.proofs.Seating.{all_more}
 use Rattle.tests_turns.proofs.workers.workers_of.Goals as goal
 

@@ -1,5 +1,5 @@
 use Rattle.std.specs.Prelude.{All}
-use Rattle.desk_lock.specs.Seats.{TurnId, IsIdle}
+use Rattle.desk_turns.specs.Seats.{TurnId, IsIdle}
 use Rattle.tests_turns.proofs.workers.workers_of.Given as goal
 
 -- the seats that are left and those of the workers are idle

@@ -1,7 +1,7 @@
 use Rattle.std.proofs.Common.{arith}
 use Rattle.entry_rules.specs.RealRules.{real_rules}
 use Rattle.rsl_chain.specs.Entries.{Taken}
-use Rattle.later_rules.proofs.Later.{reads_less}
+use Rattle.judged_logs.proofs.Later.{reads_less}
 use Rattle.accounts.proofs.later_engine.LaterEngine.extend.Goals as goal
 
 pub returns-in-Ok-extend-clause-reads : goal.returns-in-Ok-extend-clause-reads

@@ -1,5 +1,5 @@
 use Rattle.entry_rules.specs.RealRules.{real_rules}
-use Rattle.later_rules.specs.LaterRules.{rules_from}
+use Rattle.judged_logs.specs.LaterRules.{rules_from}
 use Rattle.accounts.proofs.later_engine.LaterEngine.new.Goals as goal
 
 pub returns-clause-follows : goal.returns-clause-follows

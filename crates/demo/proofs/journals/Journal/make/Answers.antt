@@ -3,7 +3,7 @@ use Rattle.sha2.specs.Sha256.{sha256}
 use Rattle.edge_io.specs.Recorded.{seen_after}
 use Rattle.lmots.specs.declared.ots_type.OtsType.TheVariants.{W4}
 use Rattle.lms_keys.specs.declared.lms_type.LmsType.TheVariants.{H10}
-use Rattle.hss_keys.specs.Secret.{Secret}
+use Rattle.lms_keys.specs.HssSecret.{Secret}
 use Rattle.demo.specs.Keys.{demo_key, identifier_text, seed_text}
 use Rattle.demo.proofs.NewJournals.{loaded_key, made_key, new_journal}
 use Rattle.demo.proofs.journals.Journal.make.Goals as goal

@@ -2,8 +2,8 @@ use Rattle.std.proofs.Common.{◌∙◌, ap}
 use Rattle.std.specs.Prelude.{Option}
 use Rattle.lms_keys.specs.PublicKey.{key_bytes}
 use Rattle.lms_keys.specs.Secret.{public_key_of}
-use Rattle.hss_keys.specs.Secret.{public_by}
-use Rattle.hss_keys.specs.declared.below.Below.{Below}
+use Rattle.lms_keys.specs.HssSecret.{public_by}
+use Rattle.lms_keys.specs.declared.below.Below.{Below}
 use Rattle.demo.specs.Journals.{Journaled}
 use Rattle.demo.proofs.journals.Journal.public.Goals as goal
 

@@ -2,8 +2,8 @@ use Rattle.std.proofs.Common.{◌≡◌, ◌∙◌, ◌<◌, ℕ, List, length, 
 use Rattle.std.specs.Prelude.{Option, Some}
 use Rattle.std.proofs.lemmas.List.{take_at}
 use Rattle.edge_io.specs.Recorded.{seen_after}
-use Rattle.hss_keys.specs.Secret.{signature_by}
-use Rattle.hss_keys.specs.declared.below.Below.{Below}
+use Rattle.lms_keys.specs.HssSecret.{signature_by}
+use Rattle.lms_keys.specs.declared.below.Below.{Below}
 use Rattle.demo.specs.Journals.{Journaled}
 use Rattle.demo.specs.Keys.{signed_by}
 use Rattle.demo.proofs.FirstLeaves.{least_is, next_journal, not_all}

@@ -1,7 +1,7 @@
 use Rattle.std.proofs.Common.{sym, subst}
 use Rattle.std.specs.Prelude.{IfOk, Result}
 use Rattle.keeper_api.specs.declared.keeper_faults.KeeperFault.{KeeperFault}
-use Rattle.desk_lock.specs.Histories.{History}
+use Rattle.desk_turns.specs.Histories.{History}
 use Rattle.desk_shops.specs.Desks.{Judges}
 use Rattle.desk_shops.specs.Standing.{Stands}
 use Rattle.desk_shops.specs.declared.judged.Judged.{Judged}

@@ -1,8 +1,8 @@
 use Rattle.std.proofs.Common.{◌∙◌, List, ap, length}
 use Rattle.std.specs.Prelude.{unwrap_or}
 use Rattle.git_object.specs.Ids.{zeros}
-use Rattle.desk_steps.specs.Steps.{tip_of}
-use Rattle.desk_steps.specs.declared.rows.Row.{Row}
+use Rattle.pushes.specs.Steps.{tip_of}
+use Rattle.pushes.specs.declared.rows.Row.{Row}
 use Rattle.desk_shops.proofs.Standing.{many_rows}
 use Rattle.desk_shops.proofs.shops.Shop.tip.Goals as goal
 

@@ -1,5 +1,5 @@
 use Rattle.std.proofs.Common.{◌≡◌, ◌∙◌, ℕ, ap, drop, sym, subst}
-use Rattle.hss_keys.specs.Secret.{Secret}
+use Rattle.lms_keys.specs.HssSecret.{Secret}
 use Rattle.leaf_journal.specs.KeyFile.{IsKeyFile, start_of}
 use Rattle.leaf_journal.proofs.Leaves.{loaded_covers, opens}
 use Rattle.leaf_journal.proofs.Moving.{kept_on}

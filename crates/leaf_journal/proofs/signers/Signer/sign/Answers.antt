@@ -2,7 +2,7 @@ use Rattle.std.proofs.Common.{◌≡◌, ◌+◌, List, [], ◌∷◌, ℕ, Some
 use Rattle.std.specs.Prelude.{Ok, Err, slice_set}
 use Rattle.octets.specs.Content.{Told}
 use Rattle.edge_io.specs.Disk.{Torn, Written}
-use Rattle.hss_keys.specs.Secret.{Secret}
+use Rattle.lms_keys.specs.HssSecret.{Secret}
 use Rattle.leaf_journal.specs.KeyFile.{KeepsUsed, start_of}
 use Rattle.leaf_journal.specs.Runs.{Marks, in_use}
 use Rattle.leaf_journal.specs.Signing.{Covers, IsLeast, IsTornImage, Signing, marking}

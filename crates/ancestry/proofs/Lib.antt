@@ -1,8 +1,0 @@
-pub mod Order
-pub mod Turns
-pub mod Passing
-pub mod Endings
-pub mod Walks
-pub mod Reaching
-pub mod CommitsRead
-pub mod Peeling

@@ -1,6 +1,0 @@
-use Rattle.std.proofs.Common.{◌≡◌, drop}
-use Rattle.ancestry.specs.Order.{with_new}
-use Rattle.ancestry.proofs.walking.meet.Given as goal
-
-abbrev pub invariant-ids : goal.invariant-ids
-invariant-ids l = with_new l.met (drop l.id-index l.ids) ≡ with_new l.fn.met l.ids

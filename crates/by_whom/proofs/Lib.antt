@@ -1,4 +1,0 @@
-mod Firsts
-mod Steps
-mod Skipped
-mod Takes

@@ -1,2 +1,0 @@
--- what is cached, that it stands in a repository, and how much it is
-pub mod Caching

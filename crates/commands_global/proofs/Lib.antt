@@ -1,4 +1,0 @@
-mod Counted
-mod OneOutcome
-mod ToldContent
-mod ToldWorld

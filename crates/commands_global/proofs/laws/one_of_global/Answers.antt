@@ -1,5 +1,0 @@
-use Rattle.commands_global.proofs.OneOutcome.{same_global}
-use Rattle.commands_global.proofs.laws.one_of_global.Goals as goal
-
-pub returns : goal.returns
-returns c = record { global = same_global c.logs.ensures.one_break }

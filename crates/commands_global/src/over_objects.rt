@@ -1,3 +1,0 @@
-//! The command over the objects that it uses, with what each outcome means.
-
-pub use crate::verifying::{VerifyFault, global_ending, verify_global};

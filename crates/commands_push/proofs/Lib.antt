@@ -1,6 +1,0 @@
-pub mod Counted
-pub mod Prepared
-pub mod Sent
-pub mod Ended
-pub mod OnePush
-pub mod ToldWorld

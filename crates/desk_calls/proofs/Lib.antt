@@ -1,4 +1,0 @@
-pub mod Looks
-pub mod Sittings
-pub mod Pushed
-pub mod Streamed

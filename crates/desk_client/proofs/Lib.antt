@@ -1,4 +1,0 @@
-pub mod Reading
-pub mod Uniqueness
-pub mod Writing
-mod Stopping

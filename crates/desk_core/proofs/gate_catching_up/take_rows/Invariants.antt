@@ -1,0 +1,18 @@
+use Rattle.std.proofs.Common.{◌≡◌, Some, List, take}
+use Rattle.git_object.specs.Repository.{Repository}
+use Rattle.keeper_api.specs.Undisturbed.{Undisturbed}
+use Rattle.rsl_chain.specs.Entries.{Taken}
+use Rattle.tree_paths.specs.Known.{AreKnownIn}
+use Rattle.verify_ref.specs.Following.{Follows}
+use Rattle.pushes.specs.Steps.{ids_of}
+use Rattle.desk_core.specs.Lagging.{TakesAll}
+use Rattle.desk_core.proofs.gate_catching_up.take_rows.Given as goal
+
+abbrev pub invariant-rows : goal.invariant-rows
+invariant-rows g l = record {
+  takes : (r : Repository) (log : List Taken) → g.R.Keeper.content l.keeper ≡ Some r → Follows log l.fn.engine → TakesAll r log (ids_of (take l.row-index l.rows)) l.engine;
+  rules : l.engine.rules ≡ l.fn.engine.rules;
+  known : (r : Repository) → g.R.Keeper.content l.keeper ≡ Some r → AreKnownIn r l.engine.known;
+  same : Undisturbed g.R.Keeper l.fn.keeper l.keeper;
+  quiet : g.R.Keeper.faults l.keeper ≡ g.R.Keeper.faults l.fn.keeper;
+}

@@ -1,4 +1,0 @@
-pub mod Keeps
-pub mod Settles
-pub mod Loads
-pub mod Fronts

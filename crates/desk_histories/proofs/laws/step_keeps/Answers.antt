@@ -1,5 +1,0 @@
-use Rattle.desk_histories.proofs.Keeps.{step_keeps}
-use Rattle.desk_histories.proofs.laws.step_keeps.Goals as goal
-
-pub returns : goal.returns
-returns g c = step_keeps g.R.Keeper

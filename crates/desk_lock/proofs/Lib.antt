@@ -1,4 +1,0 @@
-pub mod Lists
-pub mod Moves
-pub mod Sittings
-pub mod Always

@@ -1,5 +1,0 @@
-use Rattle.desk_lock.proofs.Always as proved
-use Rattle.desk_lock.proofs.laws.longer_of_two.Goals as goal
-
-pub returns : goal.returns
-returns c = proved.longer_of_two

@@ -1,5 +1,0 @@
-use Rattle.desk_lock.proofs.Always as proved
-use Rattle.desk_lock.proofs.laws.nothing_is_taken_back.Goals as goal
-
-pub returns : goal.returns
-returns g c = let C = g.S.Chronicle in proved.never_back C.is_legal C.stands C.counted

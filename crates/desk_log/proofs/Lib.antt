@@ -1,3 +1,0 @@
-pub mod Tips
-pub mod Taking
-pub mod StepLaws

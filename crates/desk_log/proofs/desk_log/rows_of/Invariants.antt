@@ -1,6 +1,0 @@
-use Rattle.std.proofs.Common.{◌≡◌, map, take}
-use Rattle.desk_steps.specs.Steps.{by_nobody}
-use Rattle.desk_log.proofs.desk_log.rows_of.Given as goal
-
-abbrev pub invariant-ids : goal.invariant-ids
-invariant-ids l = l.rows ≡ map by_nobody (take l.id-index l.ids)

@@ -1,5 +1,0 @@
-use Rattle.desk_log.proofs.StepLaws.{step_is}
-use Rattle.desk_log.proofs.laws.step_is.Goals as goal
-
-pub returns : goal.returns
-returns g c = step_is g.R.Keeper

@@ -1,0 +1,12 @@
+pub mod FieldValues
+pub mod HeadFronts
+pub mod HeadAnswers
+pub mod Following
+pub mod Pieces
+pub mod Verdicts
+pub mod OneReply
+pub mod Parts
+pub mod Reading
+pub mod Uniqueness
+pub mod Writing
+mod Stopping

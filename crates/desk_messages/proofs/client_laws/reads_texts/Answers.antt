@@ -1,0 +1,5 @@
+use Rattle.desk_messages.proofs.Writing.{reads_texts}
+use Rattle.desk_messages.proofs.client_laws.reads_texts.Goals as goal
+
+pub returns : goal.returns
+returns c = reads_texts

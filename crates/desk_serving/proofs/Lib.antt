@@ -1,3 +1,0 @@
-pub mod Replying
-pub mod Ending
-pub mod Serving

@@ -1,0 +1,15 @@
+pub mod Lists
+pub mod Moves
+pub mod Sittings
+pub mod Always
+pub mod Tips
+pub mod Taking
+pub mod StepLaws
+pub mod Keeps
+pub mod Settles
+pub mod Loads
+pub mod Fronts
+pub mod Looks
+pub mod CallSittings
+pub mod Pushed
+pub mod Streamed

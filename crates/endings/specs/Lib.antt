@@ -1,4 +1,0 @@
-pub mod Endings
-pub mod Counts
--- the line that names the break of a log
-pub mod Breaks

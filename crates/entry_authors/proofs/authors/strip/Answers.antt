@@ -1,5 +1,0 @@
-use Rattle.rsl_chain.proofs.WordLemmas.{strip_is}
-use Rattle.entry_authors.proofs.authors.strip.Goals as goal
-
-pub returns : goal.returns
-returns c = strip_is _ _ c.strip_front.result c.strip_front.ensures.found c.strip_front.ensures.none

@@ -1,7 +1,0 @@
-use Rattle.std.proofs.Common.{subst, sym}
-use Rattle.dsse_envelope.specs.Written.{IsWritable}
-use Rattle.envelope_signing.proofs.Placed.{writable}
-use Rattle.envelope_signing.proofs.sealed.Goals as goal
-
-pub returns-in-Ok-clause-writable : goal.returns-in-Ok-clause-writable
-returns-in-Ok-clause-writable c = subst IsWritable (sym c.in-Ok.ensures.sealed) (writable c.args.signature c.args.envelope c.requires.sealable c.requires.id c.requires.place)

@@ -1,2 +1,0 @@
--- a key's signature in an envelope
-pub mod Seals

@@ -1,2 +1,0 @@
--- bytes as one printable word
-pub mod Escaped

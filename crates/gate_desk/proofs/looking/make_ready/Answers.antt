@@ -1,8 +1,0 @@
-use Rattle.std.proofs.Common.{not}
-use Rattle.git_object.specs.Objects.{pair_id}
-use Rattle.gate_desk.proofs.Laying.{known_grown}
-use Rattle.gate_desk.proofs.looking.make_ready.Goals as goal
-
-pub returns-clause-grown : goal.returns-clause-grown
-returns-clause-grown g c = λ r change has told is.
-    known_grown r c.args.engine.now.known (λ pair. not (has (pair_id pair))) c.args.objects.now change (c.in_ok-clash.ensures.none c.if-clash.false r told) is (c.requires.known r (c.replaces.ensures.same.content r told))

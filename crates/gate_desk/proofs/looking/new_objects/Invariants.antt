@@ -1,8 +1,0 @@
-use Rattle.std.proofs.Common.{◌≡◌, not, take}
-use Rattle.std.specs.List.{filter}
-use Rattle.git_object.specs.Objects.{pair_id}
-use Rattle.judging.specs.Engines.{has_taken}
-use Rattle.gate_desk.proofs.looking.new_objects.Given as goal
-
-abbrev pub invariant-objects : goal.invariant-objects
-invariant-objects l = l.kept ≡ filter (λ pair. not (has_taken l.engine (pair_id pair))) (take l.object-index l.objects)

@@ -1,5 +1,0 @@
-use Rattle.gate_shops.proofs.Steps.{push_is_gate_step}
-use Rattle.gate_shops.proofs.laws.push_is_gate_step.Goals as goal
-
-pub returns : goal.returns
-returns g c = push_is_gate_step g.R.Keeper

@@ -1,5 +1,0 @@
-use Rattle.gate_shops.proofs.Asking.{shop_holds}
-use Rattle.gate_shops.proofs.laws.shop_holds.Goals as goal
-
-pub returns : goal.returns
-returns g c = shop_holds g.R.Keeper

@@ -1,6 +1,0 @@
-use Rattle.std.proofs.Common.{◌≡◌, drop}
-use Rattle.global_files.specs.Files.{pattern_fault_from}
-use Rattle.global_files.proofs.judging.pattern_fault.Given as goal
-
-abbrev pub invariant-rules : goal.invariant-rules
-invariant-rules l = (pattern_fault_from l.at (drop l.rule-index l.rules) ≡ pattern_fault_from 0 l.rules) × (l.at ≡ l.rule-index)

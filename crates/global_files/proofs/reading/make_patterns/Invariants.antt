@@ -1,6 +1,0 @@
-use Rattle.std.proofs.Common.{◌≡◌, take}
-use Rattle.rule_files.specs.Files.{patterns_made}
-use Rattle.global_files.proofs.reading.make_patterns.Given as goal
-
-abbrev pub invariant-texts : goal.invariant-texts
-invariant-texts l = l.made ≡ patterns_made (take l.text-index l.texts)

@@ -1,6 +1,0 @@
-mod Printable
-pub mod Plain
-mod Listing
-pub mod InParts
-mod Wording
-pub mod Floatless

@@ -1,8 +1,0 @@
-use Rattle.std.proofs.Common.{arith, subst, sym, ◌∙◌}
-use Rattle.std.specs.List.{AllPass}
-use Rattle.json_lines.specs.Writing.{is_plain}
-use Rattle.json_lines.proofs.Plain.{hexadecimal_plain}
-use Rattle.json_lines.proofs.writing.write_hex.Goals as goal
-
-pub write_quoted-requires : goal.write_quoted-requires
-write_quoted-requires c = subst (AllPass is_plain) (sym (c.as_bytes.ensures.value ∙ c.in_ok-digits.ensures)) (hexadecimal_plain c.args.bytes.now (λ i. let h = c.type_inv.bytes i in omega arith))

@@ -1,4 +1,0 @@
--- the values that lines are made of, and the line of a value
-pub mod Values
--- what is written at the end of a text
-pub mod Writing

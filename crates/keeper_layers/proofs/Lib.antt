@@ -1,0 +1,4 @@
+pub mod Clashing
+pub mod Placing
+pub mod Gaining
+pub mod Weighing

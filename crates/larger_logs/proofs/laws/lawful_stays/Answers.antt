@@ -1,5 +1,0 @@
-use Rattle.larger_logs.proofs.Gated.{holds}
-use Rattle.larger_logs.proofs.laws.lawful_stays.Goals as goal
-
-pub returns : goal.returns
-returns g c = λ rules loaded taken r lasting in_one none epochs run. holds rules lasting loaded taken r in_one none epochs run

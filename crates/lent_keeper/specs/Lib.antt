@@ -1,2 +1,0 @@
--- what a store that is lent tells on
-pub mod Lending

@@ -1,3 +1,0 @@
-mod Numbers
-mod Mending
-pub mod Walks

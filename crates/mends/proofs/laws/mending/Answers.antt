@@ -1,5 +1,0 @@
-use Rattle.mends.proofs.Mending.{is_mending}
-use Rattle.mends.proofs.laws.mending.Goals as goal
-
-pub returns : goal.returns
-returns g c = λ rules log name b. is_mending rules log name b

@@ -1,5 +1,0 @@
-use Rattle.mends.proofs.Mending.{is_no_way}
-use Rattle.mends.proofs.laws.no_way.Goals as goal
-
-pub returns : goal.returns
-returns g c = λ rules log name b. is_no_way rules log name b

@@ -1,2 +1,0 @@
--- what a change laid over a repository shows at an id
-pub mod Overlaying

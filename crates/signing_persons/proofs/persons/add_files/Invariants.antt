@@ -1,8 +1,0 @@
-use Rattle.std.proofs.Common.{◌≡◌, take}
-use Rattle.std.specs.List.{fold}
-use Rattle.log_names.specs.Names.{with_name}
-use Rattle.signing_persons.specs.Persons.{file_holders}
-use Rattle.signing_persons.proofs.persons.add_files.Given as goal
-
-abbrev pub invariant-files : goal.invariant-files
-invariant-files l = l.names ≡ fold with_name l.fn.names (file_holders l.keys (take l.file-index l.files))

@@ -1,8 +1,0 @@
-use Rattle.std.proofs.Common.{◌≡◌, take}
-use Rattle.std.specs.List.{fold}
-use Rattle.log_names.specs.Names.{with_name}
-use Rattle.signing_persons.specs.Persons.{holders}
-use Rattle.signing_persons.proofs.persons.add_persons.Given as goal
-
-abbrev pub invariant-persons : goal.invariant-persons
-invariant-persons l = l.names ≡ fold with_name l.fn.names (holders l.keys (take l.person-index l.persons))

@@ -1,2 +1,0 @@
--- a repository's stream as one text in memory
-pub mod Texts

@@ -1,2 +1,0 @@
-mod Types
-mod Greatest

@@ -1,5 +1,0 @@
-use Rattle.used_leaves.proofs.Types.{ots_is}
-use Rattle.used_leaves.proofs.leaves.ots_of.Goals as goal
-
-pub returns : goal.returns
-returns c = ots_is c.args.number c.of_code.result c.of_code.ensures.found c.of_code.ensures.none
