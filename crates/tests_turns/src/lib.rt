@@ -8,7 +8,7 @@
 mod many_turns;
 #[cfg(test)]
 mod meetings;
-mod pushes;
+mod pushing;
 #[cfg(test)]
 mod scene;
 #[cfg(test)]
@@ -17,7 +17,7 @@ mod shop_chronicles;
 mod shops;
 mod workers;
 
-pub use pushes::{push, push_as};
+pub use pushing::{push, push_as};
 pub use shops::{Logged, Refusal, Shop};
 pub use workers::{
     Gate, NoGate, Point, Worker, id_at, last_of, serve_all, serve_worker, workers_of,

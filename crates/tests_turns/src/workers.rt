@@ -4,7 +4,7 @@ ghost use Rattle.std.specs.Prelude.{◌<◌, ℕ, length, slice_index_or, All, I
 ghost use Rattle.desk_turns.specs.Seats.{TurnId, IsIdle};
 ghost use Rattle.tests_turns.specs.Pushes.{IsServed};
 
-use crate::pushes::push_as;
+use crate::pushing::push_as;
 use crate::shops::{Refusal, Shop};
 use desk_turns::{Seat, Turn};
 use git_object::{Kind, Memory, ObjectId, id_of};

@@ -1,6 +1,6 @@
 use Rattle.std.proofs.Common.{◌≡◌, ap, ◌∙◌}
 use Rattle.tests_turns.proofs.Pushed.{looked_first}
-use Rattle.tests_turns.proofs.pushes.push_as.Goals as goal
+use Rattle.tests_turns.proofs.pushing.push_as.Goals as goal
 
 pub returns-clause-pushed : goal.returns-clause-pushed
 returns-clause-pushed g c =

@@ -4,7 +4,7 @@ use Rattle.octets.specs.Causes.{HasCause}
 use Rattle.tests_turns.specs.Shops.{AddsOne, Answers, refused_first, shop_failed}
 use Rattle.tests_turns.proofs.Logs.{counts}
 use Rattle.tests_turns.proofs.Pushed.{pushed, refused}
-use Rattle.tests_turns.proofs.pushes.push.Goals as goal
+use Rattle.tests_turns.proofs.pushing.push.Goals as goal
 
 pub leave_with-requires : goal.leave_with-requires
 leave_with-requires g c =
