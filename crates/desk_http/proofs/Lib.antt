@@ -6,4 +6,4 @@ pub mod SeatsServed
 pub mod Ends
 pub mod Replying
 pub mod Ending
-pub mod Serving
+pub mod ServingWorkers

@@ -6,7 +6,7 @@ pub mod Pieces
 pub mod Verdicts
 pub mod OneReply
 pub mod Parts
-pub mod Reading
+pub mod ClientReading
 pub mod Uniqueness
-pub mod Writing
+pub mod ClientWriting
 mod Stopping

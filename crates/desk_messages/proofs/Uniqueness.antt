@@ -12,7 +12,7 @@ use Rattle.desk_messages.specs.ClientLaws.{OneCause, OneReading, OneRequest}
 use Rattle.desk_messages.specs.Replies.{HasNoLength, HasOther, IsBad, IsReply}
 use Rattle.desk_messages.specs.declared.replies.BadReply.{BadReply}
 use Rattle.desk_messages.specs.declared.replies.BadReply.TheVariants as bad
-use Rattle.desk_messages.proofs.Reading.{same_first}
+use Rattle.desk_messages.proofs.ClientReading.{same_first}
 
 one_head : (bytes : List ℕ) (h k : ResponseHead) (r q : List ℕ) → HasHead bytes h r → HasHead bytes k q → (h ≡ k) × (r ≡ q)
 one_head bytes h k r q x y = response_unique bytes h k r q x.reads y.reads

@@ -24,7 +24,7 @@ pub enum BadReply {
 }
 
 // The reply whose head is at these places.
-#[tactic(auto, using(crate::proofs::Reading::whole, crate::proofs::Reading::no_length, crate::proofs::Reading::other_length))]
+#[tactic(auto, using(crate::proofs::ClientReading::whole, crate::proofs::ClientReading::no_length, crate::proofs::ClientReading::other_length))]
 fn reply_at<'b>(
     bytes: &'b [u8],
     fields: &[HeaderSpan],

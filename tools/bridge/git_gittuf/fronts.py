@@ -1,7 +1,7 @@
 """What was judged of a log up to an entry, kept so that of a longer log only the entries behind it are judged.
 
 An entry that is authorised in a repository is so in every larger one in which the same policies are in force, as
-`crates/lasting_rules` shows. So gittuf-inspect judges new entries over a store beside the store, which has each entry of the
+`crates/desk_core` shows. So gittuf-inspect judges new entries over a store beside the store, which has each entry of the
 log and each policy, and of what entries recorded only what the new ones are compared with: older entries cost no more there
 than to be read. Where each new one is authorised by the policy that is known to be in force, and goes on from where its
 reference is known to stand, a reference that stood in no violation stands in none. Of whatever else is told, and wherever

@@ -1,7 +1,7 @@
 use Rattle.std.proofs.Common.{◌+◌, ℕ, refl, ap, subst}
 use Rattle.std.specs.Prelude.{Option}
 use Rattle.links.specs.Doors.{Gives}
-use Rattle.desk_http.proofs.Serving.{none_served, one_more_served}
+use Rattle.desk_http.proofs.ServingWorkers.{none_served, one_more_served}
 use Rattle.desk_http.proofs.workers.serve_worker.Goals as goal
 
 pub connections-init : goal.connections-init

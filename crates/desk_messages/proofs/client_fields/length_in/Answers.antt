@@ -1,6 +1,6 @@
 use Rattle.std.proofs.Common.{◌≡◌, sym, ◌∙◌, arith, decimal}
 use Rattle.std.proofs.lemmas.Fmt.{decimal_injective}
-use Rattle.desk_messages.proofs.Reading.{same_first}
+use Rattle.desk_messages.proofs.ClientReading.{same_first}
 use Rattle.desk_messages.proofs.client_fields.length_in.Goals as goal
 
 pub returns-then-len-gt-LARGEST_BODY-clause-none : goal.returns-then-len-gt-LARGEST_BODY-clause-none
