@@ -92,6 +92,14 @@ def stamp(folder, crates):
     os.chdir(before)
 
 
+def stamp_built():
+    """Lets rt take the libraries that rt ci left in the checkout itself, each where no source of it is younger."""
+    rlib = {it: os.path.join(TOP, "crates", it, "out", "rlib") for it in names_in(os.path.join(TOP, LINES))}
+    new = [it for it in rlib if is_as_built(it) and not os.path.exists(os.path.join(rlib[it], "stamp"))]
+    if new:
+        stamp(TOP, new)
+
+
 def lay(folder):
     """Makes a folder such a workspace, or mends it; what rt made there stays."""
     wanted = dict(texts())
