@@ -38,6 +38,8 @@ COMPLETION = {
     "share/zsh/vendor-completions/_git-gittuf": "_git-gittuf",
     "share/fish/vendor_completions.d/git-gittuf.fish": "git-gittuf.fish",
 }
+# A link of a page, and where it leads.
+PAGE_LINK = re.compile(r"\[([^\]]*)\]\(([^)#\s]*)(?:#[^)]*)?\)")
 # These are for whoever changes the product, and has it in a checkout.
 NOT_PACKED = {"ARCHITECTURE.md", "CONTRIBUTING.md", "DECISIONS.md", "WRONG-BODIES.md"}
 CONTROL = """Package: gittuf
@@ -139,9 +141,16 @@ def files_of(programs, about):
         found[path] = (text_of("completion", it), 0o644)
     for it in sorted({*os.listdir(os.path.join(TOP, "man"))} - (set() if has_inspect else {INSPECT_PAGE})):
         found[f"share/man/man1/{it}.gz"] = (gzip.compress(text_of("man", it), mtime=0), 0o644)
-    for it in sorted({*os.listdir(os.path.join(TOP, "docs"))} - NOT_PACKED):
-        found[f"share/doc/gittuf/{it}"] = (text_of("docs", it), 0o644)
+    packed = {*os.listdir(os.path.join(TOP, "docs"))} - NOT_PACKED
+    for it in sorted(packed):
+        found[f"share/doc/gittuf/{it}"] = (page_among(packed, text_of("docs", it)), 0o644)
     return found
+
+
+def page_among(packed, body):
+    """A page whose links lead to pages that are packed, or outside; one to what a checkout alone has is its words."""
+    leads = lambda link: ":" in link[2] or not link[2] or link[2] in packed
+    return PAGE_LINK.sub(lambda link: link[0] if leads(link) else link[1], body.decode()).encode()
 
 
 def archive(files, links, seconds, front):

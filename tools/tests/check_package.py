@@ -8,6 +8,7 @@ import subprocess
 import sys
 import tarfile
 
+import packages
 from checking import TOP, Failure, Skip, run, want
 from git_gittuf.usage import help_of
 from guarded_clones import MAIN, SMALL, TOOL
@@ -138,6 +139,15 @@ def has_pages(repositories):
     return "by mandoc" if shutil.which("mandoc") else "by groff"
 
 
+def pages_lead_to_pages(repositories):
+    """each link of a packed page leads to a packed page, or outside"""
+    pages = {os.path.basename(it): body for it, (body, _) in packages.files_of({}, "").items() if it.startswith("share/doc/") and it.endswith(".md")}
+    links = [(it, link[2]) for it, body in pages.items() for link in packages.PAGE_LINK.finditer(body.decode())]
+    want([it for it in links if it[1] and ":" not in it[1] and it[1] not in {*pages, "log-and-epochs.svg"}], [], "the links that lead nowhere")
+    if not any(where in pages for _, where in links):
+        raise Failure("no page leads to another")
+
+
 def completes(repositories):
     """bash completes the words of git gittuf, its steps and the names of branches, and the commands of the programs"""
     repositories.needed()
@@ -201,6 +211,7 @@ def tells_its_use(repositories):
 CHECKS = (
     runs_where_it_is_installed,
     has_pages,
+    pages_lead_to_pages,
     tells_its_use,
     completes,
 )

@@ -45,28 +45,41 @@ def make(repository, path, height, width, bottom=None):
     expect_outside(repository, path)
     if bottom and (height == "15" or "5" not in (height, bottom)):
         raise Stopped("of the heights of a key with --bottom none is 15 and one is 5: --height 10 --bottom 5, say", 2)
-    beside = f"{path}.new"
     os.makedirs(os.path.dirname(path), mode=0o700, exist_ok=True)
     with open(f"{path}.lock", "wb") as lock:
+        # Calls in two repositories may want one key.
+        if not is_held(lock):
+            raise Stopped(f"another git gittuf makes a key at {path}: wait for it")
         try:
-            # Calls in two repositories may want one key.
-            fcntl.flock(lock, fcntl.LOCK_EX | fcntl.LOCK_NB)
-        except BlockingIOError:
-            raise Stopped(f"another git gittuf makes a key at {path}: wait for it") from None
-        if os.path.lexists(path):
-            raise Stopped(f"{path} is there already, and is no key: remove it, or name another place", 3)
-        # One that was left has no name that signs.
-        if os.path.lexists(beside):
-            os.remove(beside)
-        words = ("key-gen", height, width, *(("--bottom", bottom) if bottom else ()))
-        status, printed = program.run("-", beside, *words)
-        if status or not LINE.fullmatch(printed):
-            raise Ended(words, status or 4, printed)
-        with open(f"{path}.pub", "wb") as file:
-            file.write(printed)
-            os.fsync(file.fileno())
-        os.rename(beside, path)
-        os.remove(lock.name)
+            make_held(path, ("key-gen", height, width, *(("--bottom", bottom) if bottom else ())))
+        finally:
+            os.remove(lock.name)
+
+
+def is_held(lock):
+    """Whether this call alone has the lock, which another may have taken away since it was opened."""
+    try:
+        fcntl.flock(lock, fcntl.LOCK_EX | fcntl.LOCK_NB)
+        return os.path.samestat(os.fstat(lock.fileno()), os.stat(lock.name))
+    except (BlockingIOError, FileNotFoundError):
+        return False
+
+
+def make_held(path, words):
+    """Makes a key at a path of which the call has the lock."""
+    beside = f"{path}.new"
+    if os.path.lexists(path):
+        raise Stopped(f"{path} is there already, and is no key: remove it, or name another place", 3)
+    # One that was left has no name that signs.
+    if os.path.lexists(beside):
+        os.remove(beside)
+    status, printed = program.run("-", beside, *words)
+    if status or not LINE.fullmatch(printed):
+        raise Ended(words, status or 4, printed)
+    with open(f"{path}.pub", "wb") as file:
+        file.write(printed)
+        os.fsync(file.fileno())
+    os.rename(beside, path)
 
 
 def is_there(path):
