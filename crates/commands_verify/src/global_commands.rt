@@ -4,8 +4,8 @@ ghost use Rattle.std.specs.Prelude.{◌≡◌};
 ghost use Rattle.worlds.specs.Given.{world_of};
 ghost use Rattle.commands_verify.specs.GlobalRuns.{GlobalRuns};
 
+use crate::global_verifying;
 use crate::global_verifying::global_ending;
-use crate::verifying;
 use git_object::{KeyId, RefName};
 use octets::Items;
 use std::alloc::Global;
@@ -24,7 +24,7 @@ pub fn verify_global<W: Objects>(
         (world_of outside.old) (world_of outside.new) result }
     ensures unsaid { outside.new.faults_out ≡ outside.old.faults_out }
 {
-    let outcome = verifying::verify_global(
+    let outcome = global_verifying::verify_global(
         alloc,
         name,
         root,
