@@ -8,10 +8,10 @@ import subprocess
 import sys
 import tarfile
 
-import packages
 from checking import TOP, Failure, Skip, run, want
 from git_gittuf.usage import help_of
 from guarded_clones import MAIN, SMALL, TOOL
+from made_releases import packages
 
 PACKAGE = os.path.join(TOP, "tools", "package")
 WORDS = ("setup", "key", "policy", "record", "approve", "verify", "recover", "push", "fetch", "sync", "skip", "note", "log", "explain", "report", "export")
