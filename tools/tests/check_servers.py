@@ -2,7 +2,7 @@
 
 import os
 
-from checking import want
+from checking import at_terminal, want
 from git_gittuf import epochs
 from guarded_clones import MAIN, another
 
@@ -90,6 +90,11 @@ def accuses_no_server_that_is_not_fetched(repositories):
     clones.gittuf("alice", "push", "--remote", "second")
     clones.gittuf("alice", "push")
     want(clones.gittuf("alice", "doctor"), b"all is well\n", "what doctor says then")
+    line = f"pushed refs/heads/main {clones.tip('alice')}"
+    for script, are_there in (("git gittuf push", True), ("git update-ref -d refs/remotes/origin/main && git -C ../server.git update-ref -d refs/heads/main && git gittuf push", False)):
+        status, said = at_terminal(script, clones.path("alice"))
+        told = "origin has all of it already, so nothing went there" in said
+        want((status, line in said, told), (0, True, are_there), f"what a push says that {'moves nothing' if are_there else 'moves the branch'}: {said}")
 
 
 def tells_a_fork(repositories):

@@ -3,6 +3,7 @@
 import hashlib
 import os
 import re
+import sys
 
 import stream_format
 from git_gittuf import commands, epochs, history, keys, mirror_places, policies, program, settings, signers
@@ -137,7 +138,7 @@ def of_line(line, text, who):
 
 
 def told(work, text):
-    """Prints what a dossier shows, and returns the status of that."""
+    """Prints what a dossier shows, and returns the status of that; without a call at work where there is no repository."""
     status, printed, said = program.told("-", "-", "evidence-check", input=text)
     if status == 3:
         raise Stopped("it is no dossier, or has more than 64 MiB", 3)
@@ -145,10 +146,15 @@ def told(work, text):
         raise Ended(("evidence-check",), status, printed)
     show(printed)
     key = hashlib.sha256(bytes.fromhex(HEAD.match(text)[1].decode())).hexdigest()
-    who = holder(work, key)
+    who = holder(work, key) if work else People().shown(key)
     for line in os.fsdecode(printed).splitlines():
         say(of_line(line, text, who))
     return status
+
+
+def expect_file_alone(words):
+    if words.entries or words.output is not None:
+        raise Stopped("--check takes a file alone", 2)
 
 
 def check(work, path):
@@ -156,10 +162,19 @@ def check(work, path):
         return told(work, file.read(MOST))
 
 
+def check_anywhere(words):
+    """Tells what a dossier shows where there is no repository, and so no policy that says whose its key is."""
+    expect_file_alone(words)
+    status = check(None, words.check)
+    if not status:
+        say("Whose key that is a clone says whose policy names it: there the same call does.")
+    sys.stdout.flush()
+    return status
+
+
 def evidence(work, words):
     if words.check is not None:
-        if words.entries or words.output is not None:
-            raise Stopped("--check takes a file alone", 2)
+        expect_file_alone(words)
         work.bring()
         return check(work, words.check)
     if len(words.entries) != 2 or words.output is None:

@@ -19,6 +19,8 @@ HOOKS_SAY = ("git-gittuf: ", "remote: git-gittuf: ")
 # How those lines of Git begin that say why a remote refuses what it was sent.
 REMOTES_SAY = ("remote: ", "error: remote unpack failed: ")
 OWN_NAMES = (LOG, POLICY, ATTESTATIONS, STAGED)
+# What is said of a remote to which nothing went.
+ALL_THERE = "has all of it already, so nothing went there"
 # What Git says of a file by which it holds a reference while it moves it, and which stands there already.
 LOCKED = re.compile(r"Unable to create '(.*\.lock)': File exists")
 HELD = "another git is at work there, and then git gittuf push tries again; or one was killed and left it, and who keeps it removes the file"
@@ -181,7 +183,8 @@ def pushed(work, remote, found, anyway, tags):
             output = ran.output.read()
             status, said = ran.end()
     if not status:
-        return True, "", []
+        moved = [it for it in output.splitlines() if b"\t" in it and not it.startswith(b"=")]
+        return True, "" if moved else ALL_THERE, []
     refused = [os.fsdecode(it) for it in output.splitlines() if it.startswith(b"!")]
     judged = [it.strip() for it in ran.lines if it.startswith(HOOKS_SAY)]
     if not refused and not judged:
@@ -244,6 +247,8 @@ def push(work, words):
         done, why, lines = pushed(work, remote, found, anyway, tags)
         if done:
             seen.pushed(work.repository, remote)
+            if why:
+                say(f"{plain(remote)} {why}.")
             for name, value in found.items():
                 print(f"pushed {plain(os.fsdecode(name))} {(value or ZEROS).decode()}")
             return 0

@@ -82,7 +82,7 @@ Every day
   evidence ENTRY ENTRY -o FILE  write a dossier, for others, of two entries that one key signed: of one number, or with
       [--from STORE] [--key K]  one leaf. They stand in a mirror or here, or in STORE; K is the public part of a key that
                                 no policy here names
-  evidence --check FILE         say what such a dossier shows
+  evidence --check FILE         say what such a dossier shows, also where no repository is
   hook install [--server]       let git push be refused where it would leave something unlawful, before it leaves this
       [--most-seconds N]        clone, or in a server's repository before it is taken; a hook that stands there is
                                 called first. git -c gittuf.anyway=true push leaves a clone all the same. With N a server
