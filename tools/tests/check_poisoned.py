@@ -133,6 +133,8 @@ def is_told_spoilt(clones, who):
     clones.refused(who, "note", "1", status=3, part="is spoilt")
     found = clones.gittuf(who, "doctor", status=1)
     want(b"is spoilt: its leaf " in found, True, f"whether doctor calls the key spoilt: {found}")
+    status, said = at_terminal("git gittuf key", clones.path(who))
+    want((status, "is spoilt: its leaf " in said, "signatures left" in said), (0, True, False), f"what key says of it: {said}")
 
 
 def signs_with_no_older_copy(repositories):

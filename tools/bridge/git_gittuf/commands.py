@@ -52,6 +52,9 @@ def key(work, words):
     print(key_id if words.id else public if words.public else f"key {key_id} {public}")
     if words.id or words.public:
         return
+    if not is_new and (said := leaves.spoilt(work.repository, path)):
+        say(f"{said}; it signs nothing more: git gittuf key --file <another path> makes another, for policy person")
+        return
     left, all_of_them = keys.signatures_left(path)
     begins = "It is new, stands" if is_new else "It was there already, stands"
     say(f"{begins} at {path}, and has {left} of {all_of_them} signatures left. Never copy it: a copy would sign twice.")
