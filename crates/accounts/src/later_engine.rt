@@ -7,19 +7,19 @@ ghost use Rattle.git_object.specs.Repository.{Repository};
 ghost use Rattle.keeper_api.specs.Faults.{keeper_failed};
 ghost use Rattle.keeper_api.specs.Undisturbed.{Undisturbed};
 ghost use Rattle.rsl_chain.specs.Entries.{Taken};
-ghost use Rattle.tree_paths.specs.Known.{AreKnownIn};
 ghost use Rattle.judging.specs.Engines.{IsTaken, Stands, has_taken, taken};
 ghost use Rattle.judging.specs.Logs.{above, policy_after};
 ghost use Rattle.judging.specs.Reads.{is_bounded};
 ghost use Rattle.judging.specs.Rules.{Rules};
 ghost use Rattle.policy_epochs.specs.declared.policies.Policy.{Policy};
+ghost use Rattle.entry_rules.specs.Learning.{AreKnownIn};
 ghost use Rattle.entry_rules.specs.RealRules.{real_rules};
 ghost use Rattle.entry_rules.specs.declared.faults.Fault.{Fault};
 ghost use Rattle.verify_ref.specs.Logs.{comes_next};
 ghost use Rattle.verify_ref.specs.Reading.{extending_reads, learning_reads};
 ghost use Rattle.judged_logs.specs.LaterRules.{AreNumbered, rules_from};
 
-use entry_rules::{EntryRules, Fault, KnowingRules};
+use entry_rules::{EntryRules, Fault, KnowingRules, Learned, Lesson, LessonStore};
 use git_object::RefName;
 use judged_logs::LaterRules;
 use judging::{EntryVerdict, JudgeFault};
@@ -28,16 +28,15 @@ use policy_epochs::Policy;
 use root_metadata::KeyIds;
 use rsl_chain::{Entry, EntryBody};
 use std::alloc::Global;
-use tree_paths::{KnownTrees, learn};
 use verify_ref::LogEngine;
 
 /// Takes the entries of a log one after the other, and judges those from a number on, and the policy's; with what is
-/// known of the trees of the store.
+/// learned of the store.
 #[derive(Drop)]
 pub struct LaterEngine {
     first: u64,
     rules: EntryRules,
-    known: KnownTrees,
+    known: Learned,
     entries: LogEngine,
 }
 
@@ -57,7 +56,7 @@ fn stands_later(entries: &LogEngine, first: u64, name: &RefName) -> bool
 fn learn_before<R: Keeper>(
     alloc: Global,
     keeper: &mut R,
-    known: &mut KnownTrees,
+    known: &mut Learned,
     entries: &LogEngine,
     first: u64,
     entry: &Entry,
@@ -79,7 +78,7 @@ fn learn_before<R: Keeper>(
                 return Ok(());
             }
             match entries.prior_target(name) {
-                Some(from) => learn(alloc, keeper, known, &from),
+                Some(from) => known.learn(alloc, keeper, &from),
                 None => Ok(()),
             }
         }
@@ -104,7 +103,7 @@ impl LaterEngine {
         LaterEngine {
             first,
             rules: EntryRules::new(anchor),
-            known: KnownTrees::new(alloc),
+            known: Learned::new(alloc),
             entries: LogEngine::new(alloc),
         }
     }
@@ -179,6 +178,10 @@ impl LaterEngine {
             Ok(()) => {}
             Err(fault) => return Err(fault),
         }
+        let mut store = LessonStore {
+            keeper,
+            lesson: Lesson::none(),
+        };
         let judge = LaterRules {
             judge: KnowingRules {
                 rules: &self.rules,
@@ -186,7 +189,9 @@ impl LaterEngine {
             },
             first: self.first,
         };
-        match self.entries.extend(alloc, &judge, keeper, entry) {
+        let verdict = self.entries.extend(alloc, &judge, &mut store, entry);
+        self.known.take(alloc, store.lesson);
+        match verdict {
             Ok(verdict) => Ok(verdict),
             Err(JudgeFault::Failed) => Err(KeeperFault::Failed),
             Err(JudgeFault::Memory) => Err(KeeperFault::Memory),

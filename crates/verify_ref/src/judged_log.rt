@@ -8,7 +8,6 @@ ghost use Rattle.keeper_api.specs.Faults.{keeper_failed};
 ghost use Rattle.keeper_api.specs.Undisturbed.{Undisturbed};
 ghost use Rattle.rsl_chain.specs.Entries.{Taken};
 ghost use Rattle.rsl_chain.specs.declared.entries.Entry.{Entry};
-ghost use Rattle.tree_paths.specs.Known.{AreKnownIn};
 ghost use Rattle.rsl_chain.specs.Logs.{IsLogOf, IsNamed, IsUnbroken, entry_at, log_failed};
 ghost use Rattle.judging.specs.Engines.{IsTaken, Stands, has_taken, taken};
 ghost use Rattle.judging.specs.Reads.{decision_reads_of, is_bounded};
@@ -16,18 +15,18 @@ ghost use Rattle.judging.specs.Verdicts.{verdict_of};
 ghost use Rattle.judging.specs.Rules.{Rules};
 ghost use Rattle.policy_epochs.specs.declared.policies.Policy.{Policy};
 ghost use Rattle.entry_rules.specs.declared.faults.Fault.{Fault};
+ghost use Rattle.entry_rules.specs.Learning.{AreKnownIn};
 ghost use Rattle.entry_rules.specs.RealRules.{real_rules};
 ghost use Rattle.verify_ref.specs.Logs.{AreEntries, BreaksAt, IsAstray, TakesNext, comes_next};
 ghost use Rattle.verify_ref.specs.Reading.{AreBounded, extending_reads, judging_reads, learning_reads};
 
-use entry_rules::{EntryRules, Fault, KnowingRules};
+use entry_rules::{EntryRules, Fault, KnowingRules, Learned, Lesson, LessonStore};
 use git_object::ObjectId;
 use judging::{Engine, EntryVerdict, JudgeFault};
 use keeper_api::{Keeper, KeeperFault};
 use policy_epochs::Policy;
 use rsl_chain::{Entry, EntryBody, LogFault, read_entry};
 use std::alloc::Global;
-use tree_paths::{KnownTrees, learn};
 
 /// The engine of judging over policies.
 pub type LogEngine = Engine<Policy, Fault>;
@@ -45,7 +44,7 @@ pub(crate) fn comes_next(engine: &LogEngine, entry: &Entry) -> bool
 fn learn_before<R: Keeper>(
     alloc: Global,
     keeper: &mut R,
-    known: &mut KnownTrees,
+    known: &mut Learned,
     engine: &LogEngine,
     entry: &Entry,
 ) -> Result<(), KeeperFault>
@@ -63,7 +62,7 @@ fn learn_before<R: Keeper>(
                 return Ok(());
             }
             match engine.prior_target(name) {
-                Some(from) => learn(alloc, keeper, known, &from),
+                Some(from) => known.learn(alloc, keeper, &from),
                 None => Ok(()),
             }
         }
@@ -75,13 +74,13 @@ fn learn_before<R: Keeper>(
     }
 }
 
-/// Takes the next entry by the rules, with what is known of the trees then. After a refusal the engine stands for the
+/// Takes the next entry by the rules, with what was learned before it, and learns of it. After a refusal the engine stands for the
 /// list that it stood for.
 pub(crate) fn extend_by<R: Keeper>(
     alloc: Global,
     keeper: &mut R,
     rules: &EntryRules,
-    known: &mut KnownTrees,
+    known: &mut Learned,
     engine: &mut LogEngine,
     entry: &Entry,
 ) -> Result<EntryVerdict<Fault>, KeeperFault>
@@ -107,8 +106,14 @@ pub(crate) fn extend_by<R: Keeper>(
         Ok(()) => {}
         Err(fault) => return Err(fault),
     }
+    let mut store = LessonStore {
+        keeper,
+        lesson: Lesson::none(),
+    };
     let judge = KnowingRules { rules, known };
-    match engine.extend(alloc, &judge, keeper, entry) {
+    let verdict = engine.extend(alloc, &judge, &mut store, entry);
+    known.take(alloc, store.lesson);
+    match verdict {
         Ok(verdict) => Ok(verdict),
         Err(JudgeFault::Failed) => Err(KeeperFault::Failed),
         Err(JudgeFault::Memory) => Err(KeeperFault::Memory),
@@ -120,7 +125,7 @@ pub(crate) fn look_by<R: Keeper>(
     alloc: Global,
     keeper: &mut R,
     rules: &EntryRules,
-    known: &KnownTrees,
+    known: &Learned,
     engine: &LogEngine,
     entry: &Entry,
 ) -> Result<EntryVerdict<Fault>, KeeperFault>
@@ -138,8 +143,12 @@ pub(crate) fn look_by<R: Keeper>(
         → R.reads keeper.new ≤ R.reads keeper.old + decision_reads_of (real_rules rules.now.anchor) log
         (record { entry = entry.now; repository = r })) }
 {
+    let mut store = LessonStore {
+        keeper,
+        lesson: Lesson::none(),
+    };
     let judge = KnowingRules { rules, known };
-    match engine.look(alloc, &judge, keeper, entry) {
+    match engine.look(alloc, &judge, &mut store, entry) {
         Ok(verdict) => Ok(verdict),
         Err(JudgeFault::Failed) => Err(KeeperFault::Failed),
         Err(JudgeFault::Memory) => Err(KeeperFault::Memory),
@@ -151,7 +160,7 @@ fn take<R: Keeper>(
     alloc: Global,
     keeper: &mut R,
     rules: &EntryRules,
-    known: &mut KnownTrees,
+    known: &mut Learned,
     engine: &mut LogEngine,
     id: &ObjectId,
 ) -> Result<(), LogFault>
@@ -201,7 +210,7 @@ fn take_all<R: Keeper>(
         → AreEntries r ids.now log → AreBounded (real_rules rules.now.anchor) log
         → R.reads keeper.new ≤ R.reads keeper.old + judging_reads (real_rules rules.now.anchor) log) }
 {
-    let mut known = KnownTrees::new(alloc);
+    let mut known = Learned::new(alloc);
     'ids: for id in ids {
         match take(alloc, keeper, rules, &mut known, engine, id) {
             Ok(()) => {}

@@ -5,7 +5,7 @@ use Rattle.tree_paths.specs.Repositories.{readings_of}
 use Rattle.tree_paths.specs.States.{walk_of}
 use Rattle.policy_reading.proofs.Told.{told_readings}
 use Rattle.entry_rules.proofs.Comparing.{sound_changed}
-use Rattle.entry_rules.proofs.finding.compared.Goals as goal
+use Rattle.entry_rules.proofs.targets.compared.Goals as goal
 
 -- what follows of two facts of an answer
 by_both : {T E : Type 0} (P Q : T → Type 0) (S : Type 0) → (result : Result T E) → IfOk result P → IfOk result Q → ((x : T) → P x → Q x → S) → OnOk result S
