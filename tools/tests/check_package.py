@@ -113,6 +113,23 @@ def files_below(place):
     return sorted(os.path.relpath(os.path.join(at, it), place) for at, _, files in os.walk(place) for it in files)
 
 
+def command_names():
+    """The names of the program's commands, as its definitions have them."""
+    found = re.findall(r'^name_text .* = codes "([a-z-]+)"$', text_of("crates", "command_words", "specs", "FirstWords.antt"), re.MULTILINE)
+    if len(found) < 2 or len(set(found)) != len(found):
+        raise Failure(f"the names of commands in FirstWords.antt are {found}")
+    return found
+
+
+def lists_of_commands():
+    """What lists commands: its name, its text, and the form in which a command's name stands there."""
+    yield "gittuf-program.1", text_of("man", "gittuf-program.1"), r"^\.It Cm {}\b"
+    yield "_gittuf", text_of("completion", "_gittuf"), r"^  '{}:"
+    yield "gittuf.bash", text_of("completion", "gittuf.bash"), r"(?<![\w-]){}(?![\w-])"
+    yield "PROGRAM.md", text_of("docs", "PROGRAM.md"), r"^\| .*`{}[`, ]"
+    yield "FORMATS.md", text_of("docs", "FORMATS.md"), r"^\| `{}[` ]"
+
+
 def has_pages(repositories):
     """the manual pages are read without a warning, and name each word and command"""
     for it in PAGES:
@@ -131,11 +148,11 @@ def has_pages(repositories):
     for it in WORDS:
         want(bool(re.search(rf"\.(It )?Cm .*\b{it}\b", page)), True, f"whether the page has the word {it}")
         want(bool(re.search(rf"^  {it}\b", use, re.MULTILINE)), True, f"whether -h has the word {it}")
+    names = command_names()
     listed = text_of("gittuf").split("Commands:\n")[1].split("\n\n")[0]
-    commands = re.findall(r"^  ([a-z-]+) ", listed, re.MULTILINE)
-    want(len(set(commands)), 19, "how many commands --help lists")
-    for it in commands:
-        want(bool(re.search(rf"^\.It Cm {it}\b", text_of("man", "gittuf-program.1"), re.MULTILINE)), True, f"whether the page has {it}")
+    want(set(re.findall(r"^  ([a-z-]+) ", listed, re.MULTILINE)), set(names), "the commands that --help lists")
+    for where, text, form in lists_of_commands():
+        want([it for it in names if not re.search(form.format(re.escape(it)), text, re.MULTILINE)], [], f"the commands that {where} lacks")
     return "by mandoc" if shutil.which("mandoc") else "by groff"
 
 
