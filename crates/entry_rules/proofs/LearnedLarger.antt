@@ -1,5 +1,6 @@
 -- What was learned of a repository is so in a larger one.
 use Rattle.std.proofs.Common.{◌≡◌, ℕ, true, List, [], ◌∷◌, Option, Some, None, refl, sym, ap, subst, ◌∙◌}
+use Rattle.std.specs.Prelude.{IfSome}
 use Rattle.std.specs.List.{AllByRecursion}
 use Rattle.git_object.specs.Repository.{Repository}
 use Rattle.keeper_api.specs.Growing.{Larger}
@@ -12,9 +13,9 @@ use Rattle.tree_paths.specs.Roots.{root_ended}
 use Rattle.tree_paths.specs.States.{Ended, is_sound, map_at}
 use Rattle.tree_paths.proofs.GrowingPeels.{tree_same}
 use Rattle.tree_paths.proofs.GrowingReadings.{known_same, more_read}
-use Rattle.entry_rules.specs.Learning.{AreKnownIn, AreWhole, Hold, IsFirst, IsRow}
+use Rattle.entry_rules.specs.Learning.{AreKnownIn, AreWhole, IsFirst, IsRow}
 use Rattle.entry_rules.specs.declared.known_changes.FirstUnmet.{FirstUnmet}
-use Rattle.entry_rules.specs.declared.known_changes.KnownChanges.{KnownChanges}
+use Rattle.entry_rules.specs.declared.known_changes.KnownChange.{KnownChange}
 use Rattle.entry_rules.specs.declared.learned.Learned.{Learned}
 use Rattle.entry_rules.specs.declared.roots.Roots.{Roots}
 
@@ -39,22 +40,16 @@ module _ (few more : Readings) (grown : MoreReadings few more) where
     is = is.is;
   }
 
-  all_whole : (rows : List Roots) → AllByRecursion (AreWhole few.trees) rows → AllByRecursion (AreWhole more.trees) rows
-  all_whole [] all = tt
-  all_whole (row ∷ rows) all = (whole_same row all.0, all_whole rows all.1)
+  found_same : (files : List RuleFile) (roots : Roots) (found : Option FirstUnmet) → IfSome found (λ f. IsFirst few.trees files f.signers roots f.first) → IfSome found (λ f. IsFirst more.trees files f.signers roots f.first)
+  found_same files roots None is = tt
+  found_same files roots (Some f) is = first_same files f.signers roots f.first is
 
-  all_firsts : (files : List RuleFile) (rows : List FirstUnmet) → AllByRecursion (IsRow few.trees files) rows → AllByRecursion (IsRow more.trees files) rows
-  all_firsts files [] all = tt
-  all_firsts files (row ∷ rows) all = (first_same files row.signers row.roots row.first all.0, all_firsts files rows all.1)
-
-  hold_same : (changes : KnownChanges) → Hold few.trees changes → Hold more.trees changes
-  hold_same changes hold = record {
-    whole = all_whole changes.whole hold.whole;
-    firsts = all_firsts changes.files changes.firsts hold.firsts;
-  }
+  hold_same : (files : List RuleFile) (rows : List KnownChange) → AllByRecursion (IsRow few.trees files) rows → AllByRecursion (IsRow more.trees files) rows
+  hold_same files [] all = tt
+  hold_same files (row ∷ rows) all = (record { whole = whole_same row.roots all.0.whole; found = found_same files row.roots row.found all.0.found }, hold_same files rows all.1)
 
 pub learned_same : (small large : Repository) (learned : Learned) → Larger small large → AreKnownIn small learned → AreKnownIn large learned
 learned_same small large learned grown all = record {
   trees = known_same small large learned.trees grown all.trees;
-  changes = hold_same (readings_of small) (readings_of large) (more_read small large grown) learned.changes all.changes;
+  changes = hold_same (readings_of small) (readings_of large) (more_read small large grown) learned.changes.files learned.changes.rows all.changes;
 }

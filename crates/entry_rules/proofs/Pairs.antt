@@ -1,5 +1,5 @@
 -- What is known of a pair of trees is so of it in the other order.
-use Rattle.std.proofs.Common.{◌≡◌, ◌≢◌, ℕ, true, List, Option, inl, inr, sym, subst}
+use Rattle.std.proofs.Common.{◌≡◌, ℕ, true, List, Option, inl, inr, sym, subst}
 use Rattle.octets.specs.BytesMap.{BytesMap}
 use Rattle.rule_files.specs.declared.rules.RuleFile.{RuleFile}
 use Rattle.tree_paths.specs.Changes.{AreChanged}
@@ -21,7 +21,7 @@ module _ (trees : Trees) (row roots : Roots) (pair : IsPair row roots) where
   sound o p same is = subst (λ (x : Option (List ℕ)). is_sound (root_ended trees x) ≡ true) same is
 
   pub whole_pair : AreWhole trees row → AreWhole trees roots
-  whole_pair whole = elim pair is [
+  whole_pair whole = elim pair [
     | inl same ↦ record { from_whole = sound row.from roots.from same.0 whole.from_whole; to_whole = sound row.to roots.to same.1 whole.to_whole }
     | inr other ↦ record { from_whole = sound row.to roots.from other.1 whole.to_whole; to_whole = sound row.from roots.to other.0 whole.from_whole }
   ]
@@ -34,7 +34,7 @@ module _ (trees : Trees) (row roots : Roots) (pair : IsPair row roots) where
       subst (λ (x : Option (List ℕ)). Changed c x paths) second (subst (λ (x : Option (List ℕ)). Changed x b paths) first are)
 
   pub changed_pair : (paths : List (List ℕ)) → Changed row.from row.to paths → Changed roots.from roots.to paths
-  changed_pair paths are = elim pair is [
+  changed_pair paths are = elim pair [
     | inl same ↦ moved row.from row.to roots.from roots.to paths same.0 same.1 are
     | inr other ↦ moved row.to row.from roots.from roots.to paths other.1 other.0 (turned (map_at (root_ended trees row.from)) (map_at (root_ended trees row.to)) paths are)
   ]

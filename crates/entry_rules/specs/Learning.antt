@@ -1,6 +1,6 @@
 -- What is learned of the states of a repository: its trees, which pairs of them are whole, and which of the paths at
 -- which two differ is the first that signers do not meet.
-use Rattle.std.specs.Prelude.{◌≡◌, ◌×◌, ◌⊎◌, ℕ, true, List, Option, Some, IfSome}
+use Rattle.std.specs.Prelude.{◌≡◌, ◌⊎◌, ℕ, true, List, Option, Some, IfSome}
 use Rattle.std.specs.List.{AllByRecursion, find}
 use Rattle.git_object.specs.Repository.{Repository}
 use Rattle.keeper_api.specs.declared.keepers.Keeper as keeper
@@ -12,7 +12,7 @@ use Rattle.tree_paths.specs.Repositories.{readings_of}
 use Rattle.tree_paths.specs.Roots.{root_ended}
 use Rattle.tree_paths.specs.States.{is_sound, map_at, walk_of}
 use Rattle.entry_rules.specs.Changing.{is_unmet}
-use Rattle.entry_rules.specs.declared.known_changes.FirstUnmet.{FirstUnmet}
+use Rattle.entry_rules.specs.declared.known_changes.KnownChange.{KnownChange}
 use Rattle.entry_rules.specs.declared.known_changes.KnownChanges.{KnownChanges}
 use Rattle.entry_rules.specs.declared.known_changes.Lesson.{Lesson}
 use Rattle.entry_rules.specs.declared.known_changes.Taught.{Taught}
@@ -41,26 +41,21 @@ pub record IsFirst (trees : Trees) (files : List RuleFile) (signers : List (List
   pub changed : AreChanged (map_at (root_ended trees roots.from)) (map_at (root_ended trees roots.to)) paths
   pub is : first ≡ find (is_unmet files signers) paths
 
--- a row is of these signers and of these trees
-pub record IsFound (row : FirstUnmet) (signers : List (List ℕ)) (roots : Roots) : Type 0 where
-  pub pair : IsPair row.roots roots
-  pub signers_are : row.signers ≡ signers
+-- a row of what is known
+pub record IsRow (trees : Trees) (files : List RuleFile) (row : KnownChange) : Type 0 where
+  pub whole : AreWhole trees row.roots
+  pub found : IfSome row.found (λ found. IsFirst trees files found.signers row.roots found.first)
 
-abbrev pub IsRow : Trees → List RuleFile → FirstUnmet → Type 0
-IsRow trees files row = IsFirst trees files row.signers row.roots row.first
-
--- what is known of pairs of trees is so
-pub record Hold (trees : Trees) (changes : KnownChanges) : Type 0 where
-  pub whole : AllByRecursion (AreWhole trees) changes.whole
-  pub firsts : AllByRecursion (IsRow trees changes.files) changes.firsts
+-- what is known of changes is so
+abbrev pub Hold : Trees → KnownChanges → Type 0
+Hold trees changes = AllByRecursion (IsRow trees changes.files) changes.rows
 
 -- what an entry taught is so
 abbrev pub IsTaught : Trees → Taught → Type 0
 IsTaught trees taught = IsRow trees taught.files taught.row
 
-pub record IsLesson (trees : Trees) (lesson : Lesson) : Type 0 where
-  pub whole : IfSome lesson.whole (AreWhole trees)
-  pub first : IfSome lesson.first (IsTaught trees)
+abbrev pub IsLesson : Trees → Lesson → Type 0
+IsLesson trees lesson = IfSome lesson.taught (IsTaught trees)
 
 -- what was learned is so in this repository
 pub record AreKnownIn (r : Repository) (learned : Learned) : Type 0 where

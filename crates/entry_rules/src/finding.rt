@@ -47,7 +47,7 @@ fn find_changed<R: Keeper>(
 ) -> Result<Found, KeeperFault>
     requires compared { (r : Repository) → R.content keeper.old ≡ Some r
         → IsComparison (walk_of (readings_of r) from.now) (walk_of (readings_of r) target.now) comparison }
-    requires roots { IfSome (option_copied roots.entry) (λ roots. (r : Repository) → R.content keeper.old ≡ Some r
+    requires roots { IfSome (option_copied roots) (λ roots. (r : Repository) → R.content keeper.old ≡ Some r
         → AreRoots (readings_of r) from.now target.now roots) }
     ensures fault { IfOk result (λ found. (r : Repository) → R.content keeper.new ≡ Some r
         → found.finding.fault ≡ body_fault r policy.now entry.now from.now (option_copied attested.entry)

@@ -206,15 +206,7 @@ impl<'a, 's, R: Keeper> Judge<Policy, Fault, LessonStore<'s, R>> for KnowingRule
         from: &ObjectId,
         attested: Option<&ObjectId>,
     ) -> Result<Finding<Fault>, JudgeFault> {
-        let found = judged(find(
-            alloc,
-            store.keeper,
-            self,
-            policy,
-            entry,
-            from,
-            attested,
-        ))?;
+        let found = judged(find(alloc, store.keeper, self, policy, entry, from, attested))?;
         store.lesson = found.lesson;
         Ok(found.finding)
     }
@@ -226,13 +218,7 @@ impl<'a, 's, R: Keeper> Judge<Policy, Fault, LessonStore<'s, R>> for KnowingRule
         from: &ObjectId,
         to: &ObjectId,
     ) -> Result<bool, JudgeFault> {
-        judged(has_same_tree(
-            alloc,
-            store.keeper,
-            &self.known.trees,
-            from,
-            to,
-        ))
+        judged(has_same_tree(alloc, store.keeper, &self.known.trees, from, to))
     }
 
     fn no_policy(&self) -> Fault {

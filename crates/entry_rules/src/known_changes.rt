@@ -1,6 +1,6 @@
 //! What is known of changes between the trees of two targets.
 
-ghost use Rattle.std.specs.Prelude.{◌≡◌, ◌×◌, List, IfOk, IfSome, IsTrue};
+ghost use Rattle.std.specs.Prelude.{◌≡◌, List, IfOk, IfSome, IsTrue};
 ghost use Rattle.std.specs.List.{AllByRecursion};
 ghost use Rattle.std.specs.Option.{option_copied};
 ghost use Rattle.tree_paths.specs.Changes.{AreChanged};
@@ -8,7 +8,7 @@ ghost use Rattle.tree_paths.specs.Readings.{Trees};
 ghost use Rattle.tree_paths.specs.Roots.{root_ended};
 ghost use Rattle.tree_paths.specs.States.{map_at};
 ghost use Rattle.rule_files.specs.declared.rules.RuleFile.{RuleFile};
-ghost use Rattle.entry_rules.specs.Learning.{AreWhole, Hold, IsFirst, IsFound, IsLesson, IsRow, IsTaught};
+ghost use Rattle.entry_rules.specs.Learning.{AreWhole, Hold, IsFirst, IsLesson, IsRow, IsTaught};
 
 use crate::Fault;
 use crate::known_paths::{KnownPaths, MANY, first_known};
@@ -21,39 +21,42 @@ use rule_delegations::Rules;
 use rule_files::RuleFiles;
 use std::alloc::Global;
 
-// The most rows of a kind.
+// The most rows.
 const MOST_ROWS: usize = 1024;
 
-/// Signers, the trees of two targets, and the first of the paths at which these differ that the signers do not meet.
+/// Signers, and the first of some changed paths that they do not meet.
 #[derive(Drop)]
 pub struct FirstUnmet {
     pub(crate) signers: KeyIds,
-    pub(crate) roots: Roots,
     pub(crate) first: Option<Octets>,
+}
+
+/// The trees of two targets whose states are whole, and what was found of the paths at which they differ.
+#[derive(Drop)]
+pub struct KnownChange {
+    pub(crate) roots: Roots,
+    pub(crate) found: Option<FirstUnmet>,
 }
 
 /// Such a row with the rule files by which it was found.
 #[derive(Drop)]
 pub struct Taught {
     pub(crate) files: RuleFiles,
-    pub(crate) row: FirstUnmet,
+    pub(crate) row: KnownChange,
 }
 
-/// What an entry taught: trees of two targets that are whole, and what was found of their change.
+/// What an entry taught.
 #[derive(Drop)]
 pub struct Lesson {
-    pub(crate) whole: Option<Roots>,
-    pub(crate) first: Option<Taught>,
+    pub(crate) taught: Option<Taught>,
 }
 
-/// What is known of changes: pairs of trees that are whole, and what was found of them by some rule files, at most 1,024
-/// rows of each. Where there is no room for one more, those of its kind are let go first, and by other rule files those
-/// that were found.
+/// What is known of changes by some rule files, at most 1,024 rows. Where there is no room for one more, or one of other
+/// rule files comes, all are let go first.
 #[derive(Drop)]
 pub struct KnownChanges {
-    pub(crate) whole: Items<Roots>,
     pub(crate) files: RuleFiles,
-    pub(crate) firsts: Items<FirstUnmet>,
+    pub(crate) rows: Items<KnownChange>,
 }
 
 impl Lesson {
@@ -61,45 +64,44 @@ impl Lesson {
     pub fn none() -> Lesson
         ensures { (trees : Trees) → IsLesson trees result }
     {
-        Lesson {
-            whole: None,
-            first: None,
-        }
+        Lesson { taught: None }
     }
 }
 
-// The rows of a pair among those that are known to be whole.
-fn has_pair(rows: &[Roots], roots: &Roots) -> bool
-    ensures { IsTrue result → (trees : Trees) → AllByRecursion (AreWhole trees) rows.now → AreWhole trees roots.now }
+fn has_pair(rows: &[KnownChange], roots: &Roots) -> bool
+    ensures { IsTrue result → (trees : Trees) (files : List RuleFile) → AllByRecursion (IsRow trees files) rows.now
+        → AreWhole trees roots.now }
 {
     'rows: for row in rows {
-        if is_pair(row, roots) {
+        if is_pair(&row.roots, roots) {
             return true;
         }
     }
     false
 }
 
-fn is_row_of(row: &FirstUnmet, signers: &KeyIds, roots: &Roots) -> bool
-    ensures { IsTrue result → IsFound row.now signers.now roots.now }
+// What a row has of these signers and this pair of trees.
+fn found_in<'k>(row: &'k KnownChange, signers: &KeyIds, roots: &Roots) -> Option<&'k FirstUnmet>
+    ensures { IfSome (option_copied result) (λ found. (trees : Trees) (files : List RuleFile) → IsRow trees files row.now
+        → IsFirst trees files signers.now roots.now found.first) }
 {
     if !is_pair(&row.roots, roots) {
-        return false;
+        return None;
     }
-    same_items(row.signers.as_slice(), signers.as_slice())
+    let found = row.found.as_ref()?;
+    if !same_items(found.signers.as_slice(), signers.as_slice()) {
+        return None;
+    }
+    Some(found)
 }
 
-fn find_row<'k>(
-    rows: &'k [FirstUnmet],
-    signers: &KeyIds,
-    roots: &Roots,
-) -> Option<&'k FirstUnmet>
-    ensures { IfSome (option_copied result) (λ row. (trees : Trees) (files : List RuleFile)
-        → AllByRecursion (IsRow trees files) rows.now → IsFirst trees files signers.now roots.now row.first) }
+fn find_row<'k>(rows: &'k [KnownChange], signers: &KeyIds, roots: &Roots) -> Option<&'k FirstUnmet>
+    ensures { IfSome (option_copied result) (λ found. (trees : Trees) (files : List RuleFile)
+        → AllByRecursion (IsRow trees files) rows.now → IsFirst trees files signers.now roots.now found.first) }
 {
     'rows: for row in rows {
-        if is_row_of(row, signers, roots) {
-            return Some(row);
+        if let Some(found) = found_in(row, signers, roots) {
+            return Some(found);
         }
     }
     None
@@ -111,9 +113,8 @@ impl KnownChanges {
         ensures { (trees : Trees) → Hold trees result }
     {
         KnownChanges {
-            whole: Items::new(alloc),
             files: RuleFiles::new(alloc),
-            firsts: Items::new(alloc),
+            rows: Items::new(alloc),
         }
     }
 
@@ -121,7 +122,7 @@ impl KnownChanges {
     pub(crate) fn are_whole(&self, roots: &Roots) -> bool
         ensures { IsTrue result → (trees : Trees) → Hold trees self.now → AreWhole trees roots.now }
     {
-        has_pair(self.whole.as_slice(), roots)
+        has_pair(self.rows.as_slice(), roots)
     }
 
     /// The first of the paths at which two trees differ that the signers do not meet, where it is known.
@@ -134,72 +135,67 @@ impl KnownChanges {
         ensures { IfSome (option_copied result) (λ first. (trees : Trees) → Hold trees self.now
             → IsFirst trees rules.now signers.now roots.now first) }
     {
-        let row = find_row(self.firsts.as_slice(), signers, roots)?;
+        let found = find_row(self.rows.as_slice(), signers, roots)?;
         if !same_items(self.files.as_slice(), rules.files()) {
             return None;
         }
-        Some(&row.first)
+        Some(&found.first)
     }
 
-    fn keep_whole(&mut self, alloc: Global, roots: Roots)
-        ensures { (trees : Trees) → Hold trees self.old → AreWhole trees roots → Hold trees self.new }
-    {
-        if self.whole.len() >= MOST_ROWS {
-            self.whole = Items::new(alloc);
-        }
-        let _kept = self.whole.push(roots);
-    }
-
-    fn keep_first(&mut self, alloc: Global, taught: Taught)
+    fn keep(&mut self, alloc: Global, taught: Taught)
         ensures { (trees : Trees) → Hold trees self.old → IsTaught trees taught → Hold trees self.new }
     {
-        if !same_items(self.files.as_slice(), taught.files.as_slice()) {
-            self.files = taught.files;
-            self.firsts = Items::new(alloc);
-        } else if self.firsts.len() >= MOST_ROWS {
-            self.firsts = Items::new(alloc);
+        let Taught { files, row } = taught;
+        if !same_items(self.files.as_slice(), files.as_slice()) {
+            self.files = files;
+            self.rows = Items::new(alloc);
+        } else if self.rows.len() >= MOST_ROWS {
+            self.rows = Items::new(alloc);
         }
-        let _kept = self.firsts.push(taught.row);
+        let _kept = self.rows.push(row);
     }
 
     /// Keeps what an entry taught, unless memory is wanting.
     pub(crate) fn take(&mut self, alloc: Global, lesson: Lesson)
         ensures { (trees : Trees) → Hold trees self.old → IsLesson trees lesson → Hold trees self.new }
     {
-        if let Some(roots) = lesson.whole {
-            self.keep_whole(alloc, roots);
-        }
-        if let Some(taught) = lesson.first {
-            self.keep_first(alloc, taught);
+        match lesson.taught {
+            Some(taught) => self.keep(alloc, taught),
+            None => {}
         }
     }
 }
 
-// What is found of a change between the trees of two targets.
-fn taught(
+// What is found of a change between the trees of two targets; of its paths only where they were looked for.
+fn taught_by(
     alloc: Global,
     known: &KnownPaths,
     rules: &Rules,
     signers: &KeyIds,
     roots: &Roots,
     paths: &[Octets],
+    fault: &Option<Fault>,
 ) -> Result<Taught, Memory>
     ensures { IfOk result (λ taught. (trees : Trees) → AreWhole trees roots.now
         → AreChanged (map_at (root_ended trees roots.now.from)) (map_at (root_ended trees roots.now.to)) paths.now
         → IsTaught trees taught) }
 {
-    let first = first_known(known, alloc, rules, signers, paths)?;
     let mut files = RuleFiles::new(alloc);
     append_files(alloc, &mut files, rules.files())?;
-    let signers = signers.copy()?;
-    Ok(Taught {
-        files,
-        row: FirstUnmet {
-            signers,
+    if is_of_reference(fault) {
+        let row = KnownChange {
             roots: *roots,
-            first,
-        },
-    })
+            found: None,
+        };
+        return Ok(Taught { files, row });
+    }
+    let first = first_known(known, alloc, rules, signers, paths)?;
+    let signers = signers.copy()?;
+    let row = KnownChange {
+        roots: *roots,
+        found: Some(FirstUnmet { signers, first }),
+    };
+    Ok(Taught { files, row })
 }
 
 // Whether a fault is that of a reference, so that no path was looked for.
@@ -225,13 +221,7 @@ pub(crate) fn lesson_of(
     if paths.len() < MANY {
         return Lesson::none();
     }
-    let first = if is_of_reference(fault) {
-        None
-    } else {
-        taught(alloc, known, rules, signers, roots, paths).ok()
-    };
     Lesson {
-        whole: Some(*roots),
-        first,
+        taught: taught_by(alloc, known, rules, signers, roots, paths, fault).ok(),
     }
 }

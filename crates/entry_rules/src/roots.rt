@@ -18,7 +18,7 @@ use text_reader::same_bytes;
 use tree_paths::{Peeled, root_of};
 
 /// The trees of two targets, None where there is nothing.
-#[derive(Clone, Copy, Debug, Drop)]
+#[derive(Clone, Copy, Debug)]
 pub struct Roots {
     pub from: Option<ObjectId>,
     pub to: Option<ObjectId>,

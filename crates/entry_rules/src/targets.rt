@@ -144,4 +144,3 @@ pub fn find_broken<R: Keeper>(
         signers,
     })
 }
-
