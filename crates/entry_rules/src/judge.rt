@@ -185,7 +185,8 @@ impl<'a, 's, R: Keeper> Judge<Policy, Fault, LessonStore<'s, R>> for KnowingRule
 
     ghost reads = { λ s. R.reads s.keeper.now };
 
-    ghost comes = { λ s t. Leads R.Keeper s.keeper.now t.keeper.now s.lesson t.lesson };
+    ghost comes = { λ s t. Leads R.Keeper s.keeper.ghost_name t.keeper.ghost_name s.keeper.now t.keeper.now s.lesson
+        t.lesson };
 
     fn epoch(
         &self,

@@ -8,14 +8,15 @@ ghost use Rattle.keeper_api.specs.Faults.{keeper_failed};
 ghost use Rattle.keeper_api.specs.Undisturbed.{Undisturbed};
 ghost use Rattle.rsl_chain.specs.Entries.{Taken};
 ghost use Rattle.rsl_chain.specs.declared.entries.Entry.{Entry};
+ghost use Rattle.tree_paths.specs.Repositories.{readings_of};
 ghost use Rattle.rsl_chain.specs.Logs.{IsLogOf, IsNamed, IsUnbroken, entry_at, log_failed};
 ghost use Rattle.judging.specs.Engines.{IsTaken, Stands, has_taken, taken};
-ghost use Rattle.judging.specs.Reads.{decision_reads_of, is_bounded};
+ghost use Rattle.judging.specs.Reads.{decision_reads_of, is_bounded, reads_of};
 ghost use Rattle.judging.specs.Verdicts.{verdict_of};
 ghost use Rattle.judging.specs.Rules.{Rules};
 ghost use Rattle.policy_epochs.specs.declared.policies.Policy.{Policy};
 ghost use Rattle.entry_rules.specs.declared.faults.Fault.{Fault};
-ghost use Rattle.entry_rules.specs.Learning.{AreKnownIn};
+ghost use Rattle.entry_rules.specs.Learning.{AreKnownIn, IsLesson};
 ghost use Rattle.entry_rules.specs.RealRules.{real_rules};
 ghost use Rattle.verify_ref.specs.Logs.{AreEntries, BreaksAt, IsAstray, TakesNext, comes_next};
 ghost use Rattle.verify_ref.specs.Reading.{AreBounded, extending_reads, judging_reads, learning_reads};
@@ -74,6 +75,72 @@ fn learn_before<R: Keeper>(
     }
 }
 
+// Takes the next entry in a store that learns of it.
+fn extend_in<R: Keeper>(
+    alloc: Global,
+    store: &mut LessonStore<'_, R>,
+    judge: &KnowingRules<'_>,
+    engine: &mut LogEngine,
+    entry: &Entry,
+) -> Result<EntryVerdict<Fault>, KeeperFault>
+    requires next { entry.now.number ≡ taken engine.old + 1 }
+    requires fresh { has_taken engine.old entry.now.id ≡ false }
+    requires known { (r : Repository) → R.content store.old.keeper.now ≡ Some r → AreKnownIn r judge.now.known.now }
+    ensures same_reference { store.new.keeper.ghost_name ≡ store.old.keeper.ghost_name }
+    ensures taken { IfOk result (λ verdict. (r : Repository) (log : List Taken)
+        → R.content store.new.keeper.now ≡ Some r → Stands (real_rules judge.now.rules.now.anchor) log engine.old
+        → IsTaken (real_rules judge.now.rules.now.anchor) log (record { entry = entry.now; repository = r }) engine.new
+        verdict) }
+    ensures count { OnOk result (taken engine.new ≡ entry.now.number) }
+    ensures refused { OnErr result ((rules : Rules Policy Fault) (log : List Taken) → Stands rules log engine.old
+        → Stands rules log engine.new) }
+    ensures lesson { (r : Repository) → R.content store.new.keeper.now ≡ Some r
+        → IsLesson (readings_of r).trees store.old.lesson → IsLesson (readings_of r).trees store.new.lesson }
+    ensures same { Undisturbed R.Keeper store.old.keeper.now store.new.keeper.now }
+    ensures cause { HasCause keeper_failed (R.faults store.old.keeper.now) (R.faults store.new.keeper.now) result }
+    ensures reads { OnOk result ((r : Repository) (log : List Taken) → R.content store.new.keeper.now ≡ Some r
+        → Stands (real_rules judge.now.rules.now.anchor) log engine.old
+        → is_bounded (real_rules judge.now.rules.now.anchor) log (record { entry = entry.now; repository = r }) ≡ true
+        → R.reads store.new.keeper.now ≤ R.reads store.old.keeper.now + reads_of (real_rules judge.now.rules.now.anchor)
+        log (record { entry = entry.now; repository = r })) }
+{
+    match engine.extend(alloc, judge, store, entry) {
+        Ok(verdict) => Ok(verdict),
+        Err(JudgeFault::Failed) => Err(KeeperFault::Failed),
+        Err(JudgeFault::Memory) => Err(KeeperFault::Memory),
+    }
+}
+
+// What that would answer.
+fn look_in<R: Keeper>(
+    alloc: Global,
+    store: &mut LessonStore<'_, R>,
+    judge: &KnowingRules<'_>,
+    engine: &LogEngine,
+    entry: &Entry,
+) -> Result<EntryVerdict<Fault>, KeeperFault>
+    requires next { entry.now.number ≡ taken engine.now + 1 }
+    requires fresh { has_taken engine.now entry.now.id ≡ false }
+    requires known { (r : Repository) → R.content store.old.keeper.now ≡ Some r → AreKnownIn r judge.now.known.now }
+    ensures same_reference { store.new.keeper.ghost_name ≡ store.old.keeper.ghost_name }
+    ensures answer { IfOk result (λ verdict. (r : Repository) (log : List Taken)
+        → R.content store.new.keeper.now ≡ Some r → Stands (real_rules judge.now.rules.now.anchor) log engine.now
+        → verdict ≡ verdict_of (real_rules judge.now.rules.now.anchor) log (record { entry = entry.now; repository = r })) }
+    ensures same { Undisturbed R.Keeper store.old.keeper.now store.new.keeper.now }
+    ensures cause { HasCause keeper_failed (R.faults store.old.keeper.now) (R.faults store.new.keeper.now) result }
+    ensures reads { OnOk result ((r : Repository) (log : List Taken) → R.content store.new.keeper.now ≡ Some r
+        → Stands (real_rules judge.now.rules.now.anchor) log engine.now
+        → is_bounded (real_rules judge.now.rules.now.anchor) log (record { entry = entry.now; repository = r }) ≡ true
+        → R.reads store.new.keeper.now ≤ R.reads store.old.keeper.now
+        + decision_reads_of (real_rules judge.now.rules.now.anchor) log (record { entry = entry.now; repository = r })) }
+{
+    match engine.look(alloc, judge, store, entry) {
+        Ok(verdict) => Ok(verdict),
+        Err(JudgeFault::Failed) => Err(KeeperFault::Failed),
+        Err(JudgeFault::Memory) => Err(KeeperFault::Memory),
+    }
+}
+
 /// Takes the next entry by the rules, with what was learned before it, and learns of it. After a refusal the engine stands for the
 /// list that it stood for.
 pub(crate) fn extend_by<R: Keeper>(
@@ -111,13 +178,9 @@ pub(crate) fn extend_by<R: Keeper>(
         lesson: Lesson::none(),
     };
     let judge = KnowingRules { rules, known };
-    let verdict = engine.extend(alloc, &judge, &mut store, entry);
+    let verdict = extend_in(alloc, &mut store, &judge, engine, entry);
     known.take(alloc, store.lesson);
-    match verdict {
-        Ok(verdict) => Ok(verdict),
-        Err(JudgeFault::Failed) => Err(KeeperFault::Failed),
-        Err(JudgeFault::Memory) => Err(KeeperFault::Memory),
-    }
+    verdict
 }
 
 /// What `extend_by` would answer of the next entry. Nothing changes.
@@ -148,11 +211,7 @@ pub(crate) fn look_by<R: Keeper>(
         lesson: Lesson::none(),
     };
     let judge = KnowingRules { rules, known };
-    match engine.look(alloc, &judge, &mut store, entry) {
-        Ok(verdict) => Ok(verdict),
-        Err(JudgeFault::Failed) => Err(KeeperFault::Failed),
-        Err(JudgeFault::Memory) => Err(KeeperFault::Memory),
-    }
+    look_in(alloc, &mut store, &judge, engine, entry)
 }
 
 // Takes the entry at an id, where it is the next.
