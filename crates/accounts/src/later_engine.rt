@@ -7,12 +7,13 @@ ghost use Rattle.git_object.specs.Repository.{Repository};
 ghost use Rattle.keeper_api.specs.Faults.{keeper_failed};
 ghost use Rattle.keeper_api.specs.Undisturbed.{Undisturbed};
 ghost use Rattle.rsl_chain.specs.Entries.{Taken};
+ghost use Rattle.tree_paths.specs.Repositories.{readings_of};
 ghost use Rattle.judging.specs.Engines.{IsTaken, Stands, has_taken, taken};
 ghost use Rattle.judging.specs.Logs.{above, policy_after};
-ghost use Rattle.judging.specs.Reads.{is_bounded};
+ghost use Rattle.judging.specs.Reads.{is_bounded, reads_of};
 ghost use Rattle.judging.specs.Rules.{Rules};
 ghost use Rattle.policy_epochs.specs.declared.policies.Policy.{Policy};
-ghost use Rattle.entry_rules.specs.Learning.{AreKnownIn};
+ghost use Rattle.entry_rules.specs.Learning.{AreKnownIn, IsLesson};
 ghost use Rattle.entry_rules.specs.RealRules.{real_rules};
 ghost use Rattle.entry_rules.specs.declared.faults.Fault.{Fault};
 ghost use Rattle.verify_ref.specs.Logs.{comes_next};
@@ -87,6 +88,42 @@ fn learn_before<R: Keeper>(
             skip: _,
             message: _,
         } => Ok(()),
+    }
+}
+
+// Takes the next entry in a store that learns of it.
+fn extend_in<R: Keeper>(
+    alloc: Global,
+    store: &mut LessonStore<'_, R>,
+    judge: &LaterRules<KnowingRules<'_>>,
+    entries: &mut LogEngine,
+    entry: &Entry,
+) -> Result<EntryVerdict<Fault>, KeeperFault>
+    requires next { entry.now.number ≡ taken entries.old + 1 }
+    requires fresh { has_taken entries.old entry.now.id ≡ false }
+    requires known { (r : Repository) → R.content store.old.keeper.now ≡ Some r → AreKnownIn r judge.now.judge.known.now }
+    ensures same_reference { store.new.keeper.ghost_name ≡ store.old.keeper.ghost_name }
+    ensures taken { IfOk result (λ verdict. (r : Repository) (log : List Taken)
+        → R.content store.new.keeper.now ≡ Some r
+        → Stands (rules_from judge.now.first (real_rules judge.now.judge.rules.now.anchor)) log entries.old
+        → IsTaken (rules_from judge.now.first (real_rules judge.now.judge.rules.now.anchor)) log
+        (record { entry = entry.now; repository = r }) entries.new verdict) }
+    ensures lesson { (r : Repository) → R.content store.new.keeper.now ≡ Some r
+        → IsLesson (readings_of r).trees store.old.lesson → IsLesson (readings_of r).trees store.new.lesson }
+    ensures same { Undisturbed R.Keeper store.old.keeper.now store.new.keeper.now }
+    ensures cause { HasCause keeper_failed (R.faults store.old.keeper.now) (R.faults store.new.keeper.now) result }
+    ensures reads { OnOk result ((r : Repository) (log : List Taken) → R.content store.new.keeper.now ≡ Some r
+        → Stands (rules_from judge.now.first (real_rules judge.now.judge.rules.now.anchor)) log entries.old
+        → is_bounded (rules_from judge.now.first (real_rules judge.now.judge.rules.now.anchor)) log
+        (record { entry = entry.now; repository = r }) ≡ true
+        → R.reads store.new.keeper.now ≤ R.reads store.old.keeper.now
+        + reads_of (rules_from judge.now.first (real_rules judge.now.judge.rules.now.anchor)) log
+        (record { entry = entry.now; repository = r })) }
+{
+    match entries.extend(alloc, judge, store, entry) {
+        Ok(verdict) => Ok(verdict),
+        Err(JudgeFault::Failed) => Err(KeeperFault::Failed),
+        Err(JudgeFault::Memory) => Err(KeeperFault::Memory),
     }
 }
 
@@ -189,12 +226,8 @@ impl LaterEngine {
             },
             first: self.first,
         };
-        let verdict = self.entries.extend(alloc, &judge, &mut store, entry);
+        let verdict = extend_in(alloc, &mut store, &judge, &mut self.entries, entry);
         self.known.take(alloc, store.lesson);
-        match verdict {
-            Ok(verdict) => Ok(verdict),
-            Err(JudgeFault::Failed) => Err(KeeperFault::Failed),
-            Err(JudgeFault::Memory) => Err(KeeperFault::Memory),
-        }
+        verdict
     }
 }
