@@ -102,14 +102,16 @@ fn extend_in<R: Keeper>(
     requires next { entry.now.number ≡ taken entries.old + 1 }
     requires fresh { has_taken entries.old entry.now.id ≡ false }
     requires known { (r : Repository) → R.content store.old.keeper.now ≡ Some r → AreKnownIn r judge.now.judge.known.now }
-    ensures same_reference { store.new.keeper.ghost_name ≡ store.old.keeper.ghost_name }
+    ensures same_store { store.new.keeper.ghost_name ≡ store.old.keeper.ghost_name }
+    ensures same_lesson { store.new.lesson.ghost_name ≡ store.old.lesson.ghost_name }
     ensures taken { IfOk result (λ verdict. (r : Repository) (log : List Taken)
         → R.content store.new.keeper.now ≡ Some r
         → Stands (rules_from judge.now.first (real_rules judge.now.judge.rules.now.anchor)) log entries.old
         → IsTaken (rules_from judge.now.first (real_rules judge.now.judge.rules.now.anchor)) log
         (record { entry = entry.now; repository = r }) entries.new verdict) }
     ensures lesson { (r : Repository) → R.content store.new.keeper.now ≡ Some r
-        → IsLesson (readings_of r).trees store.old.lesson → IsLesson (readings_of r).trees store.new.lesson }
+        → IsLesson (readings_of r).trees store.old.lesson.now
+        → IsLesson (readings_of r).trees store.new.lesson.now }
     ensures same { Undisturbed R.Keeper store.old.keeper.now store.new.keeper.now }
     ensures cause { HasCause keeper_failed (R.faults store.old.keeper.now) (R.faults store.new.keeper.now) result }
     ensures reads { OnOk result ((r : Repository) (log : List Taken) → R.content store.new.keeper.now ≡ Some r
@@ -215,9 +217,10 @@ impl LaterEngine {
             Ok(()) => {}
             Err(fault) => return Err(fault),
         }
+        let mut lesson = Lesson::none();
         let mut store = LessonStore {
             keeper,
-            lesson: Lesson::none(),
+            lesson: &mut lesson,
         };
         let judge = LaterRules {
             judge: KnowingRules {
@@ -227,7 +230,7 @@ impl LaterEngine {
             first: self.first,
         };
         let verdict = extend_in(alloc, &mut store, &judge, &mut self.entries, entry);
-        self.known.take(alloc, store.lesson);
+        self.known.take(alloc, lesson);
         verdict
     }
 }

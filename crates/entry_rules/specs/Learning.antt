@@ -62,9 +62,12 @@ pub record AreKnownIn (r : Repository) (learned : Learned) : Type 0 where
   pub trees : trees_.AreKnownIn r learned.trees
   pub changes : Hold (readings_of r).trees learned.changes
 
--- a store that is lent is the same one, came by calls that make no commit, and was taught what the first was, or more
-pub record Leads {R : Type 0} (k : keeper.Ghosts R) (lent lent_now : ℕ) (old new : R) (was now : Lesson) : Type 0 where
+-- a store and a lesson that are lent are the same ones, it came by calls that make no commit, and what the first was taught
+-- is so, or more
+pub record Leads {R : Type 0} (k : keeper.Ghosts R) (lent lent_now taught taught_now : ℕ) (old new : R)
+    (was now : Lesson) : Type 0 where
   pub same : lent_now ≡ lent
+  pub same_lesson : taught_now ≡ taught
   pub comes : (first : R) → k.comes first old → k.comes first new
   pub lesson : (r : Repository) → k.content new ≡ Some r → IsLesson (readings_of r).trees was
       → IsLesson (readings_of r).trees now

@@ -185,8 +185,8 @@ impl<'a, 's, R: Keeper> Judge<Policy, Fault, LessonStore<'s, R>> for KnowingRule
 
     ghost reads = { λ s. R.reads s.keeper.now };
 
-    ghost comes = { λ s t. Leads R.Keeper s.keeper.ghost_name t.keeper.ghost_name s.keeper.now t.keeper.now s.lesson
-        t.lesson };
+    ghost comes = { λ s t. Leads R.Keeper s.keeper.ghost_name t.keeper.ghost_name s.lesson.ghost_name
+        t.lesson.ghost_name s.keeper.now t.keeper.now s.lesson.now t.lesson.now };
 
     fn epoch(
         &self,
@@ -208,7 +208,7 @@ impl<'a, 's, R: Keeper> Judge<Policy, Fault, LessonStore<'s, R>> for KnowingRule
         attested: Option<&ObjectId>,
     ) -> Result<Finding<Fault>, JudgeFault> {
         let found = judged(find(alloc, store.keeper, self, policy, entry, from, attested))?;
-        store.lesson = found.lesson;
+        *store.lesson = found.lesson;
         Ok(found.finding)
     }
 

@@ -24,11 +24,11 @@ pub struct Learned {
     pub(crate) changes: KnownChanges,
 }
 
-/// A store, lent, with what the entry teaches that is judged in it.
-#[derive(Drop)]
+/// A store, lent, with what the entry teaches that is judged in it. It owns nothing, so that who lent both sees what was
+/// done with them.
 pub struct LessonStore<'s, R: Keeper> {
     pub keeper: &'s mut R,
-    pub lesson: Lesson,
+    pub lesson: &'s mut Lesson,
 }
 
 impl Learned {

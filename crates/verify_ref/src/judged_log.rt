@@ -86,7 +86,8 @@ fn extend_in<R: Keeper>(
     requires next { entry.now.number ≡ taken engine.old + 1 }
     requires fresh { has_taken engine.old entry.now.id ≡ false }
     requires known { (r : Repository) → R.content store.old.keeper.now ≡ Some r → AreKnownIn r judge.now.known.now }
-    ensures same_reference { store.new.keeper.ghost_name ≡ store.old.keeper.ghost_name }
+    ensures same_store { store.new.keeper.ghost_name ≡ store.old.keeper.ghost_name }
+    ensures same_lesson { store.new.lesson.ghost_name ≡ store.old.lesson.ghost_name }
     ensures taken { IfOk result (λ verdict. (r : Repository) (log : List Taken)
         → R.content store.new.keeper.now ≡ Some r → Stands (real_rules judge.now.rules.now.anchor) log engine.old
         → IsTaken (real_rules judge.now.rules.now.anchor) log (record { entry = entry.now; repository = r }) engine.new
@@ -95,7 +96,8 @@ fn extend_in<R: Keeper>(
     ensures refused { OnErr result ((rules : Rules Policy Fault) (log : List Taken) → Stands rules log engine.old
         → Stands rules log engine.new) }
     ensures lesson { (r : Repository) → R.content store.new.keeper.now ≡ Some r
-        → IsLesson (readings_of r).trees store.old.lesson → IsLesson (readings_of r).trees store.new.lesson }
+        → IsLesson (readings_of r).trees store.old.lesson.now
+        → IsLesson (readings_of r).trees store.new.lesson.now }
     ensures same { Undisturbed R.Keeper store.old.keeper.now store.new.keeper.now }
     ensures cause { HasCause keeper_failed (R.faults store.old.keeper.now) (R.faults store.new.keeper.now) result }
     ensures reads { OnOk result ((r : Repository) (log : List Taken) → R.content store.new.keeper.now ≡ Some r
@@ -122,7 +124,8 @@ fn look_in<R: Keeper>(
     requires next { entry.now.number ≡ taken engine.now + 1 }
     requires fresh { has_taken engine.now entry.now.id ≡ false }
     requires known { (r : Repository) → R.content store.old.keeper.now ≡ Some r → AreKnownIn r judge.now.known.now }
-    ensures same_reference { store.new.keeper.ghost_name ≡ store.old.keeper.ghost_name }
+    ensures same_store { store.new.keeper.ghost_name ≡ store.old.keeper.ghost_name }
+    ensures same_lesson { store.new.lesson.ghost_name ≡ store.old.lesson.ghost_name }
     ensures answer { IfOk result (λ verdict. (r : Repository) (log : List Taken)
         → R.content store.new.keeper.now ≡ Some r → Stands (real_rules judge.now.rules.now.anchor) log engine.now
         → verdict ≡ verdict_of (real_rules judge.now.rules.now.anchor) log (record { entry = entry.now; repository = r })) }
@@ -173,13 +176,14 @@ pub(crate) fn extend_by<R: Keeper>(
         Ok(()) => {}
         Err(fault) => return Err(fault),
     }
+    let mut lesson = Lesson::none();
     let mut store = LessonStore {
         keeper,
-        lesson: Lesson::none(),
+        lesson: &mut lesson,
     };
     let judge = KnowingRules { rules, known };
     let verdict = extend_in(alloc, &mut store, &judge, engine, entry);
-    known.take(alloc, store.lesson);
+    known.take(alloc, lesson);
     verdict
 }
 
@@ -206,9 +210,10 @@ pub(crate) fn look_by<R: Keeper>(
         → R.reads keeper.new ≤ R.reads keeper.old + decision_reads_of (real_rules rules.now.anchor) log
         (record { entry = entry.now; repository = r })) }
 {
+    let mut lesson = Lesson::none();
     let mut store = LessonStore {
         keeper,
-        lesson: Lesson::none(),
+        lesson: &mut lesson,
     };
     let judge = KnowingRules { rules, known };
     look_in(alloc, &mut store, &judge, engine, entry)
