@@ -230,6 +230,10 @@ impl LaterEngine {
             first: self.first,
         };
         let verdict = extend_in(alloc, &mut store, &judge, &mut self.entries, entry);
+        let LessonStore {
+            keeper: _,
+            lesson: _,
+        } = store;
         self.known.take(alloc, lesson);
         verdict
     }

@@ -183,6 +183,10 @@ pub(crate) fn extend_by<R: Keeper>(
     };
     let judge = KnowingRules { rules, known };
     let verdict = extend_in(alloc, &mut store, &judge, engine, entry);
+    let LessonStore {
+        keeper: _,
+        lesson: _,
+    } = store;
     known.take(alloc, lesson);
     verdict
 }
@@ -216,7 +220,12 @@ pub(crate) fn look_by<R: Keeper>(
         lesson: &mut lesson,
     };
     let judge = KnowingRules { rules, known };
-    look_in(alloc, &mut store, &judge, engine, entry)
+    let verdict = look_in(alloc, &mut store, &judge, engine, entry);
+    let LessonStore {
+        keeper: _,
+        lesson: _,
+    } = store;
+    verdict
 }
 
 // Takes the entry at an id, where it is the next.
