@@ -112,9 +112,10 @@ def keeps_another_past(repositories):
         want(clones.gittuf(who, "evidence", "--check", path), b"fork 3\n", f"what the dossier shows {who}")
     status, said = at_terminal("git gittuf evidence --check ../fork.dossier", clones.path("bob"))
     want((status, "alice signed two entries of number 3" in said), (0, True), f"what is said: {said}")
-    status, said = at_terminal("git gittuf evidence --check fork.dossier", os.path.dirname(path))
     parts = ("fork 3", "signed two entries of number 3", "Whose key that is a clone says")
-    want((status, [it for it in parts if it not in said]), (0, []), f"what is said where no repository is: {said}")
+    for where, begin in (("no repository is", "cp fork.dossier fork.file"), ("one of SHA-1 is", "git init --quiet --object-format=sha1 older && cp fork.dossier older/fork.file && cd older")):
+        status, said = at_terminal(f"{begin} && git gittuf evidence --check fork.file", os.path.dirname(path))
+        want((status, [it for it in parts if it not in said]), (0, []), f"what is said where {where}: {said}")
     clones.gittuf("carol", "mirror", "../newer.git", "--into", "../both.db")
     want(clones.gittuf("carol", "mirror", "origin", "--into", "../both.db", status=1).decode(), line, "what the fork prints for a database")
     words = ("evidence", first, second, "--from", "../both.db", "-o", "../again.dossier")

@@ -163,7 +163,7 @@ def check(work, path):
 
 
 def check_anywhere(words):
-    """Tells what a dossier shows where there is no repository, and so no policy that says whose its key is."""
+    """Tells what a dossier shows where there is no repository that can be worked in, and so no policy that says whose its key is."""
     expect_file_alone(words)
     status = check(None, words.check)
     if not status:

@@ -49,10 +49,6 @@ def version_of_git():
     return (int(found[1]), int(found[2])) if found else (0, 0)
 
 
-class NoRepository(Stopped):
-    """Git reads no repository here."""
-
-
 class Repository:
     """The repository of the call, which is in object format SHA-256 and has all its objects."""
 
@@ -61,7 +57,7 @@ class Repository:
         status, told, said = asked_here("--git-dir", "--git-common-dir", "--show-object-format", "--is-shallow-repository", "--show-toplevel")
         lines = told.split("\n") + [""] * 4
         if not told:
-            raise NoRepository(f"here is no repository that git reads: {said}")
+            raise Stopped(f"here is no repository that git reads: {said}")
         self.git_dir, self.common = (os.path.realpath(it) for it in lines[:2])
         self.top = None if status else os.path.realpath(lines[4])
         self.folder = os.path.join(self.common, "gittuf")
