@@ -7,19 +7,20 @@ ghost use Rattle.git_object.specs.Repository.{Repository};
 ghost use Rattle.keeper_api.specs.Faults.{keeper_failed};
 ghost use Rattle.keeper_api.specs.Undisturbed.{Undisturbed};
 ghost use Rattle.rsl_chain.specs.Entries.{Taken};
-ghost use Rattle.tree_paths.specs.Known.{AreKnownIn};
+ghost use Rattle.tree_paths.specs.Repositories.{readings_of};
 ghost use Rattle.judging.specs.Engines.{IsTaken, Stands, has_taken, taken};
 ghost use Rattle.judging.specs.Logs.{above, policy_after};
-ghost use Rattle.judging.specs.Reads.{is_bounded};
+ghost use Rattle.judging.specs.Reads.{is_bounded, reads_of};
 ghost use Rattle.judging.specs.Rules.{Rules};
 ghost use Rattle.policy_epochs.specs.declared.policies.Policy.{Policy};
+ghost use Rattle.entry_rules.specs.Learning.{AreKnownIn, IsLesson};
 ghost use Rattle.entry_rules.specs.RealRules.{real_rules};
 ghost use Rattle.entry_rules.specs.declared.faults.Fault.{Fault};
 ghost use Rattle.verify_ref.specs.Logs.{comes_next};
 ghost use Rattle.verify_ref.specs.Reading.{extending_reads, learning_reads};
 ghost use Rattle.judged_logs.specs.LaterRules.{AreNumbered, rules_from};
 
-use entry_rules::{EntryRules, Fault, KnowingRules};
+use entry_rules::{EntryRules, Fault, KnowingRules, Learned, Lesson, LessonStore};
 use git_object::RefName;
 use judged_logs::LaterRules;
 use judging::{EntryVerdict, JudgeFault};
@@ -28,16 +29,15 @@ use policy_epochs::Policy;
 use root_metadata::KeyIds;
 use rsl_chain::{Entry, EntryBody};
 use std::alloc::Global;
-use tree_paths::{KnownTrees, learn};
 use verify_ref::LogEngine;
 
 /// Takes the entries of a log one after the other, and judges those from a number on, and the policy's; with what is
-/// known of the trees of the store.
+/// learned of the store.
 #[derive(Drop)]
 pub struct LaterEngine {
     first: u64,
     rules: EntryRules,
-    known: KnownTrees,
+    known: Learned,
     entries: LogEngine,
 }
 
@@ -57,7 +57,7 @@ fn stands_later(entries: &LogEngine, first: u64, name: &RefName) -> bool
 fn learn_before<R: Keeper>(
     alloc: Global,
     keeper: &mut R,
-    known: &mut KnownTrees,
+    known: &mut Learned,
     entries: &LogEngine,
     first: u64,
     entry: &Entry,
@@ -79,7 +79,7 @@ fn learn_before<R: Keeper>(
                 return Ok(());
             }
             match entries.prior_target(name) {
-                Some(from) => learn(alloc, keeper, known, &from),
+                Some(from) => known.learn(alloc, keeper, &from),
                 None => Ok(()),
             }
         }
@@ -88,6 +88,44 @@ fn learn_before<R: Keeper>(
             skip: _,
             message: _,
         } => Ok(()),
+    }
+}
+
+// Takes the next entry in a store that learns of it.
+fn extend_in<R: Keeper>(
+    alloc: Global,
+    store: &mut LessonStore<'_, R>,
+    judge: &LaterRules<KnowingRules<'_>>,
+    entries: &mut LogEngine,
+    entry: &Entry,
+) -> Result<EntryVerdict<Fault>, KeeperFault>
+    requires next { entry.now.number ≡ taken entries.old + 1 }
+    requires fresh { has_taken entries.old entry.now.id ≡ false }
+    requires known { (r : Repository) → R.content store.old.keeper.now ≡ Some r → AreKnownIn r judge.now.judge.known.now }
+    ensures same_store { store.new.keeper.ghost_name ≡ store.old.keeper.ghost_name }
+    ensures same_lesson { store.new.lesson.ghost_name ≡ store.old.lesson.ghost_name }
+    ensures taken { IfOk result (λ verdict. (r : Repository) (log : List Taken)
+        → R.content store.new.keeper.now ≡ Some r
+        → Stands (rules_from judge.now.first (real_rules judge.now.judge.rules.now.anchor)) log entries.old
+        → IsTaken (rules_from judge.now.first (real_rules judge.now.judge.rules.now.anchor)) log
+        (record { entry = entry.now; repository = r }) entries.new verdict) }
+    ensures lesson { (r : Repository) → R.content store.new.keeper.now ≡ Some r
+        → IsLesson (readings_of r).trees store.old.lesson.now
+        → IsLesson (readings_of r).trees store.new.lesson.now }
+    ensures same { Undisturbed R.Keeper store.old.keeper.now store.new.keeper.now }
+    ensures cause { HasCause keeper_failed (R.faults store.old.keeper.now) (R.faults store.new.keeper.now) result }
+    ensures reads { OnOk result ((r : Repository) (log : List Taken) → R.content store.new.keeper.now ≡ Some r
+        → Stands (rules_from judge.now.first (real_rules judge.now.judge.rules.now.anchor)) log entries.old
+        → is_bounded (rules_from judge.now.first (real_rules judge.now.judge.rules.now.anchor)) log
+        (record { entry = entry.now; repository = r }) ≡ true
+        → R.reads store.new.keeper.now ≤ R.reads store.old.keeper.now
+        + reads_of (rules_from judge.now.first (real_rules judge.now.judge.rules.now.anchor)) log
+        (record { entry = entry.now; repository = r })) }
+{
+    match entries.extend(alloc, judge, store, entry) {
+        Ok(verdict) => Ok(verdict),
+        Err(JudgeFault::Failed) => Err(KeeperFault::Failed),
+        Err(JudgeFault::Memory) => Err(KeeperFault::Memory),
     }
 }
 
@@ -104,7 +142,7 @@ impl LaterEngine {
         LaterEngine {
             first,
             rules: EntryRules::new(anchor),
-            known: KnownTrees::new(alloc),
+            known: Learned::new(alloc),
             entries: LogEngine::new(alloc),
         }
     }
@@ -179,6 +217,11 @@ impl LaterEngine {
             Ok(()) => {}
             Err(fault) => return Err(fault),
         }
+        let mut lesson = Lesson::none();
+        let mut store = LessonStore {
+            keeper,
+            lesson: &mut lesson,
+        };
         let judge = LaterRules {
             judge: KnowingRules {
                 rules: &self.rules,
@@ -186,10 +229,12 @@ impl LaterEngine {
             },
             first: self.first,
         };
-        match self.entries.extend(alloc, &judge, keeper, entry) {
-            Ok(verdict) => Ok(verdict),
-            Err(JudgeFault::Failed) => Err(KeeperFault::Failed),
-            Err(JudgeFault::Memory) => Err(KeeperFault::Memory),
-        }
+        let verdict = extend_in(alloc, &mut store, &judge, &mut self.entries, entry);
+        let LessonStore {
+            keeper: _,
+            lesson: _,
+        } = store;
+        self.known.take(alloc, lesson);
+        verdict
     }
 }

@@ -6,7 +6,7 @@ use Rattle.git_object.specs.Repository.{Repository}
 use Rattle.keeper_api.specs.Changes.{changed}
 use Rattle.keeper_api.specs.Undisturbed.{Undisturbed}
 use Rattle.keeper_api.specs.declared.keepers.Keeper as keeper
-use Rattle.tree_paths.specs.Known.{AreKnownIn}
+use Rattle.entry_rules.specs.Learning.{AreKnownIn}
 use Rattle.rsl_chain.specs.Entries.{Taken}
 use Rattle.rsl_chain.specs.declared.entries.Entry.{Entry}
 use Rattle.verify_ref.specs.Following.{Follows}

@@ -10,9 +10,9 @@ use Rattle.keeper_api.proofs.Growing.{grows}
 use Rattle.keeper_api.specs.Undisturbed.{Undisturbed}
 use Rattle.keeper_api.specs.declared.keepers.Keeper as keeper
 use Rattle.keeper_layers.specs.Overlaying.{over}
-use Rattle.tree_paths.specs.Known.{AreKnownIn}
-use Rattle.tree_paths.specs.declared.known_trees.KnownTrees.{KnownTrees}
-use Rattle.tree_paths.proofs.GrowingReadings.{known_same}
+use Rattle.entry_rules.specs.Learning.{AreKnownIn}
+use Rattle.entry_rules.specs.declared.learned.Learned.{Learned}
+use Rattle.entry_rules.proofs.LearnedLarger.{learned_same}
 use Rattle.rsl_chain.specs.Entries.{Taken}
 use Rattle.rsl_chain.specs.declared.entries.Entry.{Entry}
 use Rattle.judging.specs.Engines.{has_taken}
@@ -27,7 +27,7 @@ use Rattle.pushes.specs.declared.pushed.Push.{Push}
 use Rattle.desk_core.specs.Adding.{change_beside}
 
 -- what is told over a change is what it makes of what the store tells
-pub known_over : (change : Change) (known : KnownTrees) (content : Option Repository) → ((r : Repository) → content ≡ Some r → AreKnownIn (changed change r) known) → (r : Repository) → over change content ≡ Some r → AreKnownIn r known
+pub known_over : (change : Change) (known : Learned) (content : Option Repository) → ((r : Repository) → content ≡ Some r → AreKnownIn (changed change r) known) → (r : Repository) → over change content ≡ Some r → AreKnownIn r known
 known_over change known None all r told = absurd (cc told)
 known_over change known (Some w) all r told = let same : changed change w ≡ r = cc told in subst (λ (x : Repository). AreKnownIn x known) same (all w refl)
 
@@ -43,9 +43,9 @@ some_clash r t (p ∷ pairs) all = by_test (t p) (some_clash r t pairs all.1)
     by_test true more = (all.0, more)
     by_test false more = more
 
-pub known_grown : (r : Repository) (known : KnownTrees) (t : Pair → Bool) (pairs : List Pair) (change : Change) → NoneClashes pairs r → change.objects ≡ filter t pairs → AreKnownIn r known → AreKnownIn (changed change r) known
+pub known_grown : (r : Repository) (known : Learned) (t : Pair → Bool) (pairs : List Pair) (change : Change) → NoneClashes pairs r → change.objects ≡ filter t pairs → AreKnownIn r known → AreKnownIn (changed change r) known
 known_grown r known t pairs change none is all =
-    known_same r (changed change r) known (grows change r (subst (λ (ps : List Pair). NoneClashes ps r) (sym is) (some_clash r t pairs none))) all
+    learned_same r (changed change r) known (grows change r (subst (λ (ps : List Pair). NoneClashes ps r) (sym is) (some_clash r t pairs none))) all
 
 -- the objects of a push's change, by what the push lends
 pub objects_of : (has : List ℕ → Bool) (push : Push) (objects : List Pair) (change : Change) → objects ≡ push.objects → change ≡ change_beside has push → change.objects ≡ filter (λ pair. not (has (pair_id pair))) objects

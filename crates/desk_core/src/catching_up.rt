@@ -7,7 +7,7 @@ ghost use Rattle.keeper_api.specs.Undisturbed.{Undisturbed};
 ghost use Rattle.rsl_chain.specs.Entries.{Taken};
 ghost use Rattle.rsl_chain.specs.Logs.{IsNamed, entry_at, log_failed};
 ghost use Rattle.rsl_chain.specs.declared.entries.Entry.{Entry};
-ghost use Rattle.tree_paths.specs.Known.{AreKnownIn};
+ghost use Rattle.entry_rules.specs.Learning.{AreKnownIn};
 ghost use Rattle.judging.specs.Engines.{taken};
 ghost use Rattle.judging.specs.Reads.{is_bounded};
 ghost use Rattle.entry_rules.specs.RealRules.{real_rules};

@@ -6,7 +6,7 @@ ghost use Rattle.git_object.specs.Repository.{Repository};
 ghost use Rattle.keeper_api.specs.Changes.{changed};
 ghost use Rattle.keeper_api.specs.Faults.{keeper_failed};
 ghost use Rattle.keeper_api.specs.Undisturbed.{Undisturbed};
-ghost use Rattle.tree_paths.specs.Known.{AreKnownIn};
+ghost use Rattle.entry_rules.specs.Learning.{AreKnownIn};
 ghost use Rattle.rsl_chain.specs.Entries.{Taken};
 ghost use Rattle.pushes.specs.Pushes.{IsSpelled};
 ghost use Rattle.pushes.specs.Steps.{change_of};

@@ -7,7 +7,7 @@ ghost use Rattle.keeper_api.specs.Changes.{changed};
 ghost use Rattle.keeper_api.specs.Faults.{keeper_failed};
 ghost use Rattle.keeper_api.specs.Undisturbed.{Undisturbed};
 ghost use Rattle.rsl_chain.specs.Entries.{Taken};
-ghost use Rattle.tree_paths.specs.Known.{AreKnownIn};
+ghost use Rattle.entry_rules.specs.Learning.{AreKnownIn};
 ghost use Rattle.verify_ref.specs.Following.{Follows};
 ghost use Rattle.desk_core.specs.Laws.{taken_id};
 ghost use Rattle.pushes.specs.Steps.{ids_of};

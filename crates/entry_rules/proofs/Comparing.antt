@@ -1,5 +1,6 @@
 -- What a comparison says of two states.
-use Rattle.std.proofs.Common.{◌≡◌, ◌&&◌, ℕ, Bool, true, false, List, Option, Some, None, refl, ap, sym, ◌∙◌, inl, inr}
+use Rattle.std.specs.Prelude.{IfOk, OnOk}
+use Rattle.std.proofs.Common.{◌≡◌, ◌&&◌, ℕ, Bool, true, false, List, Option, Some, None, Result, Ok, Err, refl, ap, sym, ◌∙◌, inl, inr}
 use Rattle.std.proofs.lemmas.Bool.{false≢true}
 use Rattle.rule_files.specs.declared.rules.RuleFile.{RuleFile}
 use Rattle.tree_paths.specs.Changes.{IfChanged, IsComparison}
@@ -19,12 +20,20 @@ both : (a b : Bool) → (a && b) ≡ true → (a ≡ true) × (b ≡ true)
 both true b e = (refl, e)
 both false b e = absurd (false≢true e)
 
+-- what follows of two facts of an answer
+pub by_both : {T E : Type 0} (P Q : T → Type 0) (S : Type 0) → (result : Result T E) → IfOk result P → IfOk result Q → ((x : T) → P x → Q x → S) → OnOk result S
+by_both P Q S (Ok x) p q f = f x p q
+by_both P Q S (Err e) p q f = tt
+
 -- where both are sound, what holds of a change holds
+pub whole_changed : (s t : Ended) (c : Comparison) (P : Type 0) → IsComparison s t c → is_sound s ≡ true → is_sound t ≡ true → IfChanged c P → P
+whole_changed s t (comparison.Broken id) P is first second h = elim is [ inl from ↦ absurd (not_faulty s id first from) | inr to ↦ absurd (not_faulty t id second to.1) ]
+whole_changed s t (comparison.Changed from to paths) P is first second h = h
+
 pub sound_changed : (s t : Ended) (c : Comparison) (P : Type 0) → IsComparison s t c → (is_sound s && is_sound t) ≡ true → IfChanged c P → P
-sound_changed s t (comparison.Broken id) P is sound h =
+sound_changed s t c P is sound h =
     let parts = both (is_sound s) (is_sound t) sound in
-    elim is [ inl from ↦ absurd (not_faulty s id parts.0 from) | inr to ↦ absurd (not_faulty t id parts.1 to.1) ]
-sound_changed s t (comparison.Changed from to paths) P is sound h = h
+    whole_changed s t c P is parts.0 parts.1 h
 
 pub sound_tree : (e : Ended) (tree : List ℕ) → is_sound e ≡ true → tree ≡ tree_at e → tree_in e ≡ Some tree
 sound_tree Gone tree sound is = ap Some (sym is)

@@ -6,6 +6,8 @@ pub mod Meeting
 pub mod Changing
 -- the fault of an entry
 pub mod Faults
+-- what is learned of states and of changes between them
+pub mod Learning
 -- the faults of a store, as judging has them
 pub mod Judged
 -- the rules of judging, with these in their place

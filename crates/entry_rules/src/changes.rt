@@ -34,8 +34,8 @@ fn first_short(rules: &Rules, space: Space, text: &[u8], signers: &KeyIds) -> Op
     rules.short(space, text, signers)
 }
 
-// The fault of a reference's name.
-fn ref_fault(rules: &Rules, name: &RefName, signers: &KeyIds) -> Result<Option<Fault>, Memory>
+/// The fault of a reference's name.
+pub fn ref_fault(rules: &Rules, name: &RefName, signers: &KeyIds) -> Result<Option<Fault>, Memory>
     ensures { IfOk result (λ fault. fault ≡ ref_fault rules.now name.now signers.now) }
 {
     if meets(rules, Space::Git, name.text(), signers) {
@@ -82,6 +82,20 @@ fn told_of_path(rules: &Rules, path: &Octets, signers: &KeyIds) -> Result<Option
     }))
 }
 
+/// The fault of a change by the first path that the signers do not meet, where there is one.
+pub fn first_fault(
+    rules: &Rules,
+    first: &Option<Octets>,
+    signers: &KeyIds,
+) -> Result<Option<Fault>, Memory>
+    ensures { IfOk result (λ fault. fault ≡ path_fault rules.now signers.now first.now) }
+{
+    match first {
+        Some(path) => told_of_path(rules, path, signers),
+        None => Ok(None),
+    }
+}
+
 fn path_fault(
     alloc: Global,
     known: &KnownPaths,
@@ -92,10 +106,8 @@ fn path_fault(
     ensures { IfOk result (λ fault. fault ≡ path_fault rules.now signers.now
         (find (is_unmet rules.now signers.now) paths.now)) }
 {
-    match first_known(known, alloc, rules, signers, paths)? {
-        Some(path) => told_of_path(rules, &path, signers),
-        None => Ok(None),
-    }
+    let first = first_known(known, alloc, rules, signers, paths)?;
+    first_fault(rules, &first, signers)
 }
 
 /// The fault of a change between two states that differ at exactly these paths, which stand in the order of their

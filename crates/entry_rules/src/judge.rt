@@ -7,21 +7,24 @@ ghost use Rattle.git_object.specs.Repository.{Repository};
 ghost use Rattle.keeper_api.specs.Faults.{keeper_failed};
 ghost use Rattle.keeper_api.specs.Undisturbed.{Undisturbed};
 ghost use Rattle.rsl_chain.specs.Entries.{target_of};
-ghost use Rattle.tree_paths.specs.Known.{AreKnownIn};
+ghost use Rattle.tree_paths.specs.Known as trees_;
 ghost use Rattle.tree_paths.specs.Repositories.{readings_of};
 ghost use Rattle.tree_paths.specs.States.{walk_of};
 ghost use Rattle.policy_epochs.specs.Succession.{succession};
 ghost use Rattle.policy_reading.specs.Policies.{policy_of, policy_reads};
 ghost use Rattle.judging.specs.Rules.{is_same_tree};
 ghost use Rattle.entry_rules.specs.Judged.{judge_result};
+ghost use Rattle.entry_rules.specs.Learning.{AreKnownIn, Leads};
 ghost use Rattle.entry_rules.specs.RealRules.{both_sound, comparison_reads, epoch_by, has_one_tree, opens, real_rules};
 ghost use Rattle.entry_rules.specs.Signing.{tree_in};
 
 use crate::Fault;
-use crate::finding::{compared, find};
+use crate::finding::find;
 use crate::known_paths::KnownPaths;
+use crate::learned::{Learned, LessonStore};
 use crate::meeting::may_act;
 use crate::signing::signer_among;
+use crate::targets::compared;
 use git_object::{KeyId, ObjectId, RefName};
 use judging::{Finding, Judge, JudgeFault};
 use keeper_api::{Keeper, KeeperFault};
@@ -147,7 +150,7 @@ fn has_same_tree<R: Keeper>(
     from: &ObjectId,
     to: &ObjectId,
 ) -> Result<bool, KeeperFault>
-    requires known { (r : Repository) → R.content keeper.old ≡ Some r → AreKnownIn r known.now }
+    requires known { (r : Repository) → R.content keeper.old ≡ Some r → trees_.AreKnownIn r known.now }
     ensures answer { IfOk result (λ same. (r : Repository) → R.content keeper.new ≡ Some r
         → same ≡ is_same_tree (tree_in (walk_of (readings_of r) from.now)) (tree_in (walk_of (readings_of r) to.now))) }
     ensures same { Undisturbed R.Keeper keeper.old keeper.new }
@@ -160,62 +163,63 @@ fn has_same_tree<R: Keeper>(
     Ok(has_one_tree(&comparison))
 }
 
-/// The rules with what is known of the trees of the repository that is judged.
+/// The rules with what was learned of the repository that is judged.
 #[derive(Clone, Copy)]
 pub struct KnowingRules<'a> {
     pub rules: &'a EntryRules,
-    pub known: &'a KnownTrees,
+    pub known: &'a Learned,
 }
 
-impl<'a, R: Keeper> Judge<Policy, Fault, R> for KnowingRules<'a> {
+impl<'a, 's, R: Keeper> Judge<Policy, Fault, LessonStore<'s, R>> for KnowingRules<'a> {
     ghost rules = { λ j. real_rules j.rules.now.anchor };
 
     ghost trusts = { λ j r. AreKnownIn r j.known.now };
 
-    ghost content = { λ k. R.content k };
+    ghost content = { λ s. R.content s.keeper.now };
 
-    ghost tells_left = { λ k. R.tells_left k };
+    ghost tells_left = { λ s. R.tells_left s.keeper.now };
 
-    ghost left = { λ k. R.left k };
+    ghost left = { λ s. R.left s.keeper.now };
 
-    ghost faults = { λ k. R.faults k };
+    ghost faults = { λ s. R.faults s.keeper.now };
 
-    ghost reads = { λ k. R.reads k };
+    ghost reads = { λ s. R.reads s.keeper.now };
 
-    ghost comes = { λ k l. R.comes k l };
+    ghost comes = { λ s t. Leads R.Keeper s.keeper.ghost_name t.keeper.ghost_name s.lesson.ghost_name
+        t.lesson.ghost_name s.keeper.now t.keeper.now s.lesson.now t.lesson.now };
 
     fn epoch(
         &self,
         alloc: Global,
-        store: &mut R,
+        store: &mut LessonStore<'s, R>,
         policy: Option<&Policy>,
         entry: &Entry,
     ) -> Result<Result<Policy, Fault>, JudgeFault> {
-        judged(epoch(alloc, store, self.rules, policy, entry))
+        judged(epoch(alloc, store.keeper, self.rules, policy, entry))
     }
 
     fn find(
         &self,
         alloc: Global,
-        store: &mut R,
+        store: &mut LessonStore<'s, R>,
         policy: &Policy,
         entry: &Entry,
         from: &ObjectId,
         attested: Option<&ObjectId>,
     ) -> Result<Finding<Fault>, JudgeFault> {
-        judged(find(
-            alloc, store, self.known, self.rules, policy, entry, from, attested,
-        ))
+        let found = judged(find(alloc, store.keeper, self, policy, entry, from, attested))?;
+        *store.lesson = found.lesson;
+        Ok(found.finding)
     }
 
     fn has_same_tree(
         &self,
         alloc: Global,
-        store: &mut R,
+        store: &mut LessonStore<'s, R>,
         from: &ObjectId,
         to: &ObjectId,
     ) -> Result<bool, JudgeFault> {
-        judged(has_same_tree(alloc, store, self.known, from, to))
+        judged(has_same_tree(alloc, store.keeper, &self.known.trees, from, to))
     }
 
     fn no_policy(&self) -> Fault {

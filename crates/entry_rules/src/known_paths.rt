@@ -12,8 +12,8 @@ use rule_delegations::Rules;
 use std::alloc::Global;
 use std::cell::Cell;
 
-// So many paths are looked for in what is known.
-const MANY: usize = 64;
+/// So many paths are looked for in what is known.
+pub const MANY: usize = 64;
 
 /// What is known of which of many paths is the first that signers do not meet; None where nothing is. Each row is so of
 /// its rules, signers and paths wherever they stand, as those of `KnownSigners` are. It is lent by `&`, and learns

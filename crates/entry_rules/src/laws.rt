@@ -3,6 +3,7 @@
 ghost use Rattle.std.specs.Prelude.{◌≡◌, ◌↔◌, ◌⊎◌, ℕ, List, Option, Some, None, true};
 ghost use Rattle.std.specs.List.{Contains};
 ghost use Rattle.git_object.specs.Repository.{Repository};
+ghost use Rattle.keeper_api.specs.Growing.{Larger};
 ghost use Rattle.rsl_chain.specs.declared.entries.Entry.{Entry};
 ghost use Rattle.rsl_chain.specs.declared.entries.EntryBody.TheVariants.{Reference};
 ghost use Rattle.rule_files.specs.declared.rules.RuleFile.{RuleFile};
@@ -10,6 +11,8 @@ ghost use Rattle.rule_delegations.specs.Forests.{IsPolicy};
 ghost use Rattle.rule_delegations.specs.Reached.{MayAct, Meets, Name};
 ghost use Rattle.policy_epochs.specs.declared.policies.Policy.{Policy};
 ghost use Rattle.tree_paths.specs.States.{Ended};
+ghost use Rattle.entry_rules.specs.Learning.{AreKnownIn};
+ghost use Rattle.entry_rules.specs.declared.learned.Learned.{Learned};
 ghost use Rattle.entry_rules.specs.declared.faults.Fault.{Fault};
 ghost use Rattle.entry_rules.specs.Changing.{least_unmet};
 ghost use Rattle.entry_rules.specs.Faults.{entry_fault, entry_signers};
@@ -68,4 +71,10 @@ pub fn told_where()
         → IsPolicy policy.rules → entry.body ≡ Reference name target
         → (entry_fault r policy entry from attested ≡ Some fault)
         ↔ IsTold r policy.rules (entry_signers r policy entry from attested) name from target fault }
+{}
+
+/// What was learned of a repository is so in a larger one.
+pub fn learned_stays()
+    ensures { (small large : Repository) (learned : Learned) → Larger small large → AreKnownIn small learned
+        → AreKnownIn large learned }
 {}

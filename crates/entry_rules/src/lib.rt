@@ -4,16 +4,23 @@
 
 #![tactic(auto)]
 
+mod between;
 mod changes;
 mod faults;
 mod finding;
 mod judge;
+mod known_changes;
 mod known_paths;
 pub mod laws;
+mod learned;
 mod meeting;
+mod roots;
 mod signing;
+mod targets;
 mod unmet;
 
 pub use faults::Fault;
 pub use judge::{EntryRules, KnowingRules};
+pub use known_changes::Lesson;
+pub use learned::{Learned, LessonStore};
 pub use signing::signer_among;

@@ -24,7 +24,8 @@ pub fn copied_text(text: Option<&Octets>) -> Result<Option<Octets>, Memory>
     }
 }
 
-fn append_files(alloc: Global, list: &mut RuleFiles, files: &[RuleFile]) -> Result<(), Memory>
+/// Adds copies of rule files at the end of a list.
+pub fn append_files(alloc: Global, list: &mut RuleFiles, files: &[RuleFile]) -> Result<(), Memory>
     ensures { OnOk result (list.new ≡ list.old ++ files.now) }
 {
     'files: for file in files {

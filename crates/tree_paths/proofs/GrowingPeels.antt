@@ -51,7 +51,7 @@ module _ (few more : Heads) (grown : MoreHeads few more) where
     by_test false e = peeled_same 8 None target p good e
 
 module _ (few more : Readings) (grown : MoreReadings few more) where
-  tree_same : (tree : List ℕ) → is_sound (ended_by tree (steps few.trees 32 [] tree) (judge few.trees (steps few.trees 32 [] tree) no_counts)) ≡ true
+  pub tree_same : (tree : List ℕ) → is_sound (ended_by tree (steps few.trees 32 [] tree) (judge few.trees (steps few.trees 32 [] tree) no_counts)) ≡ true
       → ended_by tree (steps more.trees 32 [] tree) (judge more.trees (steps more.trees 32 [] tree) no_counts)
       ≡ ended_by tree (steps few.trees 32 [] tree) (judge few.trees (steps few.trees 32 [] tree) no_counts)
   tree_same tree sound = by_walk (judge few.trees (steps few.trees 32 [] tree) no_counts) refl sound where

@@ -23,8 +23,8 @@ use git_object::ObjectId;
 use keeper_api::{Keeper, KeeperFault};
 use std::alloc::Global;
 
-// The id of a tree, or `zeros` where there is none.
-fn root_id(root: &Option<ObjectId>) -> ObjectId
+/// The id of a tree, or `zeros` where there is none.
+pub fn root_id(root: &Option<ObjectId>) -> ObjectId
     ensures { result ≡ root_id root.now }
 {
     match root {
@@ -55,8 +55,10 @@ fn first_or<R: Keeper>(
     }
 }
 
-// Compares the trees of two targets, None where there is nothing.
-fn compare_roots<R: Keeper>(
+/// What changed from the tree of one target to that of another, None where there is nothing, as `compare_known` says it
+/// of the targets. Where neither is broken it makes one read for each tree that is visited for `to`, and for each that is
+/// visited for `from` and not at the same place with the same id for `to`.
+pub fn compare_roots<R: Keeper>(
     alloc: Global,
     keeper: &mut R,
     known: &KnownTrees,

@@ -29,7 +29,7 @@ mod tree_walk;
 
 pub use additions::learn;
 pub use blob_reads::load_blob;
-pub use comparison::{compare, compare_known};
+pub use comparison::{compare, compare_known, compare_roots, root_id};
 pub use counts::is_dir;
 pub use heads::Peeled;
 pub use known_trees::KnownTrees;

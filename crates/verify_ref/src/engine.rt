@@ -7,11 +7,11 @@ ghost use Rattle.git_object.specs.Repository.{Repository, value_of};
 ghost use Rattle.keeper_api.specs.Faults.{keeper_failed};
 ghost use Rattle.keeper_api.specs.Undisturbed.{Undisturbed};
 ghost use Rattle.rsl_chain.specs.Entries.{Taken};
-ghost use Rattle.tree_paths.specs.Known.{AreKnownIn};
 ghost use Rattle.judging.specs.Engines.{has_taken, taken};
 ghost use Rattle.judging.specs.Logs.{entry_at, is_entry_of, last_signers, policy_after, prior_target, skipped};
 ghost use Rattle.judging.specs.Reads.{decision_reads_of, is_bounded};
 ghost use Rattle.judging.specs.Verdicts.{IsJudged, verdict_of};
+ghost use Rattle.entry_rules.specs.Learning.{AreKnownIn};
 ghost use Rattle.entry_rules.specs.RealRules.{real_rules};
 ghost use Rattle.verify_ref.specs.Following.{Follows, TakesOne};
 ghost use Rattle.verify_ref.specs.Logs.{comes_next};
@@ -19,7 +19,7 @@ ghost use Rattle.verify_ref.specs.Reading.{extending_reads};
 
 use crate::judged_log::{LogEngine, comes_next, extend_by, look_by};
 use crate::verifying::{RefVerdict, conclude};
-use entry_rules::{EntryRules, Fault};
+use entry_rules::{EntryRules, Fault, Learned};
 use git_object::{ObjectId, RefName};
 use judging::{EntryVerdict, KeyIds as KeyIdList};
 use keeper_api::{Keeper, KeeperFault};
@@ -27,15 +27,14 @@ use policy_epochs::Policy;
 use root_metadata::KeyIds;
 use rsl_chain::Entry;
 use std::alloc::Global;
-use tree_paths::KnownTrees;
 
 /// Takes the entries of a log one after the other, each to be judged in the repository that the store holds then, and
-/// answers for those that it took. What it learned of the trees of a store serves later entries, so a store that it is
+/// answers for those that it took. What it learned of a store serves later entries, so a store that it is
 /// given may have more objects than an earlier one, and not others in their place.
 #[derive(Drop)]
 pub struct Engine {
     rules: EntryRules,
-    known: KnownTrees,
+    known: Learned,
     entries: LogEngine,
 }
 
@@ -49,7 +48,7 @@ impl Engine {
     {
         Engine {
             rules: EntryRules::new(anchor),
-            known: KnownTrees::new(alloc),
+            known: Learned::new(alloc),
             entries: LogEngine::new(alloc),
         }
     }
@@ -149,7 +148,7 @@ impl Engine {
         &self.entries
     }
 
-    /// Lets go what is known of the trees of a store, so that the next one may hold others in their place. It takes no
+    /// Lets go what was learned of a store, so that the next one may hold others in their place. It takes no
     /// memory.
     pub fn forget(&mut self, alloc: Global)
         ensures known { (r : Repository) → AreKnownIn r self.new.known }
@@ -158,7 +157,7 @@ impl Engine {
         ensures entries { self.new.entries ≡ self.old.entries }
         ensures count { taken self.new.entries ≡ taken self.old.entries }
     {
-        self.known = KnownTrees::new(alloc);
+        self.known = Learned::new(alloc);
     }
 
     /// What `extend` would answer of the next entry. Nothing changes.

@@ -3,7 +3,7 @@ use Rattle.git_object.specs.Repository.{Repository}
 use Rattle.keeper_api.specs.Undisturbed.{Undisturbed}
 use Rattle.rsl_chain.specs.Entries.{Taken}
 use Rattle.entry_rules.specs.RealRules.{real_rules}
-use Rattle.tree_paths.specs.Known.{AreKnownIn}
+use Rattle.entry_rules.specs.Learning.{AreKnownIn}
 use Rattle.verify_ref.specs.Following.{Follows}
 use Rattle.verify_ref.specs.Logs.{AreEntries}
 use Rattle.verify_ref.specs.Reading.{reads_behind}

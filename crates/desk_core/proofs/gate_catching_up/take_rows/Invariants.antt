@@ -2,7 +2,7 @@ use Rattle.std.proofs.Common.{◌≡◌, Some, List, take}
 use Rattle.git_object.specs.Repository.{Repository}
 use Rattle.keeper_api.specs.Undisturbed.{Undisturbed}
 use Rattle.rsl_chain.specs.Entries.{Taken}
-use Rattle.tree_paths.specs.Known.{AreKnownIn}
+use Rattle.entry_rules.specs.Learning.{AreKnownIn}
 use Rattle.verify_ref.specs.Following.{Follows}
 use Rattle.pushes.specs.Steps.{ids_of}
 use Rattle.desk_core.specs.Lagging.{TakesAll}

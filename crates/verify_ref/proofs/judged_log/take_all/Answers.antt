@@ -10,7 +10,7 @@ use Rattle.verify_ref.proofs.judged_log.take_all.Goals as goal
 pub ids-init : goal.ids-init
 ids-init g c = record {
   so = λ r told. ([], refl, c.requires);
-  known = λ r told. c.new-known.ensures.known r;
+  known = λ r told. c.new-known.ensures r;
   reads = λ r log told are bounded. omega arith;
   same = search rules;
   quiet = refl;

@@ -1,0 +1,53 @@
+use Rattle.std.proofs.Common.{refl}
+use Rattle.accounts.proofs.later_engine.extend_in.Goals as goal
+
+pub returns-in-Ok-clause-same_store : goal.returns-in-Ok-clause-same_store
+returns-in-Ok-clause-same_store g c = (c.extend.ensures.same.comes c.args.store.now (record { same = refl; same_lesson = refl; comes = λ first came. came; lesson = λ r told taught. taught })).same
+
+pub returns-in-Ok-clause-same_lesson : goal.returns-in-Ok-clause-same_lesson
+returns-in-Ok-clause-same_lesson g c = (c.extend.ensures.same.comes c.args.store.now (record { same = refl; same_lesson = refl; comes = λ first came. came; lesson = λ r told taught. taught })).same_lesson
+
+pub returns-in-Ok-clause-lesson : goal.returns-in-Ok-clause-lesson
+returns-in-Ok-clause-lesson g c = (c.extend.ensures.same.comes c.args.store.now (record { same = refl; same_lesson = refl; comes = λ first came. came; lesson = λ r told taught. taught })).lesson
+
+pub returns-in-Ok-clause-same : goal.returns-in-Ok-clause-same
+returns-in-Ok-clause-same g c = record {
+  content = c.extend.ensures.same.content;
+  tells = c.extend.ensures.same.tells;
+  left = c.extend.ensures.same.left;
+  comes = (c.extend.ensures.same.comes c.args.store.now (record { same = refl; same_lesson = refl; comes = λ first came. came; lesson = λ r told taught. taught })).comes;
+}
+
+pub returns-in-Err-Failed-clause-same_store : goal.returns-in-Err-Failed-clause-same_store
+returns-in-Err-Failed-clause-same_store g c = (c.extend.ensures.same.comes c.args.store.now (record { same = refl; same_lesson = refl; comes = λ first came. came; lesson = λ r told taught. taught })).same
+
+pub returns-in-Err-Failed-clause-same_lesson : goal.returns-in-Err-Failed-clause-same_lesson
+returns-in-Err-Failed-clause-same_lesson g c = (c.extend.ensures.same.comes c.args.store.now (record { same = refl; same_lesson = refl; comes = λ first came. came; lesson = λ r told taught. taught })).same_lesson
+
+pub returns-in-Err-Failed-clause-lesson : goal.returns-in-Err-Failed-clause-lesson
+returns-in-Err-Failed-clause-lesson g c = (c.extend.ensures.same.comes c.args.store.now (record { same = refl; same_lesson = refl; comes = λ first came. came; lesson = λ r told taught. taught })).lesson
+
+pub returns-in-Err-Failed-clause-same : goal.returns-in-Err-Failed-clause-same
+returns-in-Err-Failed-clause-same g c = record {
+  content = c.extend.ensures.same.content;
+  tells = c.extend.ensures.same.tells;
+  left = c.extend.ensures.same.left;
+  comes = (c.extend.ensures.same.comes c.args.store.now (record { same = refl; same_lesson = refl; comes = λ first came. came; lesson = λ r told taught. taught })).comes;
+}
+
+pub returns-in-Err-Memory-clause-same_store : goal.returns-in-Err-Memory-clause-same_store
+returns-in-Err-Memory-clause-same_store g c = (c.extend.ensures.same.comes c.args.store.now (record { same = refl; same_lesson = refl; comes = λ first came. came; lesson = λ r told taught. taught })).same
+
+pub returns-in-Err-Memory-clause-same_lesson : goal.returns-in-Err-Memory-clause-same_lesson
+returns-in-Err-Memory-clause-same_lesson g c = (c.extend.ensures.same.comes c.args.store.now (record { same = refl; same_lesson = refl; comes = λ first came. came; lesson = λ r told taught. taught })).same_lesson
+
+pub returns-in-Err-Memory-clause-lesson : goal.returns-in-Err-Memory-clause-lesson
+returns-in-Err-Memory-clause-lesson g c = (c.extend.ensures.same.comes c.args.store.now (record { same = refl; same_lesson = refl; comes = λ first came. came; lesson = λ r told taught. taught })).lesson
+
+pub returns-in-Err-Memory-clause-same : goal.returns-in-Err-Memory-clause-same
+returns-in-Err-Memory-clause-same g c = record {
+  content = c.extend.ensures.same.content;
+  tells = c.extend.ensures.same.tells;
+  left = c.extend.ensures.same.left;
+  comes = (c.extend.ensures.same.comes c.args.store.now (record { same = refl; same_lesson = refl; comes = λ first came. came; lesson = λ r told taught. taught })).comes;
+}
