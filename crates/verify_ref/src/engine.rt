@@ -17,7 +17,7 @@ ghost use Rattle.verify_ref.specs.Following.{Follows, TakesOne};
 ghost use Rattle.verify_ref.specs.Logs.{comes_next};
 ghost use Rattle.verify_ref.specs.Reading.{extending_reads};
 
-use crate::judged_log::{LogEngine, comes_next, extend_by, look_by};
+use crate::next_entry::{LogEngine, comes_next, extend_by, look_by};
 use crate::verifying::{RefVerdict, conclude};
 use entry_rules::{EntryRules, Fault, Learned};
 use git_object::{ObjectId, RefName};

@@ -7,14 +7,16 @@
 mod engine;
 mod judged_log;
 pub mod laws;
+mod next_entry;
 pub mod policy_laws;
 mod texts;
 mod verifying;
 
 pub use engine::Engine;
 pub use entry_rules::{EntryRules, Fault};
-pub use judged_log::{LogEngine, judge_entries};
+pub use judged_log::judge_entries;
 pub use judging::{EntryVerdict, Verdict};
+pub use next_entry::LogEngine;
 pub use rsl_chain::LogFault;
 pub use texts::text;
 pub use verifying::{RefVerdict, verify};

@@ -17,7 +17,8 @@ ghost use Rattle.verify_ref.specs.Logs.{AreEntries};
 ghost use Rattle.verify_ref.specs.Reading.{AreBounded, ReadsVerdict, judging_reads};
 ghost use Rattle.verify_ref.specs.Verdicts.{Answers};
 
-use crate::judged_log::{LogEngine, judge_entries};
+use crate::judged_log::judge_entries;
+use crate::next_entry::LogEngine;
 use entry_rules::{EntryRules, Fault};
 use git_object::{ObjectId, RefName};
 use judging::Verdict;

@@ -1,12 +1,23 @@
-use Rattle.std.proofs.Common.{arith}
+use Rattle.std.proofs.Common.{◌≡◌, Some, arith, rules}
+use Rattle.entry_rules.specs.Learning.{IsLesson}
 use Rattle.entry_rules.specs.RealRules.{real_rules}
 use Rattle.rsl_chain.specs.Entries.{Taken}
+use Rattle.tree_paths.specs.Repositories.{readings_of}
+use Rattle.judging.proofs.Takes.{on_ok}
 use Rattle.judged_logs.proofs.Later.{reads_less}
 use Rattle.accounts.proofs.later_engine.LaterEngine.extend.Goals as goal
 
-pub returns-in-Ok-extend-clause-reads : goal.returns-in-Ok-extend-clause-reads
-returns-in-Ok-extend-clause-reads g c = λ r log told follows numbered bounded.
+pub returns-clause-known : goal.returns-clause-known
+returns-clause-known g c = λ r told.
+    let there : g.R.Keeper.content c.extend_in-verdict.new.store.keeper.now ≡ Some r = search rules in
+    let taught : IsLesson (readings_of r).trees c.extend_in-verdict.new.store.lesson.now = c.extend_in-verdict.ensures.lesson r there (c.none-lesson.ensures (readings_of r).trees) in
+    let known = c.learn_before.ensures.known r (c.extend_in-verdict.ensures.same.content r there) in
+    search rules
+
+pub returns-clause-reads : goal.returns-clause-reads
+returns-clause-reads g c = on_ok c.extend_in-verdict.result c.extend_in-verdict.ensures.reads (λ fits. λ r log told follows numbered bounded.
+    let there : g.R.Keeper.content c.extend_in-verdict.new.store.keeper.now ≡ Some r = search rules in
     let t : Taken = record { entry = c.args.entry.now; repository = r } in
-    let rules = real_rules c.args.self.now.rules.anchor in
-    let before = c.extend.ensures.same.content r told in
-    omega (arith, c.learn_before.ensures.reads r rules log before follows numbered, c.in-Ok-extend.ensures.reads r log told follows bounded, reads_less c.args.self.now.first rules log t)
+    let rules_ = real_rules c.args.self.now.rules.anchor in
+    let before = c.extend_in-verdict.ensures.same.content r there in
+    omega (arith, c.learn_before.ensures.reads r rules_ log before follows numbered, fits r log there follows bounded, reads_less c.args.self.now.first rules_ log t))

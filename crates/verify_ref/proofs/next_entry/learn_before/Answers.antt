@@ -7,7 +7,7 @@ use Rattle.tree_paths.proofs.Existence.{are_readings}
 use Rattle.judging.specs.Logs.{from, prior_target}
 use Rattle.judging.specs.Reads.{may_rescue}
 use Rattle.verify_ref.specs.Reading.{learning_reads}
-use Rattle.verify_ref.proofs.judged_log.learn_before.Goals as goal
+use Rattle.verify_ref.proofs.next_entry.learn_before.Goals as goal
 
 pub returns-in-Some-clause-reads : goal.returns-in-Some-clause-reads
 returns-in-Some-clause-reads g c = λ r rules log told stands.

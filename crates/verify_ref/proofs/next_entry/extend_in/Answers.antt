@@ -1,5 +1,5 @@
 use Rattle.std.proofs.Common.{refl}
-use Rattle.verify_ref.proofs.judged_log.extend_in.Goals as goal
+use Rattle.verify_ref.proofs.next_entry.extend_in.Goals as goal
 
 pub returns-in-Ok-clause-same_store : goal.returns-in-Ok-clause-same_store
 returns-in-Ok-clause-same_store g c = (c.extend.ensures.same.comes c.args.store.now (record { same = refl; same_lesson = refl; comes = λ first came. came; lesson = λ r told taught. taught })).same

@@ -1,7 +1,7 @@
 use Rattle.std.proofs.Common.{◌≡◌, Some, rules}
 use Rattle.tree_paths.specs.Repositories.{readings_of}
 use Rattle.entry_rules.specs.Learning.{IsLesson}
-use Rattle.verify_ref.proofs.judged_log.extend_by.Goals as goal
+use Rattle.verify_ref.proofs.next_entry.extend_by.Goals as goal
 
 pub returns-clause-known : goal.returns-clause-known
 returns-clause-known g c = λ r told.
