@@ -6,6 +6,9 @@ use Rattle.desk_core.specs.Lagging.{AreBoundedBehind, BreaksBehind, TakesFront}
 use Rattle.desk_core.proofs.Behind.{all_as_front, judged_by, no_rows, rows_same}
 use Rattle.desk_core.proofs.catching_up.verdict_behind.Goals as goal
 
+pub take_all-requires : goal.take_all-requires
+take_all-requires g c = λ r told. c.forget.ensures.known r
+
 pub returns-in-Ok-verdict-clause-judges : goal.returns-in-Ok-verdict-clause-judges
 returns-in-Ok-verdict-clause-judges g c = λ r log told follows.
     let all = c.in-Ok.ensures.takes r log (c.verdict.ensures.same.content r told) (c.forget.ensures.follows log follows) in

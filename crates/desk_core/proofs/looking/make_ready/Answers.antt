@@ -1,7 +1,14 @@
 use Rattle.std.proofs.Common.{not}
 use Rattle.git_object.specs.Objects.{pair_id}
+use Rattle.keeper_api.specs.Changes.{changed}
 use Rattle.desk_core.proofs.Laying.{known_grown}
 use Rattle.desk_core.proofs.looking.make_ready.Goals as goal
+
+pub returns-then-clash-clause-known : goal.returns-then-clash-clause-known
+returns-then-clash-clause-known g c = λ r told. c.forget.ensures.known r
+
+pub returns-then-clash-clause-grown : goal.returns-then-clash-clause-grown
+returns-then-clash-clause-grown g c = λ r change has told is. c.forget.ensures.known (changed change r)
 
 pub returns-clause-grown : goal.returns-clause-grown
 returns-clause-grown g c = λ r change has told is.
