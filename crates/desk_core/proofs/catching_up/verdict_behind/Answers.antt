@@ -7,7 +7,7 @@ use Rattle.desk_core.proofs.Behind.{all_as_front, judged_by, no_rows, rows_same}
 use Rattle.desk_core.proofs.catching_up.verdict_behind.Goals as goal
 
 pub take_all-requires : goal.take_all-requires
-take_all-requires g c = record { known = λ r told. c.forget.ensures.known r; }
+take_all-requires g c = record { known = λ r told. c.forget.ensures.known r }
 
 pub returns-in-Ok-verdict-clause-judges : goal.returns-in-Ok-verdict-clause-judges
 returns-in-Ok-verdict-clause-judges g c = λ r log told follows.

@@ -3,7 +3,7 @@ use Rattle.desk_core.proofs.Loading.{judges_on, loaded_on, unbroken_on}
 use Rattle.desk_core.proofs.gate_state.GateState.load.Goals as goal
 
 pub take_rows-requires : goal.take_rows-requires
-take_rows-requires g c = record { known = λ r told. c.new-engine.ensures.known r; }
+take_rows-requires g c = record { known = λ r told. c.new-engine.ensures.known r }
 
 pub returns-clause-loaded : goal.returns-clause-loaded
 returns-clause-loaded g c = loaded_on _ _ c.take_rows.ensures.same.content c.in_ok-log.log c.in_ok-log.ensures.loaded
