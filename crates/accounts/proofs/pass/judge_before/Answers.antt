@@ -10,6 +10,9 @@ use Rattle.verify_ref.specs.Reading.{AreBounded, judging_reads}
 use Rattle.accounts.proofs.Walked.{refusal_of}
 use Rattle.accounts.proofs.pass.judge_before.Goals as goal
 
+pub take_all-requires-clause-known : goal.take_all-requires-clause-known
+take_all-requires-clause-known g c = λ r told. c.unjudged-judged.ensures.known r
+
 pub returns-clause-broken : goal.returns-clause-broken
 returns-clause-broken g c = λ r told.
     let found = c.in_ok-log.ensures.log r (c.take_all.ensures.same.content r told) in
