@@ -10,13 +10,13 @@ MUTANTS, MORE, SEED = 1_200, 5_000, 1
 
 
 def ends_as_the_table_says(repositories):
-    """mutants of streams, logs, policies, envelopes, key files, words, listings and folders: each run ends by a status of the table"""
+    """mutants of streams, logs, policies, envelopes, key files, dossiers, words, listings, stores and requests: each run ends by a status of the table"""
     place = repositories.path("mutants")
     os.mkdir(place)
-    fuzz = Fuzz(place, SEED)
-    for _ in range(in_this_run(MUTANTS, MORE)):
-        fuzz.one()
-    return fuzz.told()
+    with Fuzz(place, SEED) as fuzz:
+        for _ in range(in_this_run(MUTANTS, MORE)):
+            fuzz.one()
+        return fuzz.told()
 
 
 CHECKS = (ends_as_the_table_says,)

@@ -8,6 +8,7 @@ import shutil
 import subprocess
 import time
 
+import fuzzed_kinds
 from checking import EMPTY_STREAM, PROGRAM, TOP, Failure, run
 from made_mutants import bytes_of, json_of, stream_of
 from rows_histories import History, MAIN, POLICY
@@ -50,6 +51,17 @@ class Fuzz:
         self.keys = [OneLeaf(5, 4, it) for it in range(2)]
         self.store, self.key = os.path.join(folder, "kept"), os.path.join(folder, "key")
         self.made()
+        self.reading, self.goods = READING, fuzzed_kinds.Goods(self.path, self.store, self.key)
+        self.gate = fuzzed_kinds.Gate(self.goods)
+
+    def __enter__(self):
+        return self
+
+    def __exit__(self, *_):
+        self.gate.ends()
+
+    def found(self, words, given, said):
+        raise Found(words, given, said)
 
     def path(self, name):
         return os.path.join(self.folder, name)
@@ -200,7 +212,7 @@ class Fuzz:
         words = self.drawn.choice((*READING, ("record", MAIN), ("annotate", "note", "1" * 64), ("snapshot", MAIN), ("import",)))
         self.held((f"{place}/", self.key, *words), b"", (0, 1, 3, 4), words[0] == "verify-ref")
 
-    KINDS = (streams, streams, streams, policies, entries, envelopes, keys_of, words, listings, folders)
+    KINDS = (streams, streams, streams, policies, entries, envelopes, keys_of, words, listings, folders, *fuzzed_kinds.KINDS)
 
     def one(self):
         kind = self.drawn.choice(self.KINDS)
