@@ -152,6 +152,21 @@ def records_anew_after_a_race(repositories):
     want(clones.gittuf("bob", "sync"), b"", "what sync prints where there is nothing to do")
 
 
+def tells_once_what_is_given_up(repositories):
+    """what sync gives up for one reason, as approvals of a branch that was moved meanwhile, is told once"""
+    clones = another(repositories, "raced approvals")
+    for name in ("first", "second"):
+        clones.commit("alice", name)
+        clones.git("push", "--quiet", "origin", f"main:{name}", who="alice")
+    clones.git("fetch", "--quiet", who="bob")
+    for name in ("first", "second"):
+        clones.gittuf("bob", "approve", "main", f"origin/{name}")
+    clones.gittuf("alice", "record", "main")
+    clones.gittuf("alice", "push")
+    said = told(clones, "bob", "sync", status=3)
+    want(said.count("an approval of main is given up"), 1, f"how often it is told: {said}")
+
+
 def asks_nobody_for_what_is_recorded(repositories):
     """who records once more what is recorded is told the entry that has it, and nobody is asked to approve that"""
     clones = another(repositories, "recorded already")
@@ -257,6 +272,7 @@ CHECKS = (
     pushes_the_log_alone,
     takes_no_branch_back,
     records_anew_after_a_race,
+    tells_once_what_is_given_up,
     asks_nobody_for_what_is_recorded,
     takes_tags_along,
     gives_up_no_entry_for_an_edit,

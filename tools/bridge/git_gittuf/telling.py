@@ -6,6 +6,10 @@ import sys
 from git_gittuf.shown import plain_lines
 
 
+# What was told in this call.
+TOLD = set()
+
+
 def is_heard():
     """Whether a person sits at a terminal, who is told what lines mean."""
     return os.isatty(2)
@@ -23,5 +27,7 @@ def show(printed):
 
 
 def tell(sentence):
-    """Tells whoever called, on standard error, also where nobody sits at a terminal."""
-    print(f"git-gittuf: {sentence}", file=sys.stderr, flush=True)
+    """Tells whoever called, on standard error, also where nobody sits at a terminal. One sentence is told once a call."""
+    if sentence not in TOLD:
+        TOLD.add(sentence)
+        print(f"git-gittuf: {sentence}", file=sys.stderr, flush=True)
