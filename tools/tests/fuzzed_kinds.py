@@ -1,6 +1,5 @@
 """More of what fuzzing makes mutants of: dossiers, databases, what is offered to a mirror, and what is sent to a gate."""
 
-import os
 import shutil
 import subprocess
 
