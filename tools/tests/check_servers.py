@@ -3,7 +3,7 @@
 from checking import at_terminal, want
 from guarded_clones import MAIN, another
 
-LOG, POLICY = "refs/gittuf/reference-state-log", "refs/gittuf/policy"
+LOG = "refs/gittuf/reference-state-log"
 ACCEPTED = "accepted refs/heads/main 2 entries\n"
 
 
