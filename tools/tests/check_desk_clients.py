@@ -1,8 +1,9 @@
 #!/usr/bin/env python3
 """The checks of tools/test on several clients that push to a desk at once, and on desks that are killed meanwhile.
 
-`python3 tools/tests/check_desk_clients.py --seconds SECONDS [SEED]` lets eight clients push for so long, half of it over a
-database and half over a folder, to desks that are killed at drawn moments, and compares what is kept with what they were told.
+`python3 tools/tests/check_desk_clients.py [--gate] --seconds SECONDS [SEED]` lets eight clients push for so long, half of it
+over a database and half over a folder, to desks that are killed at drawn moments, and compares what is kept with what they
+were told. With --gate they are gates over the example's repository, by whose policy each push is judged.
 """
 
 import collections
@@ -15,8 +16,8 @@ import threading
 import time
 
 from check_repositories import Repositories
-from check_serving import desk, exported, objects_in
-from checking import PROGRAM, Failure, in_this_run, run, want, want_run
+from check_serving import desk, exported, guarded, imported, objects_in
+from checking import PROGRAM, ZEROS, Failure, in_this_run, run, want, want_run
 from desk_clients import LOG, Client, asked, push_at_once, repository_of
 from stand_in_desk import NUMBER, PARENT, RECORDED
 
@@ -34,11 +35,31 @@ def references_in(stream):
     return dict(it.decode().split()[1:] for it in last)
 
 
-def log_in(stream):
-    """What the log of a stream has, found by going back from its tip: the number, the id, the name and the target of each."""
+class Before:
+    """What a store has before clients push to it: nothing, or all of a stream, with the ids of its log."""
+
+    def __init__(self, stream=None):
+        self.stream, self.ids = stream, []
+        self.objects, self.references = (objects_in(stream), references_in(stream)) if stream else ({}, {})
+        at = self.references[LOG].encode() if stream else None
+        while at:
+            self.ids.insert(0, at.decode())
+            parent = PARENT.search(self.objects[at][1])
+            at = parent and parent[1]
+
+    def client(self, name):
+        return Client(name, len(self.ids), self.ids[-1] if self.ids else ZEROS)
+
+
+NOTHING = Before()
+
+
+def log_in(stream, before):
+    """What the log of a stream has behind what was there before, found by going back from its tip: the number, the id, the
+    name and the target of each."""
     objects, found = objects_in(stream), []
-    at = references_in(stream)[LOG].encode()
-    while at:
+    at, last = references_in(stream)[LOG].encode(), before.ids[-1].encode() if before.ids else None
+    while at != last:
         body = objects[at][1]
         parent, (name, target) = PARENT.search(body), RECORDED.search(body).groups()
         found.append((int(NUMBER.search(body)[1]), at.decode(), name.decode(), target.decode()))
@@ -52,17 +73,17 @@ def text_of(objects, commit):
     return objects[objects[tree][1].partition(b"\0")[2].hex().encode()][1]
 
 
-def holds_whole(stream, clients):
+def holds_whole(stream, clients, before=NOTHING):
     """Holds a stream to what clients were told: each change once and where it was told, in each one's order, and nothing else."""
-    told, log, objects = [change for it in clients for change in it.told], log_in(stream), objects_in(stream)
+    told, log, objects = [change for it in clients for change in it.told], log_in(stream, before), objects_in(stream)
     wanted = sorted((it.number, it.id, it.branch, it.target) for it in told)
     want(log, wanted, "the entries of the log, of which each was told once")
-    want([it[0] for it in log], [*range(1, len(log) + 1)], "the numbers of the log")
+    want([it[0] for it in log], [*range(len(before.ids) + 1, len(before.ids) + len(log) + 1)], "the numbers of the log")
     for client in clients:
         texts = [text_of(objects, it[3]) for it in log if it[2] == client.branch]
         wanted = [b"change %d of %s\n" % (at, client.name.encode()) for at in range(1, len(client.told) + 1)]
         want(texts, wanted, f"the changes of {client.name} in their order")
-    want(stream, repository_of(told).stream(), "the whole stream")
+    want(stream, repository_of(told, before).stream(), "the whole stream")
 
 
 def takes_four_at_once(repositories):
@@ -99,12 +120,19 @@ class Load:
     """A store under clients whose desks are killed, and how often a stop left what: of the entries of which nobody was told
     one is there or none is, and a folder may have been in the middle of a change."""
 
-    def __init__(self, place):
-        self.place, self.clients, self.ends = place, [Client(f"client-{it}") for it in range(UNDER_KILLS)], collections.Counter()
+    def __init__(self, place, before=NOTHING):
+        self.place, self.before, self.ends = place, before, collections.Counter()
+        self.clients = [before.client(f"client-{it}") for it in range(UNDER_KILLS)]
+        if before.stream:
+            imported(place, before.stream)
+
+    def desk(self):
+        """A gate where there are rules to judge by, or else a desk."""
+        return desk(self.place, WORKERS, gate=bool(self.before.stream))
 
     def stop(self, seconds):
         """Kills a desk after so many seconds, and holds what is kept to what was told by then."""
-        with desk(self.place, WORKERS) as (ran, port):
+        with self.desk() as (ran, port):
             timer = threading.Timer(seconds, ran.kill)
             timer.start()
             want(push_at_once(port, self.clients, lambda _: True), len(self.clients), "how many connections were lost")
@@ -123,19 +151,20 @@ class Load:
         told, doubts = self.known()
         status, log, errors = run(PROGRAM, self.place, "-", "log")
         want((status, errors), (0, b""), "the status and errors of log after a stop")
-        ids = [it.split()[2].decode() for it in log.splitlines()]
-        others = {at: it for at, it in enumerate(ids, 1) if at not in told or told[at].id != it}
+        ids, first = [it.split()[2].decode() for it in log.splitlines()], len(self.before.ids)
+        want(ids[:first], self.before.ids, "the entries that were there before")
+        others = {at: it for at, it in enumerate(ids[first:], first + 1) if at not in told or told[at].id != it}
         want([it for it in others.values() if it not in doubts], [], "the entries that nobody was told of or waits for")
-        want(len(ids) - len(others), len(told), "how many of the entries that were told are there")
+        want(len(ids) - first - len(others), len(told), "how many of the entries that were told are there")
         return "with one" if others else "with none"
 
     def ended(self):
         """Lets each client hear what became of its last entry, and holds the whole store to all that was told."""
-        with desk(self.place, WORKERS) as (ran, port):
+        with self.desk() as (ran, port):
             want(push_at_once(port, self.clients, lambda it: it.sent), 0, "how many connections were lost in the end")
             ran.kill()
         self.ends["half"] += taken_up(self.place)
-        holds_whole(exported(self.place), self.clients)
+        holds_whole(exported(self.place), self.clients, self.before)
         halves = self.ends.pop("half")
         ends = ", ".join(f"{count} {end}" for end, count in sorted(self.ends.items()))
         stale, again, already = (sum(getattr(it, name) for it in self.clients) for name in ("stale", "again", "already"))
@@ -143,10 +172,11 @@ class Load:
         return f"{sum(self.ends.values())} kills ({ends}, {halves} in a change), {taken} entries, {stale} stale, {again} sent again, {already} of them there already"
 
 
-def kill_all(repositories, seconds, seed, life=LIFE):
+def kill_all(repositories, seconds, seed, life=LIFE, before=NOTHING):
     drawn, told = random.Random(seed), []
     for kind, name in (("database", "load.db"), ("folder", "load/")):
-        load, end = Load(repositories.path("") + name), time.monotonic() + seconds
+        place = repositories.path("gates " if before.stream else "") + name
+        load, end = Load(place, before), time.monotonic() + seconds
         while time.monotonic() < end:
             load.stop(drawn.uniform(0, life))
         told.append(f"{kind}: {load.ended()}")
@@ -158,19 +188,25 @@ def keeps_what_it_told(repositories):
     return kill_all(repositories, in_this_run(SECONDS, LONGER), 45)
 
 
-CHECKS = (takes_four_at_once, keeps_what_it_told)
+def keeps_what_a_gate_told(repositories):
+    """the same of gates that are killed, over a repository by whose policy each entry is judged"""
+    return kill_all(repositories, in_this_run(SECONDS, LONGER), 46, before=Before(guarded()))
+
+
+CHECKS = (takes_four_at_once, keeps_what_it_told, keeps_what_a_gate_told)
 
 
 def main():
-    words = sys.argv[1:]
+    words = [it for it in sys.argv[1:] if it != "--gate"]
     if len(words) not in (2, 3) or words[0] != "--seconds" or not all(it.isdigit() for it in words[1:]):
-        print("usage: python3 tools/tests/check_desk_clients.py --seconds SECONDS [SEED]", file=sys.stderr)
+        print("usage: python3 tools/tests/check_desk_clients.py [--gate] --seconds SECONDS [SEED]", file=sys.stderr)
         return 2
+    before = Before(guarded()) if "--gate" in sys.argv[1:] else NOTHING
     seed = int(words[2]) if words[2:] else random.randrange(1 << 32)
     print(f"seed {seed}", flush=True)
     with tempfile.TemporaryDirectory(prefix="gittuf-load-") as folder:
         try:
-            print(kill_all(Repositories(folder), int(words[1]) / 2, seed, LONGER_LIFE))
+            print(kill_all(Repositories(folder), int(words[1]) / 2, seed, LONGER_LIFE, before))
         except Failure as why:
             print(f"FAILED   {why}")
             return 1

@@ -182,9 +182,11 @@ def push_at_once(port, clients, goes_on):
     return len(ends)
 
 
-def repository_of(changes):
-    """The repository of a desk that had nothing and took these changes."""
+def repository_of(changes, before):
+    """The repository of a desk that had the objects and references of another before, and took these changes."""
     made = Repository()
+    made.objects.update((id.decode(), it) for id, it in before.objects.items())
+    made.references.update(before.references)
     for it in sorted(changes, key=lambda it: it.number):
         made.objects.update((object_id(*one), one) for one in it.objects)
         made.set(it.branch, it.target)
