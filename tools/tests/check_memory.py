@@ -77,11 +77,11 @@ def loses_a_leaf_at_most(repositories):
 class Scarce:
     """A store and a key file, of which each command to which memory is refused gets a copy."""
 
-    def __init__(self, repositories):
+    def __init__(self, repositories, name):
         self.library = refusing_library(repositories)
-        self.copy, self.copied_key = repositories.path("refused"), repositories.path("refused.key")
+        self.copy, self.copied_key = repositories.path(f"{name} copy"), repositories.path(f"{name} copy.key")
         self.place, self.key, self.signs = signing(repositories)
-        self.shown = made_twins(repositories.path, self.place)
+        self.shown = made_twins(lambda it: repositories.path(f"{name} {it}"), self.place)
         self.before, self.stream = files_below(self.place), exported(f"{self.place}/")
 
     def put(self, store, key):
@@ -155,8 +155,8 @@ def pushed(ran, port, text):
 
 def says_that_memory_is_refused(repositories):
     """where a call for memory is refused each command says `memory` or `fault`, or answers as ever, and its store is whole (with --long at any call)"""
-    scarce = Scarce(repositories)
-    text, number, _, after = entry_more(repositories, "refused more", scarce.stream, scarce.key)
+    scarce = Scarce(repositories, "refused")
+    _, number, _, after = entry_more(repositories, "refused more", scarce.stream, scarce.key)
     counts = {}
     with stand_in("201", f"done {number}") as port:
         for trial in trials(scarce, after, port):
@@ -166,13 +166,13 @@ def says_that_memory_is_refused(repositories):
 
 def serves_where_memory_is_refused(repositories):
     """where a call for memory is refused to a desk it says so, or serves on, and what it acknowledged is there (with --long at any call)"""
-    scarce = Scarce(repositories)
+    scarce = Scarce(repositories, "served")
     text, _, _, after = entry_more(repositories, "refused served", scarce.stream, scarce.key)
     codes = {}
     for count in range(MOST_CALLS):
         refused, code = scarce.served(1 + count * in_this_run(STEP, CLOSER), text, after)
         if not refused:
-            return ", ".join(f"{it} of {name}" for name, it in codes.items())
+            return ", ".join(f"{it} {name or 'without a reply'}" for name, it in codes.items())
         codes[code] = codes.get(code, 0) + 1
     raise Failure(f"serve asks for memory more than {MOST_CALLS} times")
 
